@@ -1,0 +1,2 @@
+-- What the contracts of `pipe_log` cite: the numbers of the enums' cases.
+pub mod Numbers

@@ -1,0 +1,137 @@
+-- Causes 2 to 7: judged on the batch alone, before anything that depends on the state.
+use mathlib.Core.Bool.{Bool, true, false, cond, not, _&&_, _||_}
+use mathlib.Core.List.{List, [], _∷_}
+use mathlib.Core.Option.{Option, none, some}
+use Prim.Native.Nat.{ℕ, suc}
+use lib.Dec.{ltb, eqb}
+use lib.ListN.{length}
+use Rattle.pipe_log.specs.declared.LogQueue.{LogQueue}
+use Rattle.pipe_log.specs.declared.FileId.{FileId}
+use Rattle.pipe_log.specs.declared.EntryIndex.{EntryIndex}
+use Rattle.rules.specs.Limits.{maxItems, maxListEntries, maxBytes, maxIndex, maxEntryLen, maxStatus}
+use Rattle.rules.specs.Causes.{Refusal, tooLong, incomplete, outOfRange, wrongQueue, notRewritable, badMark}
+use Rattle.rules.specs.Lists.{any, orElse, findFrom}
+use Rattle.rules.specs.Items.{sameQueue, hasFile, queueOf, Command, clean, compact, Change, put, del, Content, entries, command, kv, LogItem, Batch, isReserved, markByte, isSome, isMark, Call, replayAppend, replayRewrite, liveAppend, liveRewrite, writes}
+
+-- 2: a list over 32 entries, a key or value over 32 bytes
+unfoldable pub longChange : Change → Bool
+longChange del = false
+longChange (put v f) = orElse false (λ (b : List ℕ). ltb maxBytes (length b)) v
+
+unfoldable pub long : Content → Bool
+long (entries es) = ltb maxListEntries (length es)
+long (command c) = false
+long (kv k c) = ltb maxBytes (length k) || longChange c
+
+-- 3: a Put without value or file, an entry without a file, indexes not consecutive
+unfoldable pub consecutive : List EntryIndex → Bool
+consecutive [] = true
+consecutive (e ∷ []) = true
+consecutive (e ∷ (f ∷ es)) = eqb (f .index) (suc (e .index)) && consecutive (f ∷ es)
+
+unfoldable pub lacksValue : Change → Bool
+lacksValue del = false
+lacksValue (put v f) = orElse true (λ (b : List ℕ). false) v
+
+unfoldable pub lacksFile : Change → Bool
+lacksFile del = false
+lacksFile (put v f) = orElse true (λ (i : FileId). false) f
+
+-- a live rewrite reads neither the value nor the file of a Put
+unfoldable pub readsPut : Call → Bool
+readsPut replayAppend = true
+readsPut replayRewrite = true
+readsPut liveAppend = true
+readsPut (liveRewrite g s) = false
+
+unfoldable pub isIncomplete : Call → Content → Bool
+isIncomplete call (entries es) = any (λ (e : EntryIndex). not (hasFile (e .entries))) es || not (consecutive es)
+isIncomplete call (command c) = false
+isIncomplete call (kv k c) = readsPut call && (lacksValue c || lacksFile c)
+
+-- 4: an index or compaction target above 2^63−1, an entry length above 2^25
+unfoldable pub isOutOfRange : Content → Bool
+isOutOfRange (entries es) = any (λ (e : EntryIndex). ltb maxIndex (e .index) || ltb maxEntryLen (e .«entry_len»)) es
+isOutOfRange (command clean) = false
+isOutOfRange (command (compact i)) = ltb maxIndex i
+isOutOfRange (kv k c) = false
+
+-- 5: an entry or Put file that the call reads, not of the queue q that it writes
+unfoldable pub otherFile : LogQueue → Change → Bool
+otherFile q del = false
+otherFile q (put v f) = orElse false (λ (i : FileId). not (sameQueue (i .queue) q)) f
+
+unfoldable pub isOtherQueue : Call → Content → Bool
+isOtherQueue call (entries es) = any (λ (e : EntryIndex). hasFile (e .entries) && not (sameQueue (queueOf e) (writes call))) es
+isOtherQueue call (command c) = false
+isOtherQueue call (kv k c) = readsPut call && otherFile (writes call) c
+
+-- 6: Del or Compact in a live rewrite
+unfoldable pub isNotRewritable : Call → Content → Bool
+isNotRewritable replayAppend c = false
+isNotRewritable replayRewrite c = false
+isNotRewritable liveAppend c = false
+isNotRewritable (liveRewrite g s) (entries es) = false
+isNotRewritable (liveRewrite g s) (command clean) = false
+isNotRewritable (liveRewrite g s) (command (compact i)) = true
+isNotRewritable (liveRewrite g s) (kv k (put v f)) = false
+isNotRewritable (liveRewrite g s) (kv k del) = true
+
+-- marks and 7 are of Rewrite replay alone
+unfoldable pub isRewriteReplay : Call → Bool
+isRewriteReplay replayAppend = false
+isRewriteReplay replayRewrite = true
+isRewriteReplay liveAppend = false
+isRewriteReplay (liveRewrite g s) = false
+
+-- reserved keys meet none of 3 to 6, but a reserved Put without value is 3 in Rewrite replay
+unfoldable pub lacksMarkValue : Content → Bool
+lacksMarkValue (entries es) = false
+lacksMarkValue (command c) = false
+lacksMarkValue (kv k c) = lacksValue c
+
+unfoldable pub meets3 : Call → Content → Bool
+meets3 call c = cond (isReserved c) (isRewriteReplay call && lacksMarkValue c) (isIncomplete call c)
+
+-- the first mark of a list of items, counted from i: its place, its group and its byte
+pub record Mark : Type 0 where
+  pub at : ℕ
+  pub group : ℕ
+  pub byte : ℕ
+
+unfoldable pub firstMark : ℕ → List LogItem → Option Mark
+firstMark i [] = none
+firstMark i (x ∷ xs) =
+    orElse (firstMark (suc i) xs) (λ (b : ℕ). some (record { at = i; group = x .group; byte = b })) (markByte (x .content))
+
+-- 7: a second mark, a status above 2, an item of another group in a marked batch
+unfoldable pub breaksMark : Mark → ℕ → LogItem → Bool
+breaksMark m i it =
+    not (eqb (it .group) (m .group)) || (isMark it && not (eqb i (m .at))) || orElse false (ltb maxStatus) (markByte (it .content))
+
+unfoldable pub meets7 : Call → Option Mark → ℕ → LogItem → Bool
+meets7 call m i it = isRewriteReplay call && orElse false (λ (k : Mark). breaksMark k i it) m
+
+-- the first position of an item that meets a cause
+module _ (call : Call) (items : List LogItem) where
+  unfoldable pub firstMeeting : (ℕ → LogItem → Bool) → Option ℕ
+  firstMeeting p = findFrom p 0 items
+
+  -- of an item that is not reserved
+  unfoldable pub firstOf : (Content → Bool) → Option ℕ
+  firstOf p = firstMeeting (λ i it. not (isReserved (it .content)) && p (it .content))
+
+  -- the refusal where there is a position, and else what comes next
+  unfoldable pub orNext : ℕ → Option ℕ → Option Refusal → Option Refusal
+  orNext n none next = next
+  orNext n (some i) next = some (record { number = n; place = some i })
+
+  -- the least of 2 to 7 met by any item, at the first item that meets it; a batch over 32 is met at item 32
+  unfoldable pub checks : Option Refusal
+  checks =
+      orNext tooLong (firstMeeting (λ i it. eqb i maxItems || long (it .content)))
+      (orNext incomplete (firstMeeting (λ i it. meets3 call (it .content)))
+      (orNext outOfRange (firstOf isOutOfRange)
+      (orNext wrongQueue (firstOf (isOtherQueue call))
+      (orNext notRewritable (firstOf (isNotRewritable call))
+      (orNext badMark (firstMeeting (meets7 call (firstMark 0 items))) none)))))
