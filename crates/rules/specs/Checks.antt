@@ -5,13 +5,10 @@ use mathlib.Core.Option.{Option, none, some}
 use Prim.Native.Nat.{ℕ, suc}
 use lib.Dec.{ltb, eqb}
 use lib.ListN.{length}
-use Rattle.pipe_log.specs.declared.LogQueue.{LogQueue}
-use Rattle.pipe_log.specs.declared.FileId.{FileId}
-use Rattle.pipe_log.specs.declared.EntryIndex.{EntryIndex}
 use Rattle.rules.specs.Limits.{maxItems, maxListEntries, maxBytes, maxIndex, maxEntryLen, maxStatus}
-use Rattle.rules.specs.Causes.{Refusal, tooLong, incomplete, outOfRange, wrongQueue, notRewritable, badMark}
-use Rattle.rules.specs.Lists.{any, orElse, findFrom}
-use Rattle.rules.specs.Items.{sameQueue, hasFile, queueOf, Command, clean, compact, Change, put, del, Content, entries, command, kv, LogItem, Batch, isReserved, markByte, isSome, isMark, Call, replayAppend, replayRewrite, liveAppend, liveRewrite, writes}
+use Rattle.rules.specs.Causes.{Cause, numberOf, Refusal, tooLong, incomplete, outOfRange, wrongQueue, notRewritable, badMark}
+use Rattle.maps.specs.Lists.{any, orElse, findFrom}
+use Rattle.rules.specs.Items.{LogQueue, FileId, EntryIndex, sameQueue, hasFile, fileOf, clean, compact, Change, put, del, Content, entries, command, kv, LogItem, isReserved, isClean, isTombstone, markByte, isMark, Call, replayAppend, replayRewrite, liveAppend, liveRewrite, writes, isLiveRewrite}
 
 -- 2: a list over 32 entries, a key or value over 32 bytes
 unfoldable pub longChange : Change → Bool
@@ -23,7 +20,7 @@ long (entries es) = ltb maxListEntries (length es)
 long (command c) = false
 long (kv k c) = ltb maxBytes (length k) || longChange c
 
--- 3: a Put without value or file, an entry without a file, indexes not consecutive
+-- 3: a Put without value or file (live rewrite reads neither), an entry without a file, indexes not consecutive
 unfoldable pub consecutive : List EntryIndex → Bool
 consecutive [] = true
 consecutive (e ∷ []) = true
@@ -37,17 +34,10 @@ unfoldable pub lacksFile : Change → Bool
 lacksFile del = false
 lacksFile (put v f) = orElse true (λ (i : FileId). false) f
 
--- a live rewrite reads neither the value nor the file of a Put
-unfoldable pub readsPut : Call → Bool
-readsPut replayAppend = true
-readsPut replayRewrite = true
-readsPut liveAppend = true
-readsPut (liveRewrite g s) = false
-
 unfoldable pub isIncomplete : Call → Content → Bool
 isIncomplete call (entries es) = any (λ (e : EntryIndex). not (hasFile (e .entries))) es || not (consecutive es)
 isIncomplete call (command c) = false
-isIncomplete call (kv k c) = readsPut call && (lacksValue c || lacksFile c)
+isIncomplete call (kv k c) = not (isLiveRewrite call) && (lacksValue c || lacksFile c)
 
 -- 4: an index or compaction target above 2^63−1, an entry length above 2^25
 unfoldable pub isOutOfRange : Content → Bool
@@ -62,20 +52,13 @@ otherFile q del = false
 otherFile q (put v f) = orElse false (λ (i : FileId). not (sameQueue (i .queue) q)) f
 
 unfoldable pub isOtherQueue : Call → Content → Bool
-isOtherQueue call (entries es) = any (λ (e : EntryIndex). hasFile (e .entries) && not (sameQueue (queueOf e) (writes call))) es
+isOtherQueue call (entries es) = any (λ (e : EntryIndex). hasFile (e .entries) && not (sameQueue (fileOf e .queue) (writes call))) es
 isOtherQueue call (command c) = false
-isOtherQueue call (kv k c) = readsPut call && otherFile (writes call) c
+isOtherQueue call (kv k c) = not (isLiveRewrite call) && otherFile (writes call) c
 
 -- 6: Del or Compact in a live rewrite
 unfoldable pub isNotRewritable : Call → Content → Bool
-isNotRewritable replayAppend c = false
-isNotRewritable replayRewrite c = false
-isNotRewritable liveAppend c = false
-isNotRewritable (liveRewrite g s) (entries es) = false
-isNotRewritable (liveRewrite g s) (command clean) = false
-isNotRewritable (liveRewrite g s) (command (compact i)) = true
-isNotRewritable (liveRewrite g s) (kv k (put v f)) = false
-isNotRewritable (liveRewrite g s) (kv k del) = true
+isNotRewritable call c = isLiveRewrite call && isTombstone c && not (isClean c)
 
 -- marks and 7 are of Rewrite replay alone
 unfoldable pub isRewriteReplay : Call → Bool
@@ -122,9 +105,9 @@ module _ (call : Call) (items : List LogItem) where
   firstOf p = firstMeeting (λ i it. not (isReserved (it .content)) && p (it .content))
 
   -- the refusal where there is a position, and else what comes next
-  unfoldable pub orNext : ℕ → Option ℕ → Option Refusal → Option Refusal
+  unfoldable pub orNext : Cause → Option ℕ → Option Refusal → Option Refusal
   orNext n none next = next
-  orNext n (some i) next = some (record { number = n; place = some i })
+  orNext n (some i) next = some (record { number = numberOf n; place = some i })
 
   -- the least of 2 to 7 met by any item, at the first item that meets it; a batch over 32 is met at item 32
   unfoldable pub checks : Option Refusal

@@ -1,22 +1,29 @@
 -- Contexts and the index: what they hold, their limits, and what one item does.
-use mathlib.Core.Bool.{Bool, true, false, cond, not, _&&_}
+use mathlib.Core.Bool.{Bool, true, false, cond, _&&_}
 use mathlib.Core.List.{List, [], _∷_, _++_}
-use mathlib.Core.Option.{Option, none, some}
-use Prim.Native.Nat.{ℕ, _+_}
+use mathlib.Core.Option.{Option}
+use Prim.Native.Nat.{ℕ}
 use lib.Dec.{leb}
 use lib.ListN.{length}
-use Rattle.pipe_log.specs.declared.LogQueue.{LogQueue}
 use Rattle.rules.specs.Limits.{maxGroups, maxEntries, maxKeys, maxTombstones, maxCleaned, maxWaitingGroups, maxWaitingItems, maxWaitingEntries}
-use Rattle.rules.specs.Causes.{Result, ok, refuseAt, andThen, placed, limitPassed}
-use Rattle.rules.specs.Lists.{every, sum}
-use Rattle.rules.specs.Maps.{Pair, Map, lookup, store, numbers}
-use Rattle.rules.specs.Items.{Command, clean, compact, Content, entries, command, kv, LogItem, Placed, Status, isReserved, isTombstone, Call, replayAppend, replayRewrite, liveAppend, liveRewrite}
+use Rattle.rules.specs.Causes.{Result, ok, refuseAt, andThen, inOrder, placed, limitPassed}
+use Rattle.maps.specs.Lists.{every, sum}
+use Rattle.maps.specs.Maps.{Map, lookup, store, numbers}
+use Rattle.rules.specs.Items.{LogQueue, Append, Content, entries, command, kv, LogItem, Placed, Status, sameQueue, isReserved, isClean, isTombstone, writes, Call, replayAppend, replayRewrite, liveAppend, liveRewrite}
 use Rattle.rules.specs.Table.{Table, change}
 
 -- a context of a queue, or the index
 pub data Kind : Type 0 where
   context : LogQueue → Kind
   index : Kind
+
+unfoldable pub isContext : LogQueue → Kind → Bool
+isContext q (context r) = sameQueue q r
+isContext q index = false
+
+unfoldable pub isIndex : Kind → Bool
+isIndex (context q) = false
+isIndex index = true
 
 -- 01's waiting part: the items of marked batches that wait, with their first and last file
 pub record Part : Type 0 where
@@ -25,7 +32,7 @@ pub record Part : Type 0 where
   pub start : ℕ
   pub end : ℕ
 
--- a context or the index. A group's waiting parts, one or two, stand oldest first.
+-- a context or the index. A group's waiting parts, one or two, stand newest first.
 pub record Context : Type 0 where
   pub kind : Kind
   pub groups : Map ℕ Table
@@ -61,17 +68,11 @@ entriesIn it = count (it .content)
     count (command c) = 0
     count (kv k c) = 0
 
-unfoldable pub waitingItems : List Part → ℕ
-waitingItems parts = sum (λ p. length (p .items)) parts
-
-unfoldable pub waitingEntries : List Part → ℕ
-waitingEntries parts = sum (λ p. sum entriesIn (p .items)) parts
-
 unfoldable pub waitingFits : Map ℕ (List Part) → Bool
 waitingFits w =
     leb (length w) maxWaitingGroups
-    && leb (sum (λ p. waitingItems (p .val)) w) maxWaitingItems
-    && leb (sum (λ p. waitingEntries (p .val)) w) maxWaitingEntries
+    && leb (sum (λ g. sum (λ p. length (p .items)) (g .val)) w) maxWaitingItems
+    && leb (sum (λ g. sum (λ p. sum entriesIn (p .items)) (g .val)) w) maxWaitingEntries
 
 -- no limit is passed
 unfoldable pub fits : Context → Bool
@@ -95,20 +96,8 @@ unjudged p c = ok c
 -- ---- one item
 
 -- Cleans of the Append side are kept as cleaned numbers
-unfoldable pub cleans : Call → Content → Bool
-cleans replayAppend (command clean) = true
-cleans liveAppend (command clean) = true
-cleans replayAppend (command (compact i)) = false
-cleans liveAppend (command (compact i)) = false
-cleans replayAppend (entries es) = false
-cleans liveAppend (entries es) = false
-cleans replayAppend (kv k c) = false
-cleans liveAppend (kv k c) = false
-cleans replayRewrite c = false
-cleans (liveRewrite g s) c = false
-
 unfoldable pub addCleaned : Call → LogItem → Context → Context
-addCleaned call it c = cond (cleans call (it .content)) (withCleaned (c .cleaned ++ (it .group ∷ [])) c) c
+addCleaned call it c = cond (sameQueue (writes call) Append && isClean (it .content)) (withCleaned (c .cleaned ++ (it .group ∷ [])) c) c
 
 -- what an item does to its own group and to the cleaned numbers; a reserved one is skipped
 unfoldable pub act : Call → LogItem → Context → Result Context
@@ -133,12 +122,9 @@ unfoldable pub step : Judge → Call → Placed → Context → Result Context
 step judge call x c =
     andThen (placed (x .place) (act call (x .item) c)) (λ d. judge (x .place) (addTombstone call (x .item) d))
 
--- items in order, up to the first refusal
 unfoldable pub run : Judge → Call → List Placed → Context → Result Context
-run judge call [] c = ok c
-run judge call (x ∷ xs) c = andThen (step judge call x c) (λ d. run judge call xs d)
+run judge call = inOrder (step judge call)
 
 -- tombstones replayed and not kept a second time
 unfoldable pub replayTombstones : Call → List LogItem → Context → Result Context
-replayTombstones call [] c = ok c
-replayTombstones call (x ∷ xs) c = andThen (act call x c) (λ d. replayTombstones call xs d)
+replayTombstones call = inOrder (act call)

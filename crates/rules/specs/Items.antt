@@ -1,16 +1,15 @@
 -- Files, entry records, items and batches.
-use mathlib.Core.Bool.{Bool, true, false, cond, not}
-use mathlib.Core.List.{List, [], _∷_}
+use mathlib.Core.Bool.{Bool, true, false, cond}
+use mathlib.Core.List.{List, [], _∷_, map}
 use mathlib.Core.Option.{Option, none, some}
 use Prim.Native.Nat.{ℕ, zero, suc}
-use Rattle.pipe_log.specs.declared.LogQueue.{LogQueue}
-use Rattle.pipe_log.specs.declared.LogQueue.the-variants.{Append, Rewrite}
-use Rattle.pipe_log.specs.declared.FileId.{FileId}
-use Rattle.pipe_log.specs.declared.EntryBlock.{EntryBlock}
-use Rattle.pipe_log.specs.declared.EntryBlock.the-variants.{Absent, At}
-use Rattle.pipe_log.specs.declared.EntryIndex.{EntryIndex}
+pub use Rattle.pipe_log.specs.declared.LogQueue.{LogQueue, the-variants.Append, the-variants.Rewrite}
+pub use Rattle.pipe_log.specs.declared.FileId.{FileId}
+pub use Rattle.pipe_log.specs.declared.EntryBlock.{EntryBlock, the-variants.Absent, the-variants.At}
+pub use Rattle.pipe_log.specs.declared.EntryIndex.{EntryIndex}
 use Rattle.rules.specs.Limits.{reservedKey}
-use Rattle.rules.specs.Maps.{sameBytes}
+use Rattle.maps.specs.Lists.{orElse}
+use Rattle.maps.specs.Maps.{sameBytes}
 
 unfoldable pub sameQueue : LogQueue → LogQueue → Bool
 sameQueue Append Append = true
@@ -27,14 +26,11 @@ unfoldable pub blockFile : EntryBlock → FileId
 blockFile Absent = record { queue = Append; seq = 0 }
 blockFile (At block) = block .id
 
-unfoldable pub queueOf : EntryIndex → LogQueue
-queueOf e = blockFile (e .entries) .queue
-
-unfoldable pub seqOf : EntryIndex → ℕ
-seqOf e = blockFile (e .entries) .seq
+unfoldable pub fileOf : EntryIndex → FileId
+fileOf e = blockFile (e .entries)
 
 unfoldable pub isRewrite : EntryIndex → Bool
-isRewrite e = sameQueue (queueOf e) Rewrite
+isRewrite e = sameQueue (fileOf e .queue) Rewrite
 
 pub data Command : Type 0 where
   clean : Command
@@ -65,6 +61,12 @@ isReserved (entries es) = false
 isReserved (command c) = false
 isReserved (kv k c) = sameBytes k reservedKey
 
+unfoldable pub isClean : Content → Bool
+isClean (entries es) = false
+isClean (command clean) = true
+isClean (command (compact i)) = false
+isClean (kv k c) = false
+
 -- Del, a reserved one too, Clean and Compact are tombstones
 unfoldable pub isTombstone : Content → Bool
 isTombstone (entries es) = false
@@ -85,12 +87,8 @@ markByte (command c) = none
 markByte (kv k del) = none
 markByte (kv k (put v f)) = cond (sameBytes k reservedKey) (oneByte v) none
 
-unfoldable pub isSome : Option ℕ → Bool
-isSome none = false
-isSome (some n) = true
-
 unfoldable pub isMark : LogItem → Bool
-isMark it = isSome (markByte (it .content))
+isMark it = orElse false (λ (b : ℕ). true) (markByte (it .content))
 
 -- the status of a mark: 0 Begin, 1 Middle, 2 End (a higher byte is refused by 7)
 pub data Status : Type 0 where
@@ -113,12 +111,7 @@ placedFrom i (x ∷ xs) = record { item = x; place = some i } ∷ placedFrom (su
 
 -- items that are all refused with one place
 unfoldable pub placedAt : Option ℕ → List LogItem → List Placed
-placedAt p [] = []
-placedAt p (x ∷ xs) = record { item = x; place = p } ∷ placedAt p xs
-
-unfoldable pub itemsOf : List Placed → List LogItem
-itemsOf [] = []
-itemsOf (x ∷ xs) = x .item ∷ itemsOf xs
+placedAt p xs = map (λ (x : LogItem). record { item = x; place = p }) xs
 
 -- the four calls that take a batch; a live rewrite has its gate and the batch's sequence number
 pub data Call : Type 0 where
@@ -131,3 +124,9 @@ writes replayAppend = Append
 writes replayRewrite = Rewrite
 writes liveAppend = Append
 writes (liveRewrite g s) = Rewrite
+
+unfoldable pub isLiveRewrite : Call → Bool
+isLiveRewrite replayAppend = false
+isLiveRewrite replayRewrite = false
+isLiveRewrite liveAppend = false
+isLiveRewrite (liveRewrite g s) = true

@@ -1,8 +1,6 @@
 -- Document 01 as definitions. `Calls` and `Queries` have what the public calls answer; the rest is what those are made of.
 pub mod Limits
 pub mod Causes
-pub mod Lists
-pub mod Maps
 pub mod Items
 pub mod Checks
 pub mod Table

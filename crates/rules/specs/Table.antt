@@ -5,14 +5,10 @@ use mathlib.Core.Option.{Option, none, some}
 use Prim.Native.Nat.{ℕ, suc}
 use lib.Dec.{ltb, leb}
 use lib.ListN.{length}
-use Rattle.pipe_log.specs.declared.LogQueue.{LogQueue}
-use Rattle.pipe_log.specs.declared.LogQueue.the-variants.{Append, Rewrite}
-use Rattle.pipe_log.specs.declared.FileId.{FileId}
-use Rattle.pipe_log.specs.declared.EntryIndex.{EntryIndex}
 use Rattle.rules.specs.Causes.{Result, ok, refuse, andThen, filesGoBack, belowFirst, aboveLast, appendLeft, alreadyRewritten, keyGoesBack}
-use Rattle.rules.specs.Lists.{select, first, last, mapOption, orElse}
-use Rattle.rules.specs.Maps.{Map, lookup, insert, remove, mergeWith, bytes}
-use Rattle.rules.specs.Items.{sameQueue, isRewrite, seqOf, Command, clean, compact, Change, put, del, Content, entries, command, kv, Call, replayAppend, replayRewrite, liveAppend, liveRewrite}
+use Rattle.maps.specs.Lists.{select, first, last, mapOption, orElse}
+use Rattle.maps.specs.Maps.{Map, lookup, insert, remove, mergeWith, bytes}
+use Rattle.rules.specs.Items.{LogQueue, Append, Rewrite, FileId, EntryIndex, isRewrite, fileOf, Command, clean, compact, Change, put, del, Content, entries, command, kv, Call, replayAppend, replayRewrite, liveAppend, liveRewrite, isLiveRewrite}
 
 -- what a key holds: its value and its file
 pub record Held : Type 0 where
@@ -102,7 +98,7 @@ compactedCount i t = length (entriesBelow i (t .entries))
 -- `rewrite`: whether it replaces an entry. Gated: an Append one with a file up to the gate. Ungated: a Rewrite one.
 unfoldable pub replaces : Option ℕ → EntryIndex → Bool
 replaces none e = isRewrite e
-replaces (some gate) e = not (isRewrite e) && leb (seqOf e) gate
+replaces (some gate) e = not (isRewrite e) && leb (fileOf e .seq) gate
 
 -- entries from the overlap's start replaced by the list, until one is not
 unfoldable pub replaced : Option ℕ → List EntryIndex → List EntryIndex → List EntryIndex
@@ -132,14 +128,13 @@ rewriteOverlap gate before (e ∷ es) (r ∷ rs) =
     (refuse alreadyRewritten)
     (ok (before ++ replaced gate (e ∷ es) (r ∷ rs))))
 
--- a list that starts at s, on the entries that start at f
-unfoldable pub rewriteFrom : Option ℕ → List EntryIndex → List EntryIndex → ℕ → ℕ → Result (List EntryIndex)
-rewriteFrom gate rs es s f = rewriteOverlap gate (entriesBelow s es) (entriesFrom s es) (entriesFrom f rs)
-
+-- a list that starts at s, on entries that start at f; where either is empty nothing changes
 unfoldable pub rewritten : Option ℕ → List EntryIndex → Table → Result Table
 rewritten gate rs t =
     orElse (ok t)
-    (λ s. orElse (ok t) (λ f. andThen (rewriteFrom gate rs (t .entries) s f) (λ es. ok (withEntries es t))) (firstIndex (t .entries)))
+    (λ s. orElse (ok t)
+    (λ f. andThen (rewriteOverlap gate (entriesBelow s (t .entries)) (entriesFrom s (t .entries)) (entriesFrom f rs)) (λ es. ok (withEntries es t)))
+    (firstIndex (t .entries)))
     (firstIndex rs)
 
 -- ---- keys
@@ -202,14 +197,8 @@ changeTo call k (put v f) t = putTo call k v f t
 changeTo call k del t = ok (deleteKey k t)
 
 -- Clean removes the group; in a live rewrite it only makes it
-unfoldable pub cleanTo : Call → Option Table → Option Table
-cleanTo replayAppend t = none
-cleanTo replayRewrite t = none
-cleanTo liveAppend t = none
-cleanTo (liveRewrite gate s) t = some (made t)
-
 unfoldable pub commandTo : Call → Command → Option Table → Option Table
-commandTo call clean t = cleanTo call t
+commandTo call clean t = cond (isLiveRewrite call) (some (made t)) none
 commandTo call (compact i) t = some (compacted i (made t))
 
 unfoldable pub change : Call → Content → Option Table → Result (Option Table)

@@ -2,17 +2,14 @@
 use mathlib.Core.Bool.{Bool, true, false, cond, not, _&&_, _||_}
 use mathlib.Core.List.{List, [], _∷_, reverse, map}
 use mathlib.Core.Option.{Option, none, some}
-use Prim.Native.Nat.{ℕ, suc, _+_, _-_, min}
+use Prim.Native.Nat.{ℕ, _+_, _-_, min}
 use lib.Dec.{ltb, leb, eqb}
 use lib.ListN.{length, take, getElem?}
-use Rattle.pipe_log.specs.declared.LogQueue.{LogQueue}
-use Rattle.pipe_log.specs.declared.LogQueue.the-variants.{Append, Rewrite}
-use Rattle.pipe_log.specs.declared.EntryIndex.{EntryIndex}
 use Rattle.rules.specs.Causes.{Result, ok, refuse, badRange, entryCompacted, entryNotFound}
-use Rattle.rules.specs.Lists.{select, front, rest, first, mapOption, orElse, least}
-use Rattle.rules.specs.Maps.{Pair, Map, lookup, bytes, bytesBelow}
-use Rattle.rules.specs.Items.{sameQueue, queueOf, seqOf, isRewrite}
-use Rattle.rules.specs.Table.{Held, Span, Table, firstIndex, isBelowFirst, isAboveLast}
+use Rattle.maps.specs.Lists.{select, front, rest, first, mapOption, orElse, least}
+use Rattle.maps.specs.Maps.{Pair, Map, lookup, bytes, bytesBelow}
+use Rattle.rules.specs.Items.{LogQueue, Append, Rewrite, EntryIndex, sameQueue, fileOf, isRewrite}
+use Rattle.rules.specs.Table.{Held, Span, Table, firstIndex, isAboveLast}
 
 -- ---- entries
 
@@ -55,7 +52,7 @@ rewriteCount t = length (runOf Rewrite (t .entries))
 
 -- `fetch_entry_indexes_before`: Append entries from the front while the file is at most the gate
 unfoldable pub fetchEntryIndexesBefore : ℕ → Table → List EntryIndex
-fetchEntryIndexesBefore gate t = front (λ e. leb (seqOf e) gate) (runOf Append (t .entries))
+fetchEntryIndexesBefore gate t = front (λ e. leb (fileOf e .seq) gate) (runOf Append (t .entries))
 
 -- `fetch_rewritten_entry_indexes`: all Rewrite entries
 unfoldable pub fetchRewrittenEntryIndexes : Table → List EntryIndex
@@ -64,7 +61,7 @@ fetchRewrittenEntryIndexes t = select isRewrite (t .entries)
 -- `has_at_least_some_entries_before`: the entry at count − 1 exists with a sequence number at most the gate's
 unfoldable pub hasAtLeastSomeEntriesBefore : ℕ → ℕ → Table → Result Bool
 hasAtLeastSomeEntriesBefore gate count t =
-    cond (eqb count 0) (refuse badRange) (ok (orElse false (λ e. leb (seqOf e) gate) (getElem? (t .entries) (count - 1))))
+    cond (eqb count 0) (refuse badRange) (ok (orElse false (λ e. leb (fileOf e .seq) gate) (getElem? (t .entries) (count - 1))))
 
 -- ---- keys
 
@@ -96,18 +93,12 @@ scan start end backwards count t =
     (refuse badRange)
     (ok (take count (inDirection backwards (map rowOf (select (λ p. inBounds start end (p .key)) (t .keys))))))
 
-unfoldable pub keyQueue : Pair (List ℕ) Held → LogQueue
-keyQueue p = p .val .file .queue
-
-unfoldable pub keySeq : Pair (List ℕ) Held → ℕ
-keySeq p = p .val .file .seq
-
 unfoldable pub keysOf : LogQueue → Table → Map (List ℕ) Held
-keysOf q t = select (λ p. sameQueue (keyQueue p) q) (t .keys)
+keysOf q t = select (λ p. sameQueue (p .val .file .queue) q) (t .keys)
 
 -- `fetch_kvs_before`: Append keys with a file up to the gate; `fetch_rewritten_kvs`: all Rewrite keys
 unfoldable pub fetchKvsBefore : ℕ → Table → List KeyValue
-fetchKvsBefore gate t = map rowOf (select (λ p. leb (keySeq p) gate) (keysOf Append t))
+fetchKvsBefore gate t = map rowOf (select (λ p. leb (p .val .file .seq) gate) (keysOf Append t))
 
 unfoldable pub fetchRewrittenKvs : Table → List KeyValue
 fetchRewrittenKvs t = map rowOf (keysOf Rewrite t)
@@ -116,11 +107,11 @@ fetchRewrittenKvs t = map rowOf (keysOf Rewrite t)
 
 unfoldable pub leastSeq : Map (List ℕ) Held → Option ℕ
 leastSeq [] = none
-leastSeq (p ∷ ps) = least (some (keySeq p)) (leastSeq ps)
+leastSeq (p ∷ ps) = least (some (p .val .file .seq)) (leastSeq ps)
 
 -- the front entry of the queue's run and the queue's keys, the least
 unfoldable pub leastFile : LogQueue → Table → Option ℕ
-leastFile q t = least (mapOption seqOf (first (runOf q (t .entries)))) (leastSeq (keysOf q t))
+leastFile q t = least (mapOption (λ e. fileOf e .seq) (first (runOf q (t .entries)))) (leastSeq (keysOf q t))
 
 -- for Rewrite with a span: if that is at most the span's end, the lesser of it and the span's start
 unfoldable pub bySpan : LogQueue → Option Span → ℕ → ℕ
@@ -133,4 +124,4 @@ minFileSeq q t = mapOption (bySpan q (t .span)) (leastFile q t)
 
 -- a table's live entries and keys of a queue
 unfoldable pub liveOf : LogQueue → Table → ℕ
-liveOf q t = length (select (λ e. sameQueue (queueOf e) q) (t .entries)) + length (keysOf q t)
+liveOf q t = length (select (λ e. sameQueue (fileOf e .queue) q) (t .entries)) + length (keysOf q t)
