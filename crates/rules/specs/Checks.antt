@@ -95,26 +95,21 @@ breaksMark m i it =
 unfoldable pub meets7 : Call → Option Mark → ℕ → LogItem → Bool
 meets7 call m i it = isRewriteReplay call && orElse false (λ (k : Mark). breaksMark k i it) m
 
--- the first position of an item that meets a cause
-module _ (call : Call) (items : List LogItem) where
-  unfoldable pub firstMeeting : (ℕ → LogItem → Bool) → Option ℕ
-  firstMeeting p = findFrom p 0 items
+-- a refusal by a cause at the first position where it is met, and else what comes next
+unfoldable pub orNext : Cause → Option ℕ → Option Refusal → Option Refusal
+orNext n none next = next
+orNext n (some i) next = some (record { number = numberOf n; place = some i })
 
-  -- of an item that is not reserved
-  unfoldable pub firstOf : (Content → Bool) → Option ℕ
-  firstOf p = firstMeeting (λ i it. not (isReserved (it .content)) && p (it .content))
+-- 4, 5 and 6 are met by items that are not reserved
+unfoldable pub unlessReserved : (Content → Bool) → ℕ → LogItem → Bool
+unlessReserved p i it = not (isReserved (it .content)) && p (it .content)
 
-  -- the refusal where there is a position, and else what comes next
-  unfoldable pub orNext : Cause → Option ℕ → Option Refusal → Option Refusal
-  orNext n none next = next
-  orNext n (some i) next = some (record { number = numberOf n; place = some i })
-
-  -- the least of 2 to 7 met by any item, at the first item that meets it; a batch over 32 is met at item 32
-  unfoldable pub checks : Option Refusal
-  checks =
-      orNext tooLong (firstMeeting (λ i it. eqb i maxItems || long (it .content)))
-      (orNext incomplete (firstMeeting (λ i it. meets3 call (it .content)))
-      (orNext outOfRange (firstOf isOutOfRange)
-      (orNext wrongQueue (firstOf (isOtherQueue call))
-      (orNext notRewritable (firstOf (isNotRewritable call))
-      (orNext badMark (firstMeeting (meets7 call (firstMark 0 items))) none)))))
+-- the least of 2 to 7 met by any item, at the first item that meets it; a batch over 32 is met at item 32
+unfoldable pub checks : Call → List LogItem → Option Refusal
+checks call items =
+    orNext tooLong (findFrom (λ i it. eqb i maxItems || long (it .content)) 0 items)
+    (orNext incomplete (findFrom (λ i it. meets3 call (it .content)) 0 items)
+    (orNext outOfRange (findFrom (unlessReserved isOutOfRange) 0 items)
+    (orNext wrongQueue (findFrom (unlessReserved (isOtherQueue call)) 0 items)
+    (orNext notRewritable (findFrom (unlessReserved (isNotRewritable call)) 0 items)
+    (orNext badMark (findFrom (meets7 call (firstMark 0 items)) 0 items) none)))))
