@@ -1,6 +1,6 @@
 -- The turns of the loops that move, once for every width: each store takes what is laid in so far to one element more. Assumes nothing.
 use Prim.Native.Nat.{ℕ, _+_, _-_, _≤_, _<_}
-use native.Mathlib.Nat.{zero-add, add-zero, sub-zero}
+use native.Mathlib.Nat.{zero-add, add-zero, sub-zero, le-antisymm}
 use native.Mathlib.Omega.{arith}
 use mathlib.Core.Path.{_≡_, refl, sym, ap, _∙_}
 use mathlib.Core.List.{List, [], _∷_, _++_}
@@ -66,10 +66,16 @@ module _ {A : Type 0} where
       rw e₃ (up-step (from + (i - 1)) (to + (i - 1)) (count - i) z (rw (e₁, e₂) at h) (omega arith) (omega arith))
 
   -- after the last turn
-  pub up-all : {d l : List A} (from to count i : ℕ) → Laid d (to + i) (part (from + i) (count - i) d) l → i ≤ 0 → l ≡ put d to (part from count d)
-  up-all from to count i h e =
-      let i₀ : i ≡ 0 = omega arith in
-      rw (i₀, add-zero, add-zero, sub-zero) at (h .is)
-
   pub copy-all : {d l : List A} {at : ℕ} (x : List A) (i : ℕ) → Laid d at (part 0 i x) l → i ≤ length x → length x ≤ i → l ≡ put d at x
   copy-all x i h a b = rw (part-all i x (omega arith)) at (h .is)
+
+  pub fill-all : {d l : List A} {at : ℕ} (i n : ℕ) (v : A) → Laid d at (replicate i v) l → i ≤ n → n ≤ i → l ≡ put d at (replicate n v)
+  fill-all i n v h a b = rw (le-antisymm a b) at (h .is)
+
+  pub down-all : {d l : List A} {to : ℕ} (from i count : ℕ) → Laid d to (part from i d) l → i ≤ count → count ≤ i → l ≡ put d to (part from count d)
+  down-all from i count h a b = rw (le-antisymm a b) at (h .is)
+
+  pub up-all : {d l : List A} (from to count i : ℕ) → Laid d (to + i) (part (from + i) (count - i) d) l → i ≤ 0 → l ≡ put d to (part from count d)
+  up-all from to count i h e =
+      let z : i ≡ 0 = omega arith in
+      rw (z, add-zero to, add-zero from, sub-zero) at (h .is)

@@ -18,8 +18,32 @@ pub fn copy_in_u64(dst: &mut [u64], at: usize, src: &[u64])
     }
 }
 
+// The same for bytes.
+pub fn copy_in_u8(dst: &mut [u8], at: usize, src: &[u8])
+    requires { ⌜ at + length (now src) ≤ length (now dst) ⌝ }
+    ensures { λ _. ⌜ now (dst .exit) ≡ put (now (dst .entry)) at (now (src .entry)) ⌝ }
+{
+    let mut i = 0;
+    while i < src.len() {
+        dst[at + i] = src[i];
+        i += 1;
+    }
+}
+
 // Moves `count` numbers of `s` down, from place `from` to place `to`. It goes from the front, so the stretches may overlap.
 pub fn shift_down_u64(s: &mut [u64], from: usize, to: usize, count: usize)
+    requires { ⌜ (to ≤ from) × (from + count ≤ length (now s)) ⌝ }
+    ensures { λ _. ⌜ now (s .exit) ≡ put (now (s .entry)) to (part from count (now (s .entry))) ⌝ }
+{
+    let mut i = 0;
+    while i < count {
+        s[to + i] = s[from + i];
+        i += 1;
+    }
+}
+
+// The same for bytes.
+pub fn shift_down_u8(s: &mut [u8], from: usize, to: usize, count: usize)
     requires { ⌜ (to ≤ from) × (from + count ≤ length (now s)) ⌝ }
     ensures { λ _. ⌜ now (s .exit) ≡ put (now (s .entry)) to (part from count (now (s .entry))) ⌝ }
 {
@@ -42,8 +66,32 @@ pub fn shift_up_u64(s: &mut [u64], from: usize, to: usize, count: usize)
     }
 }
 
+// The same for bytes.
+pub fn shift_up_u8(s: &mut [u8], from: usize, to: usize, count: usize)
+    requires { ⌜ (from ≤ to) × (to + count ≤ length (now s)) ⌝ }
+    ensures { λ _. ⌜ now (s .exit) ≡ put (now (s .entry)) to (part from count (now (s .entry))) ⌝ }
+{
+    let mut i = count;
+    while 0 < i {
+        i -= 1;
+        s[to + i] = s[from + i];
+    }
+}
+
 // Writes `value` to `count` places of `s` from place `at`.
 pub fn fill_u64(s: &mut [u64], at: usize, count: usize, value: u64)
+    requires { ⌜ at + count ≤ length (now s) ⌝ }
+    ensures { λ _. ⌜ now (s .exit) ≡ put (now (s .entry)) at (replicate count value) ⌝ }
+{
+    let mut i = 0;
+    while i < count {
+        s[at + i] = value;
+        i += 1;
+    }
+}
+
+// The same for bytes.
+pub fn fill_u8(s: &mut [u8], at: usize, count: usize, value: u8)
     requires { ⌜ at + count ≤ length (now s) ⌝ }
     ensures { λ _. ⌜ now (s .exit) ≡ put (now (s .entry)) at (replicate count value) ⌝ }
 {

@@ -1,59 +1,51 @@
+-- `cells::copy_in_u64` meets its contract: after i turns the first i of `src` are laid in. Assumes nothing.
+use Prim.Native.Nat.{_-_, _≤_}
+use lib.ListN.{length}
+use Rattle.cells.specs.Part.{part}
+use Rattle.cells.specs.PartLaws.{part-none}
+use Rattle.cells.proofs.Steps.{Laid, laid-none, copy-more, copy-all}
 use borrow.Author.Needs.{needs}
-use native.Mathlib.Omega.{arith}
 use Rattle.cells.proofs.copy_in_u64.Statement.{statement}
 use Rattle.cells.proofs.copy_in_u64.Tie as tie
-use Rattle.cells.proofs.copy_in_u64.Reads as reads
-use Rattle.cells.proofs.copy_in_u64.Lts as lts
 
 abbrev Inv-loop : tie.InvT-loop
-Inv-loop dst₀ at src i₀ dst i = ?
+Inv-loop dst₀ at src i₀ dst i = (i ≤ length src) × Laid dst₀ at (part 0 i src) dst
 
 abbrev μ-loop : tie.MeasureT-loop
-μ-loop dst₀ at src i₀ dst i = ?
+μ-loop dst₀ at src i₀ dst i = length src - i
 
--- src/lib.rt:15:5
 loop-holds : tie.Need-loop-holds Inv-loop μ-loop
-loop-holds c = ?
+loop-holds c = (search needs, rw part-none (laid-none _ _))
 
--- src/lib.rt:16:23
 mul-dst : tie.Need-mul-dst Inv-loop μ-loop
 mul-dst c = search needs
 
--- src/lib.rt:16:23
 shared-slice-read-dst : tie.Need-shared-slice-read-dst Inv-loop μ-loop
 shared-slice-read-dst c = search needs
 
--- src/lib.rt:16:13
 add-dst : tie.Need-add-dst Inv-loop μ-loop
 add-dst c = search needs
 
--- src/lib.rt:16:9
 mul-dst-2 : tie.Need-mul-dst-2 Inv-loop μ-loop
 mul-dst-2 c = search needs
 
--- src/lib.rt:16:9
 slice-write-dst : tie.Need-slice-write-dst Inv-loop μ-loop
 slice-write-dst c = search needs
 
--- src/lib.rt:17:9
 add-i : tie.Need-add-i Inv-loop μ-loop
 add-i c = search needs
 
--- src/lib.rt:15:5
 loop-less : tie.Need-loop-less Inv-loop μ-loop
 loop-less c = search needs
 
--- src/lib.rt:15:5
 loop-again : tie.Need-loop-again Inv-loop μ-loop
-loop-again c = ?
+loop-again c = (search needs, copy-more _ (c .before .before .loop .i) 0 (c .before .before .loop .inv .1) (search needs) (search needs))
 
--- src/lib.rt:10:1
 same-length : tie.Need-same-length Inv-loop μ-loop
 same-length c = search needs
 
--- src/lib.rt:10:1
 returns : tie.Need-returns Inv-loop μ-loop
-returns c = ?
+returns c = copy-all _ (c .before .loop .i) (c .before .loop .inv .1) (search needs) (search needs)
 
 pub copy-in-u64-spec : {M : Type 1} → statement M
 copy-in-u64-spec =

@@ -1,51 +1,43 @@
+-- `cells::fill_u64` meets its contract: after i turns i places are written. Assumes nothing.
+use Prim.Native.Nat.{_-_, _≤_}
+use lib.ListN.{replicate}
+use Rattle.cells.proofs.Steps.{Laid, laid-none, fill-more, fill-all}
 use borrow.Author.Needs.{needs}
-use native.Mathlib.Omega.{arith}
 use Rattle.cells.proofs.fill_u64.Statement.{statement}
 use Rattle.cells.proofs.fill_u64.Tie as tie
-use Rattle.cells.proofs.fill_u64.Reads as reads
-use Rattle.cells.proofs.fill_u64.Lts as lts
 
 abbrev Inv-loop : tie.InvT-loop
-Inv-loop s₀ at count value i₀ s i = ?
+Inv-loop s₀ at count value i₀ s i = (i ≤ count) × Laid s₀ at (replicate i value) s
 
 abbrev μ-loop : tie.MeasureT-loop
-μ-loop s₀ at count value i₀ s i = ?
+μ-loop s₀ at count value i₀ s i = count - i
 
--- src/lib.rt:51:5
 loop-holds : tie.Need-loop-holds Inv-loop μ-loop
-loop-holds c = ?
+loop-holds c = (search needs, laid-none _ _)
 
--- src/lib.rt:52:11
 add-s : tie.Need-add-s Inv-loop μ-loop
 add-s c = search needs
 
--- src/lib.rt:52:9
 mul-s : tie.Need-mul-s Inv-loop μ-loop
 mul-s c = search needs
 
--- src/lib.rt:52:9
 slice-write-s : tie.Need-slice-write-s Inv-loop μ-loop
 slice-write-s c = search needs
 
--- src/lib.rt:53:9
 add-i : tie.Need-add-i Inv-loop μ-loop
 add-i c = search needs
 
--- src/lib.rt:51:5
 loop-less : tie.Need-loop-less Inv-loop μ-loop
 loop-less c = search needs
 
--- src/lib.rt:51:5
 loop-again : tie.Need-loop-again Inv-loop μ-loop
-loop-again c = ?
+loop-again c = (search needs, fill-more (c .before .loop .i) _ (c .before .loop .inv .1) (search needs))
 
--- src/lib.rt:46:1
 same-length : tie.Need-same-length Inv-loop μ-loop
 same-length c = search needs
 
--- src/lib.rt:46:1
 returns : tie.Need-returns Inv-loop μ-loop
-returns c = ?
+returns c = fill-all (c .before .loop .i) (c .before .before .args .count) _ (c .before .loop .inv .1) (search needs) (search needs)
 
 pub fill-u64-spec : {M : Type 1} → statement M
 fill-u64-spec =

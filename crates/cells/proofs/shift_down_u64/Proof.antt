@@ -1,63 +1,53 @@
+-- `cells::shift_down_u64` meets its contract: after i turns the first i of the stretch are moved. Assumes nothing.
+use Prim.Native.Nat.{_-_, _≤_}
+use Rattle.cells.specs.Part.{part}
+use Rattle.cells.specs.PartLaws.{part-none}
+use Rattle.cells.proofs.Steps.{Laid, laid-none, down-more, down-all}
 use borrow.Author.Needs.{needs}
-use native.Mathlib.Omega.{arith}
 use Rattle.cells.proofs.shift_down_u64.Statement.{statement}
 use Rattle.cells.proofs.shift_down_u64.Tie as tie
-use Rattle.cells.proofs.shift_down_u64.Reads as reads
-use Rattle.cells.proofs.shift_down_u64.Lts as lts
 
 abbrev Inv-loop : tie.InvT-loop
-Inv-loop s₀ from to count i₀ s i = ?
+Inv-loop s₀ from to count i₀ s i = (i ≤ count) × Laid s₀ to (part from i s₀) s
 
 abbrev μ-loop : tie.MeasureT-loop
-μ-loop s₀ from to count i₀ s i = ?
+μ-loop s₀ from to count i₀ s i = count - i
 
--- src/lib.rt:27:5
 loop-holds : tie.Need-loop-holds Inv-loop μ-loop
-loop-holds c = ?
+loop-holds c = (search needs, rw part-none (laid-none _ _))
 
--- src/lib.rt:28:23
 add-s : tie.Need-add-s Inv-loop μ-loop
 add-s c = search needs
 
--- src/lib.rt:28:21
 mul-s : tie.Need-mul-s Inv-loop μ-loop
 mul-s c = search needs
 
--- src/lib.rt:28:21
 slice-read-s : tie.Need-slice-read-s Inv-loop μ-loop
 slice-read-s c = search needs
 
--- src/lib.rt:28:11
 add-s-2 : tie.Need-add-s-2 Inv-loop μ-loop
 add-s-2 c = search needs
 
--- src/lib.rt:28:9
 mul-s-2 : tie.Need-mul-s-2 Inv-loop μ-loop
 mul-s-2 c = search needs
 
--- src/lib.rt:28:9
 slice-write-s : tie.Need-slice-write-s Inv-loop μ-loop
 slice-write-s c = search needs
 
--- src/lib.rt:29:9
 add-i : tie.Need-add-i Inv-loop μ-loop
 add-i c = search needs
 
--- src/lib.rt:27:5
 loop-less : tie.Need-loop-less Inv-loop μ-loop
 loop-less c = search needs
 
--- src/lib.rt:27:5
 loop-again : tie.Need-loop-again Inv-loop μ-loop
-loop-again c = ?
+loop-again c = (search needs, down-more _ (c .before .before .loop .i) 0 (c .before .before .loop .inv .1) (search needs) (search needs))
 
--- src/lib.rt:22:1
 same-length : tie.Need-same-length Inv-loop μ-loop
 same-length c = search needs
 
--- src/lib.rt:22:1
 returns : tie.Need-returns Inv-loop μ-loop
-returns c = ?
+returns c = down-all _ (c .before .loop .i) (c .before .before .args .count) (c .before .loop .inv .1) (search needs) (search needs)
 
 pub shift-down-u64-spec : {M : Type 1} → statement M
 shift-down-u64-spec =

@@ -1,59 +1,51 @@
+-- `cells::order::compare_u8` meets its contract: what is left from i on is ordered as the whole. Assumes nothing.
+use mathlib.Core.Path.{_≡_, refl, sym, _∙_}
+use Prim.Native.Nat.{_-_, _≤_}
+use lib.ListN.{length, drop}
+use Rattle.cells.specs.Bytes.{byteOrder}
+use Rattle.cells.proofs.Scan.{order-end, order-shorter, order-longer, order-less, order-greater, order-more}
 use borrow.Author.Needs.{needs}
-use native.Mathlib.Omega.{arith}
 use Rattle.cells.proofs.order.compare_u8.Statement.{statement}
 use Rattle.cells.proofs.order.compare_u8.Tie as tie
-use Rattle.cells.proofs.order.compare_u8.Reads as reads
-use Rattle.cells.proofs.order.compare_u8.Lts as lts
 
 abbrev Inv-loop : tie.InvT-loop
-Inv-loop a b i₀ i = ?
+Inv-loop a b i₀ i = (i ≤ length a) × (byteOrder a b ≡ byteOrder (drop i a) (drop i b))
 
 abbrev μ-loop : tie.MeasureT-loop
-μ-loop a b i₀ i = ?
+μ-loop a b i₀ i = length a - i
 
--- src/order.rt:17:5
 loop-holds : tie.Need-loop-holds Inv-loop μ-loop
-loop-holds c = ?
+loop-holds c = (search needs, refl)
 
--- src/order.rt:19:13
 returns : tie.Need-returns Inv-loop μ-loop
-returns c = ?
+returns c = sym (c .before .before .loop .inv .1 ∙ order-longer _ _ (c .before .before .loop .i) (search needs) (search needs))
 
--- src/order.rt:21:17
 shared-slice-read-x : tie.Need-shared-slice-read-x Inv-loop μ-loop
 shared-slice-read-x c = search needs
 
--- src/order.rt:22:17
 shared-slice-read-y : tie.Need-shared-slice-read-y Inv-loop μ-loop
 shared-slice-read-y c = search needs
 
--- src/order.rt:24:13
 returns-2 : tie.Need-returns-2 Inv-loop μ-loop
-returns-2 c = ?
+returns-2 c = sym (c .before .before .before .before .before .loop .inv .1 ∙ order-less _ _ (c .before .before .before .before .before .loop .i) (search needs) (search needs) (search needs))
 
--- src/order.rt:27:13
 returns-3 : tie.Need-returns-3 Inv-loop μ-loop
-returns-3 c = ?
+returns-3 c = sym (c .before .before .before .before .before .before .loop .inv .1 ∙ order-greater _ _ (c .before .before .before .before .before .before .loop .i) (search needs) (search needs) (search needs))
 
--- src/order.rt:29:9
 add-i : tie.Need-add-i Inv-loop μ-loop
 add-i c = search needs
 
--- src/order.rt:17:5
 loop-less : tie.Need-loop-less Inv-loop μ-loop
 loop-less c = search needs
 
--- src/order.rt:17:5
 loop-again : tie.Need-loop-again Inv-loop μ-loop
-loop-again c = ?
+loop-again c = (search needs, c .before .before .before .before .before .before .loop .inv .1 ∙ order-more _ _ (c .before .before .before .before .before .before .loop .i) (search needs) (search needs) (search needs) (search needs))
 
--- src/order.rt:32:9
 returns-4 : tie.Need-returns-4 Inv-loop μ-loop
-returns-4 c = ?
+returns-4 c = sym (c .before .before .loop .inv .1 ∙ order-shorter _ _ (c .before .before .loop .i) (search needs) (search needs))
 
--- src/order.rt:13:1
 returns-5 : tie.Need-returns-5 Inv-loop μ-loop
-returns-5 c = ?
+returns-5 c = sym (c .before .before .loop .inv .1 ∙ order-end _ _ (c .before .before .loop .i) (search needs) (search needs))
 
 pub compare-u8-spec : {M : Type 1} → statement M
 compare-u8-spec =
