@@ -253,15 +253,29 @@ module _ {A : Type 0} where
   unfolding part
   part-back a l = sym (take-all (length l - a) (drop a l) (simp length-drop (omega arith)))
 
-  -- `&mut d[a..a + n]` comes back holding s
+  -- `&mut d[a..a + n]` comes back holding s: by its length, and by that of what was lent
   pub loan-put : (a n : ℕ) (d s : List A) → length s ≡ n → putMid a n d s ≡ put d a s
   unfolding put
   loan-put a n d s e = rw (← e, drop-drop (length s) a d) (sym (append-assoc (take a d) s _))
 
-  -- `&mut d[..n]` comes back holding s
-  pub loan-put-front : (n : ℕ) (d s : List A) → length s ≡ n → s ++ drop n d ≡ put d 0 s
+  pub loan-kept : (a n : ℕ) (d s : List A) → length s ≡ length (take n (drop a d)) → a + n ≤ length d → putMid a n d s ≡ put d a s
+  unfolding part
+  loan-kept a n d s e h = loan-put a n d s (e ∙ length-part a n d h)
+
+  -- the same where s was laid into what was lent, from its place i, which is place p of d
+  pub loan-put-in : (a n : ℕ) (d l : List A) (i p : ℕ) (s : List A) → l ≡ put (take n (drop a d)) i s → a + i ≡ p → i + length s ≤ n → a + n ≤ length d → putMid a n d l ≡ put d p s
+  unfolding part
+  loan-put-in a n d l i p s e q b h =
+      let k : length (part a n d) ≡ n = length-part a n d h in
+      rw (e, ← q) (loan-put a n d (put (part a n d) i s) (length-put (part a n d) i s (omega arith) ∙ k) ∙ put-in-part a n d i s b h)
+
+  -- `&mut d[..n]` comes back holding s, and with s laid in
+  pub loan-front : (n : ℕ) (d s : List A) → length s ≡ n → s ++ drop n d ≡ put d 0 s
   unfolding put
-  loan-put-front n d s e = rw (zero-add, e)
+  loan-front n d s e = rw (zero-add, e)
+
+  pub loan-front-in : (n : ℕ) (d l : List A) (i : ℕ) (s : List A) → l ≡ put (take n d) i s → i + length s ≤ n → n ≤ length d → l ++ drop n d ≡ put d i s
+  loan-front-in n d l i s e b h = loan-put-in 0 n d l i i s e (zero-add i) b (omega arith)
 
   -- two lists that are the same up to k and from k on
   pub same-around : (k : ℕ) (l m : List A) → take k l ≡ take k m → drop k l ≡ drop k m → l ≡ m
