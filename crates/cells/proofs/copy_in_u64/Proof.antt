@@ -1,4 +1,4 @@
--- `cells::copy_in_u64` meets its contract: after i turns the first i of `src` are laid in. Assumes nothing.
+-- `cells::copy_in_u64` meets its contract: after each turn the first `done` of `src` are laid in. Assumes nothing.
 use Prim.Native.Nat.{_-_, _≤_}
 use lib.ListN.{length}
 use Rattle.cells.specs.Part.{part}
@@ -9,10 +9,10 @@ use Rattle.cells.proofs.copy_in_u64.Statement.{statement}
 use Rattle.cells.proofs.copy_in_u64.Tie as tie
 
 abbrev Inv-loop : tie.InvT-loop
-Inv-loop dst₀ at src i₀ dst i = (i ≤ length src) × Laid dst₀ at (part 0 i src) dst
+Inv-loop dst₀ at src done₀ dst done = (done ≤ length src) × Laid dst₀ at (part 0 done src) dst
 
 abbrev μ-loop : tie.MeasureT-loop
-μ-loop dst₀ at src i₀ dst i = length src - i
+μ-loop dst₀ at src done₀ dst done = length src - done
 
 loop-holds : tie.Need-loop-holds Inv-loop μ-loop
 loop-holds c = (search needs, rw part-none (laid-none _ _))
@@ -32,20 +32,20 @@ mul-dst-2 c = search needs
 slice-write-dst : tie.Need-slice-write-dst Inv-loop μ-loop
 slice-write-dst c = search needs
 
-add-i : tie.Need-add-i Inv-loop μ-loop
-add-i c = search needs
+add-done : tie.Need-add-done Inv-loop μ-loop
+add-done c = search needs
 
 loop-less : tie.Need-loop-less Inv-loop μ-loop
 loop-less c = search needs
 
 loop-again : tie.Need-loop-again Inv-loop μ-loop
-loop-again c = (search needs, copy-more _ (c .before .before .loop .i) 0 (c .before .before .loop .inv .1) (search needs) (search needs))
+loop-again c = (search needs, copy-more _ (c .before .before .loop .done) 0 (c .before .before .loop .inv .1) (search needs) (search needs))
 
 same-length : tie.Need-same-length Inv-loop μ-loop
 same-length c = search needs
 
 returns : tie.Need-returns Inv-loop μ-loop
-returns c = copy-all _ (c .before .loop .i) (c .before .loop .inv .1) (search needs) (search needs)
+returns c = copy-all _ (c .before .loop .done) (c .before .loop .inv .1) (search needs) (search needs)
 
 pub copy-in-u64-spec : {M : Type 1} → statement M
 copy-in-u64-spec =
@@ -59,7 +59,7 @@ copy-in-u64-spec =
     add-dst
     mul-dst-2
     slice-write-dst
-    add-i
+    add-done
     loop-less
     loop-again
     same-length

@@ -1,4 +1,4 @@
--- `cells::shift_down_u64` meets its contract: after i turns the first i of the stretch are moved. Assumes nothing.
+-- `cells::shift_down_u64` meets its contract: after each turn the first `moved` of the stretch are moved. Assumes nothing.
 use Prim.Native.Nat.{_-_, _≤_}
 use Rattle.cells.specs.Part.{part}
 use Rattle.cells.specs.PartLaws.{part-none}
@@ -8,10 +8,10 @@ use Rattle.cells.proofs.shift_down_u64.Statement.{statement}
 use Rattle.cells.proofs.shift_down_u64.Tie as tie
 
 abbrev Inv-loop : tie.InvT-loop
-Inv-loop s₀ from to count i₀ s i = (i ≤ count) × Laid s₀ to (part from i s₀) s
+Inv-loop s₀ from to count moved₀ s moved = (moved ≤ count) × Laid s₀ to (part from moved s₀) s
 
 abbrev μ-loop : tie.MeasureT-loop
-μ-loop s₀ from to count i₀ s i = count - i
+μ-loop s₀ from to count moved₀ s moved = count - moved
 
 loop-holds : tie.Need-loop-holds Inv-loop μ-loop
 loop-holds c = (search needs, rw part-none (laid-none _ _))
@@ -34,20 +34,20 @@ mul-s-2 c = search needs
 slice-write-s : tie.Need-slice-write-s Inv-loop μ-loop
 slice-write-s c = search needs
 
-add-i : tie.Need-add-i Inv-loop μ-loop
-add-i c = search needs
+add-moved : tie.Need-add-moved Inv-loop μ-loop
+add-moved c = search needs
 
 loop-less : tie.Need-loop-less Inv-loop μ-loop
 loop-less c = search needs
 
 loop-again : tie.Need-loop-again Inv-loop μ-loop
-loop-again c = (search needs, down-more _ (c .before .before .loop .i) 0 (c .before .before .loop .inv .1) (search needs) (search needs))
+loop-again c = (search needs, down-more _ (c .before .before .loop .moved) 0 (c .before .before .loop .inv .1) (search needs) (search needs))
 
 same-length : tie.Need-same-length Inv-loop μ-loop
 same-length c = search needs
 
 returns : tie.Need-returns Inv-loop μ-loop
-returns c = down-all _ (c .before .loop .i) (c .before .before .args .count) (c .before .loop .inv .1) (search needs) (search needs)
+returns c = down-all _ (c .before .loop .moved) (c .before .before .args .count) (c .before .loop .inv .1) (search needs) (search needs)
 
 pub shift-down-u64-spec : {M : Type 1} → statement M
 shift-down-u64-spec =
@@ -62,7 +62,7 @@ shift-down-u64-spec =
     add-s-2
     mul-s-2
     slice-write-s
-    add-i
+    add-moved
     loop-less
     loop-again
     same-length

@@ -1,10 +1,10 @@
--- `cells::fill_u8` meets its contract: after i turns i places are written. Assumes nothing.
+-- `cells::bytes::fill_u8` meets its contract: after i turns i places are written. Assumes nothing.
 use Prim.Native.Nat.{_-_, _≤_}
 use lib.ListN.{replicate}
 use Rattle.cells.proofs.Steps.{Laid, laid-none, fill-more, fill-all}
 use borrow.Author.Needs.{needs}
-use Rattle.cells.proofs.fill_u8.Statement.{statement}
-use Rattle.cells.proofs.fill_u8.Tie as tie
+use Rattle.cells.proofs.bytes.fill_u8.Statement.{statement}
+use Rattle.cells.proofs.bytes.fill_u8.Tie as tie
 
 abbrev Inv-loop : tie.InvT-loop
 Inv-loop s₀ at count value i₀ s i = (i ≤ count) × Laid s₀ at (replicate i value) s

@@ -1,24 +1,24 @@
--- `cells::shift_up_u8` meets its contract: with i turns left all of the stretch from place i on is moved. Assumes nothing.
+-- `cells::bytes::shift_up_u8` meets its contract: all of the stretch from its place `left` on is moved. Assumes nothing.
 use Prim.Native.Nat.{_+_, _-_, _≤_}
 use native.Mathlib.Nat.{sub-self}
 use Rattle.cells.specs.Part.{part}
 use Rattle.cells.specs.PartLaws.{part-none}
 use Rattle.cells.proofs.Steps.{Laid, laid-none, up-more, up-all}
 use borrow.Author.Needs.{needs}
-use Rattle.cells.proofs.shift_up_u8.Statement.{statement}
-use Rattle.cells.proofs.shift_up_u8.Tie as tie
+use Rattle.cells.proofs.bytes.shift_up_u8.Statement.{statement}
+use Rattle.cells.proofs.bytes.shift_up_u8.Tie as tie
 
 abbrev Inv-loop : tie.InvT-loop
-Inv-loop s₀ from to count i₀ s i = (i ≤ count) × Laid s₀ (to + i) (part (from + i) (count - i) s₀) s
+Inv-loop s₀ from to count left₀ s left = (left ≤ count) × Laid s₀ (to + left) (part (from + left) (count - left) s₀) s
 
 abbrev μ-loop : tie.MeasureT-loop
-μ-loop s₀ from to count i₀ s i = i
+μ-loop s₀ from to count left₀ s left = left
 
 loop-holds : tie.Need-loop-holds Inv-loop μ-loop
 loop-holds c = (search needs, rw (sub-self, part-none) (laid-none _ _))
 
-sub-i : tie.Need-sub-i Inv-loop μ-loop
-sub-i c = search needs
+sub-left : tie.Need-sub-left Inv-loop μ-loop
+sub-left c = search needs
 
 add-s : tie.Need-add-s Inv-loop μ-loop
 add-s c = search needs
@@ -36,13 +36,13 @@ loop-less : tie.Need-loop-less Inv-loop μ-loop
 loop-less c = search needs
 
 loop-again : tie.Need-loop-again Inv-loop μ-loop
-loop-again c = (search needs, up-more _ _ _ (c .before .before .loop .i) 0 (c .before .before .loop .inv .1) (search needs) (search needs) (search needs) (search needs))
+loop-again c = (search needs, up-more _ _ _ (c .before .before .loop .left) 0 (c .before .before .loop .inv .1) (search needs) (search needs) (search needs) (search needs))
 
 same-length : tie.Need-same-length Inv-loop μ-loop
 same-length c = search needs
 
 returns : tie.Need-returns Inv-loop μ-loop
-returns c = up-all _ _ _ (c .before .loop .i) (c .before .loop .inv .1) (search needs)
+returns c = up-all _ _ _ (c .before .loop .left) (c .before .loop .inv .1) (search needs)
 
 pub shift-up-u8-spec : {M : Type 1} → statement M
 shift-up-u8-spec =
@@ -51,7 +51,7 @@ shift-up-u8-spec =
     Inv-loop
     μ-loop
     loop-holds
-    sub-i
+    sub-left
     add-s
     slice-read-s
     add-s-2
