@@ -2,11 +2,11 @@
 use Prim.Native.Nat.{ℕ, _+_, _-_, _≤_, _<_}
 use native.Mathlib.Nat.{zero-add, add-zero, sub-zero, le-antisymm}
 use native.Mathlib.Omega.{arith}
-use mathlib.Core.Path.{_≡_, refl, sym, ap, _∙_}
+use mathlib.Core.Path.{_≡_, refl, sym, _∙_}
 use mathlib.Core.List.{List, [], _∷_, _++_}
 use lib.ListN.{length, getD, set, replicate, length-set, length-replicate, replicate-append-replicate}
 use Rattle.cells.specs.Part.{part, put}
-use Rattle.cells.specs.PartLaws.{length-part, part-all, part-none, part-snoc, part-cons, getD-put-before, getD-put-after, put-nil, put-snoc, put-cons}
+use Rattle.cells.specs.PartLaws.{length-part, part-all, part-snoc, part-cons, getD-put-before, getD-put-after, put-nil, put-snoc, put-cons}
 
 module _ {A : Type 0} where
   -- l is d with s laid in from place at, and as long as d

@@ -4,11 +4,11 @@ use Prim.Native.Nat.{ℕ, zero, suc, _+_, _-_, _≤_, _<_}
 use native.Mathlib.Nat.{zero-add, suc-add, add-assoc, add-zero, sub-add-eq}
 use native.Mathlib.Numerals.{add-one}
 use native.Mathlib.Omega.{arith}
-use mathlib.Core.Path.{_≡_, refl, sym, ap, _∙_, subst}
+use mathlib.Core.Path.{_≡_, refl, sym, ap, _∙_}
 use mathlib.Core.List.{List, [], _∷_, _++_, append-assoc, append-nil}
-use lib.ListN.{length, getD, set, take, drop, replicate, length-append, length-take, length-drop, take-append-drop, List·getD-append}
-use lib.Seq.{length-take-le, take-all, drop-length, take-nil, take-suc, drop-cons, take-append-le, drop-append-le, set-split, getD-take, getD-drop, take-take, drop-drop, take-add, take-at, drop-at, append-snoc}
-use borrow.Rule.Slice.PartMut.{midOf, putMid}
+use lib.ListN.{length, getD, set, take, drop, replicate, length-append, length-take, length-drop, take-append-drop, List·getD-append, length-replicate, replicate-append-replicate}
+use lib.Seq.{length-take-le, take-all, drop-length, take-nil, take-suc, drop-cons, take-append-le, drop-append-le, drop-append-add, set-split, take-set-lt, take-set-le, drop-set-lt, drop-set-add, getD-take, getD-drop, take-take, drop-drop, take-add, take-at, drop-at, append-snoc}
+use borrow.Rule.Slice.PartMut.{putMid}
 use Rattle.cells.specs.Part.{part, put}
 
 module _ {A : Type 0} where
@@ -81,6 +81,34 @@ module _ {A : Type 0} where
   unfolding part
   part-drop a n m l = rw (drop-drop a m l)
 
+  -- a part of two lists, in the first and in the second
+  pub part-left : (a n : ℕ) (s t : List A) → a + n ≤ length s → part a n (s ++ t) ≡ part a n s
+  unfolding part
+  part-left a n s t h = rw (drop-append-le a s t (omega arith)) (take-append-le n (drop a s) t (simp length-drop (omega arith)))
+
+  pub part-right : (a n : ℕ) (s t : List A) → part (length s + a) n (s ++ t) ≡ part a n t
+  unfolding part
+  part-right a n s t = rw (drop-append-add s t a)
+
+  pub part-replicate : (a n k : ℕ) (v : A) → a + n ≤ k → part a n (replicate k v) ≡ replicate n v
+  unfolding part
+  part-replicate a n k v h =
+      let e : k ≡ a + (n + (k - (a + n))) = omega arith in
+      rw (e, ← replicate-append-replicate a (n + (k - (a + n))) v, ← replicate-append-replicate n (k - (a + n)) v, drop-at (replicate a v) _ a (length-replicate a v))
+      (take-at (replicate n v) _ n (length-replicate n v))
+
+  -- a store in a part, after it, and before it
+  pub part-set-in : (a n : ℕ) (l : List A) (i : ℕ) (v : A) → i < n → part a n (set l (a + i) v) ≡ set (part a n l) i v
+  unfolding part
+  part-set-in a n l i v h = rw (drop-set-add a l i v) (take-set-lt n (drop a l) i v h)
+
+  pub part-set-after : (a n : ℕ) (l : List A) (i : ℕ) (v : A) → a + n ≤ i → part a n (set l i v) ≡ part a n l
+  part-set-after a n l i v h = sym (part-take a n i (set l i v) h) ∙ rw (take-set-le i l i v (omega arith)) (part-take a n i l h)
+
+  pub part-set-before : (a n : ℕ) (l : List A) (i : ℕ) (v : A) → i < a → part a n (set l i v) ≡ part a n l
+  unfolding part
+  part-set-before a n l i v h = rw (drop-set-lt a l i v h)
+
   -- ---- a put: what lies before it, from its place on, and after it
 
   length-head : (d : List A) (at : ℕ) (s : List A) → at ≤ length d → length (take at d ++ s) ≡ at + length s
@@ -135,8 +163,7 @@ module _ {A : Type 0} where
   pub part-put-within : (i n : ℕ) (d : List A) (at : ℕ) (s : List A) → i + n ≤ length s → at ≤ length d → part (at + i) n (put d at s) ≡ part i n s
   unfolding part
   part-put-within i n d at s b h =
-      rw (← drop-drop i at (put d at s), from-put d at s h, drop-append-le i s _ (omega arith))
-      (take-append-le n (drop i s) _ (simp length-drop (omega arith)))
+      rw (← drop-drop i at (put d at s), from-put d at s h) (part-left i n s _ b)
 
   pub part-put-around : (a n : ℕ) (d : List A) (i : ℕ) (s : List A) → i + length s ≤ n → a + n ≤ length d → part a n (put d (a + i) s) ≡ put (part a n d) i s
   unfolding put
