@@ -1,0 +1,259 @@
+-- The laws of maps over a lawful order of the keys. Keys, values and maps are written out, and what is known of them comes last.
+-- Assumes nothing.
+use mathlib.Core.Bool.{Bool, true, false, cond, _&&_, true≢false, false≢true}
+use mathlib.Core.List.{List, [], _∷_, map}
+use mathlib.Core.Option.{Option, none, some, Option·some-injective, Option·none-ne-some, Option·some-ne-none}
+use mathlib.Core.Path.{_≡_, refl, sym, ap, _∙_}
+use Prim.Native.Nat.{ℕ, suc, _+_, _≤_}
+use native.Mathlib.Nat.{zero-add, add-zero}
+use native.Mathlib.Omega.{arith}
+use lib.ListN.{length}
+use Rattle.maps.specs.Lists.{select, every, sum, mapOption, orElse}
+use Rattle.maps.specs.Maps.{Order, Pair, Map, lookup, insert, remove, store, mergeWith}
+use Rattle.maps.specs.OrderLaws.{Lawful, split, three, below-differs, above-differs, same-sym}
+
+-- a key with its value
+abbrev pub pair : {K A : Type 0} → K → A → Pair K A
+pair k a = record { key = k; val = a }
+
+module _ {K A : Type 0} (o : Order K) where
+  -- k lies below every key of the map
+  unfoldable pub AllBelow : K → Map K A → Type 0
+  AllBelow k [] = Unit {0}
+  AllBelow k (x ∷ xs) = (o .below k (x .key) ≡ true) × AllBelow k xs
+
+  -- each key lies below every later one
+  unfoldable pub Ascending : Map K A → Type 0
+  Ascending [] = Unit {0}
+  Ascending (x ∷ xs) = AllBelow (x .key) xs × Ascending xs
+
+pub ascending-nil : {K : Type 0} (A : Type 0) (o : Order K) → Ascending {A = A} o []
+unfolding Ascending
+ascending-nil A o = tt
+
+pub ascending-cons : {K A : Type 0} (o : Order K) (x : Pair K A) (xs : Map K A) → AllBelow o (x .key) xs → Ascending o xs → Ascending o (x ∷ xs)
+unfolding Ascending
+ascending-cons o x xs b h = (b, h)
+
+pub ascending-head : {K A : Type 0} (o : Order K) (x : Pair K A) (xs : Map K A) → Ascending o (x ∷ xs) → AllBelow o (x .key) xs
+unfolding Ascending
+ascending-head o x xs h = h .0
+
+pub ascending-tail : {K A : Type 0} (o : Order K) (x : Pair K A) (xs : Map K A) → Ascending o (x ∷ xs) → Ascending o xs
+unfolding Ascending
+ascending-tail o x xs h = h .1
+
+module _ {A : Type 0} where
+  -- what b laid over x by f is
+  unfoldable pub laid : (Option A → A → A) → Option A → Option A → Option A
+  laid f x none = x
+  laid f x (some b) = some (f x b)
+
+module _ {K A : Type 0} (o : Order K) (law : Lawful o) where
+  -- ---- what is below all
+
+  pub below-all : (j k : K) (m : Map K A) → o .below j k ≡ true → AllBelow o k m → AllBelow o j m
+  unfolding AllBelow
+  below-all j k [] b h = tt
+  below-all j k (x ∷ xs) b h = (law .below-trans j k (x .key) b (h .0), below-all j k xs b (h .1))
+
+  pub lookup-below : (k : K) (m : Map K A) → AllBelow o k m → lookup o k m ≡ none
+  unfolding AllBelow lookup
+  lookup-below k [] h = refl
+  lookup-below k (x ∷ xs) h = rw (below-differs o law k (x .key) (h .0)) (lookup-below k xs (h .1))
+
+  below-insert : (j k : K) (a : A) (m : Map K A) → o .below j k ≡ true → AllBelow o j m → AllBelow o j (insert o k a m)
+  unfolding AllBelow insert
+  below-insert j k a [] b h = (b, tt)
+  below-insert j k a (x ∷ xs) b h =
+      three o law k (x .key)
+      (λ e p. rw e (b, h .1))
+      (λ e p. rw (e, p) (b, h))
+      (λ e p q. rw (e, p) (h .0, below-insert j k a xs b (h .1)))
+
+  below-remove : (j k : K) (m : Map K A) → AllBelow o j m → AllBelow o j (remove o k m)
+  unfolding AllBelow remove
+  below-remove j k [] h = tt
+  below-remove j k (x ∷ xs) h = split (o .same k (x .key)) (λ e. rw e (h .1)) (λ e. rw e (h .0, below-remove j k xs (h .1)))
+
+  -- ---- the keys still ascend
+
+  pub ascending-insert : (k : K) (a : A) (m : Map K A) → Ascending o m → Ascending o (insert o k a m)
+  unfolding AllBelow Ascending insert
+  ascending-insert k a [] h = (tt, tt)
+  ascending-insert k a (x ∷ xs) h =
+      three o law k (x .key)
+      (λ e p. rw (e, p) h)
+      (λ e p. rw (e, p) ((p, below-all k (x .key) xs p (h .0)), h))
+      (λ e p q. rw (e, p) (below-insert (x .key) k a xs q (h .0), ascending-insert k a xs (h .1)))
+
+  pub ascending-remove : (k : K) (m : Map K A) → Ascending o m → Ascending o (remove o k m)
+  unfolding Ascending remove
+  ascending-remove k [] h = tt
+  ascending-remove k (x ∷ xs) h =
+      split (o .same k (x .key)) (λ e. rw e (h .1)) (λ e. rw e (below-remove (x .key) k xs (h .0), ascending-remove k xs (h .1)))
+
+  pub ascending-store : (k : K) (x : Option A) (m : Map K A) → Ascending o m → Ascending o (store o k x m)
+  unfolding store
+  ascending-store k none m h = ascending-remove k m h
+  ascending-store k (some a) m h = ascending-insert k a m h
+
+  pub ascending-mergeWith : (f : Option A → A → A) (older newer : Map K A) → Ascending o older → Ascending o (mergeWith o f older newer)
+  unfolding mergeWith
+  ascending-mergeWith f older [] h = h
+  ascending-mergeWith f older (x ∷ xs) h = ascending-mergeWith f _ xs (ascending-insert (x .key) (f (lookup o (x .key) older) (x .val)) older h)
+
+  -- ---- lookups
+
+  pub lookup-insert-same : (k : K) (a : A) (m : Map K A) → lookup o k (insert o k a m) ≡ some a
+  unfolding lookup insert
+  lookup-insert-same k a [] = rw (law .same-refl k)
+  lookup-insert-same k a (x ∷ xs) =
+      three o law k (x .key)
+      (λ e p. rw (e, law .same-refl k))
+      (λ e p. rw (e, p, law .same-refl k))
+      (λ e p q. rw (e, p, e) (lookup-insert-same k a xs))
+
+  pub lookup-insert-other : (j k : K) (a : A) (m : Map K A) → o .same j k ≡ false → lookup o j (insert o k a m) ≡ lookup o j m
+  unfolding lookup insert
+  lookup-insert-other j k a [] n = rw n
+  lookup-insert-other j k a (x ∷ xs) n =
+      three o law k (x .key)
+      (λ e p. let q : o .same j (x .key) ≡ false = rw p at n in rw (e, n, q))
+      (λ e p. rw (e, p, n))
+      (λ e p q. rw (e, p) (ap (λ z. cond (o .same j (x .key)) (some (x .val)) z) (lookup-insert-other j k a xs n)))
+
+  pub lookup-remove-same : (k : K) (m : Map K A) → Ascending o m → lookup o k (remove o k m) ≡ none
+  unfolding lookup remove Ascending
+  lookup-remove-same k [] h = refl
+  lookup-remove-same k (x ∷ xs) h =
+      split (o .same k (x .key))
+      (λ e. rw e (rw (law .same-eq k (x .key) e) (lookup-below (x .key) xs (h .0))))
+      (λ e. rw (e, e) (lookup-remove-same k xs (h .1)))
+
+  pub lookup-remove-other : (j k : K) (m : Map K A) → o .same j k ≡ false → lookup o j (remove o k m) ≡ lookup o j m
+  unfolding lookup remove
+  lookup-remove-other j k [] n = refl
+  lookup-remove-other j k (x ∷ xs) n =
+      split (o .same k (x .key))
+      (λ e. let q : o .same j (x .key) ≡ false = rw (law .same-eq k (x .key) e) at n in rw (e, q))
+      (λ e. rw e (ap (λ z. cond (o .same j (x .key)) (some (x .val)) z) (lookup-remove-other j k xs n)))
+
+  pub lookup-store-same : (k : K) (x : Option A) (m : Map K A) → Ascending o m → lookup o k (store o k x m) ≡ x
+  unfolding store
+  lookup-store-same k none m h = lookup-remove-same k m h
+  lookup-store-same k (some a) m h = lookup-insert-same k a m
+
+  pub lookup-store-other : (j k : K) (x : Option A) (m : Map K A) → o .same j k ≡ false → lookup o j (store o k x m) ≡ lookup o j m
+  unfolding store
+  lookup-store-other j k none m n = lookup-remove-other j k m n
+  lookup-store-other j k (some a) m n = lookup-insert-other j k a m n
+
+  pub lookup-mergeWith : (f : Option A → A → A) (k : K) (older newer : Map K A) → Ascending o newer → lookup o k (mergeWith o f older newer) ≡ laid f (lookup o k older) (lookup o k newer)
+  unfolding mergeWith laid lookup Ascending
+  lookup-mergeWith f k older [] h = refl
+  lookup-mergeWith f k older (x ∷ xs) h =
+      let j = x .key in
+      let v = f (lookup o j older) (x .val) in
+      lookup-mergeWith f k (insert o j v older) xs (h .1)
+      ∙ split (o .same k j)
+      (λ e. rw (e, law .same-eq k j e, lookup-below j xs (h .0), lookup-insert-same j v older))
+      (λ e. rw (e, lookup-insert-other k j v older e))
+
+  lookup-head : (x : Pair K A) (xs : Map K A) → lookup o (x .key) (x ∷ xs) ≡ some (x .val)
+  unfolding lookup
+  lookup-head x xs = rw (law .same-refl (x .key))
+
+  -- ---- a map is what its lookups say
+
+  tails : (x y : Pair K A) (xs ys : Map K A) → x .key ≡ y .key → AllBelow o (x .key) xs → AllBelow o (y .key) ys → ((k : K) → lookup o k (x ∷ xs) ≡ lookup o k (y ∷ ys)) → (k : K) → lookup o k xs ≡ lookup o k ys
+  unfolding lookup
+  tails x y xs ys p hx hy e k =
+      split (o .same k (x .key))
+      (λ s. rw (law .same-eq k (x .key) s) (lookup-below (x .key) xs hx ∙ sym (rw (← p) at (lookup-below (y .key) ys hy))))
+      (λ s. let t : o .same k (y .key) ≡ false = rw p at s in rw (s, t) at (e k))
+
+  pub ext : (m n : Map K A) → Ascending o m → Ascending o n → ((k : K) → lookup o k m ≡ lookup o k n) → m ≡ n
+  unfolding lookup AllBelow Ascending
+  ext [] [] hm hn e = refl
+  ext [] (y ∷ ys) hm hn e = absurd (Option·none-ne-some _ (e (y .key) ∙ lookup-head y ys))
+  ext (x ∷ xs) [] hm hn e = absurd (Option·some-ne-none _ (sym (lookup-head x xs) ∙ e (x .key)))
+  ext (x ∷ xs) (y ∷ ys) hm hn e =
+      three o law (x .key) (y .key)
+      (λ s p.
+      let v : x .val ≡ y .val = Option·some-injective _ _ (sym (lookup-head x xs) ∙ e (x .key) ∙ rw p (lookup-head y ys)) in
+      let t : xs ≡ ys = ext xs ys (hm .1) (hn .1) (tails x y xs ys p (hm .0) (hn .0) e) in
+      λ i. pair (p i) (v i) ∷ t i)
+      (λ s p. absurd (Option·some-ne-none _ (sym (lookup-head x xs) ∙ e (x .key) ∙ lookup-below (x .key) (y ∷ ys) (p, below-all (x .key) (y .key) ys p (hn .0)))))
+      (λ s p q. absurd (Option·some-ne-none _ (sym (lookup-head y ys) ∙ sym (e (y .key)) ∙ lookup-below (y .key) (x ∷ xs) (q, below-all (y .key) (x .key) xs q (hm .0)))))
+
+  -- ---- what is there, or absent, already
+
+  -- a key before the first is absent
+  absent : (k : K) (a : A) (x : Pair K A) (xs : Map K A) → Ascending o (x ∷ xs) → o .below k (x .key) ≡ true → lookup o k (x ∷ xs) ≡ some a → ⊥
+  unfolding AllBelow Ascending
+  absent k a x xs h b e = Option·some-ne-none _ (sym e ∙ lookup-below k (x ∷ xs) (b, below-all k (x .key) xs b (h .0)))
+
+  pub insert-again : (k : K) (a : A) (m : Map K A) → lookup o k m ≡ some a → Ascending o m → insert o k a m ≡ m
+  unfolding lookup insert Ascending
+  insert-again k a [] e h = absurd (Option·none-ne-some _ e)
+  insert-again k a (x ∷ xs) e h =
+      three o law k (x .key)
+      (λ s p. rw s (let v : a ≡ x .val = sym (Option·some-injective _ _ (rw s at e)) in λ i. pair (p i) (v i) ∷ xs))
+      (λ s p. absurd (absent k a x xs h p e))
+      (λ s p q. rw (s, p) (ap (λ z. x ∷ z) (insert-again k a xs (rw s at e) (h .1))))
+
+  pub remove-absent : (k : K) (m : Map K A) → lookup o k m ≡ none → remove o k m ≡ m
+  unfolding lookup remove
+  remove-absent k [] e = refl
+  remove-absent k (x ∷ xs) e =
+      split (o .same k (x .key))
+      (λ s. absurd (Option·some-ne-none _ (rw s at e)))
+      (λ s. rw s (ap (λ z. x ∷ z) (remove-absent k xs (rw s at e))))
+
+  pub store-again : (k : K) (x : Option A) (m : Map K A) → lookup o k m ≡ x → Ascending o m → store o k x m ≡ m
+  unfolding store
+  store-again k none m e h = remove-absent k m e
+  store-again k (some a) m e h = insert-again k a m e h
+
+  -- ---- sums over a map
+
+  pub sum-insert-none : (g : Pair K A → ℕ) (k : K) (a : A) (m : Map K A) → lookup o k m ≡ none → sum g (insert o k a m) ≡ g (pair k a) + sum g m
+  unfolding lookup insert sum
+  sum-insert-none g k a [] e = refl
+  sum-insert-none g k a (x ∷ xs) e =
+      three o law k (x .key)
+      (λ s p. absurd (Option·some-ne-none _ (rw s at e)))
+      (λ s p. rw (s, p))
+      (λ s p q. rw (s, p) (let ih = sum-insert-none g k a xs (rw s at e) in omega (arith, ih)))
+
+  pub sum-insert-some : (g : Pair K A → ℕ) (k : K) (a b : A) (m : Map K A) → lookup o k m ≡ some b → Ascending o m → sum g (insert o k a m) + g (pair k b) ≡ g (pair k a) + sum g m
+  unfolding lookup insert sum Ascending
+  sum-insert-some g k a b [] e h = absurd (Option·none-ne-some _ e)
+  sum-insert-some g k a b (x ∷ xs) e h =
+      three o law k (x .key)
+      (λ s p. rw s (let v : g x ≡ g (pair k b) = λ i. g (pair (sym p i) (Option·some-injective _ _ (rw s at e) i)) in omega (arith, v)))
+      (λ s p. absurd (absent k b x xs h p e))
+      (λ s p q. rw (s, p) (let ih = sum-insert-some g k a b xs (rw s at e) (h .1) in omega (arith, ih)))
+
+  pub sum-remove-some : (g : Pair K A → ℕ) (k : K) (b : A) (m : Map K A) → lookup o k m ≡ some b → sum g (remove o k m) + g (pair k b) ≡ sum g m
+  unfolding lookup remove sum
+  sum-remove-some g k b [] e = absurd (Option·none-ne-some _ e)
+  sum-remove-some g k b (x ∷ xs) e =
+      split (o .same k (x .key))
+      (λ s. rw s (let v : g x ≡ g (pair k b) = λ i. g (pair (sym (law .same-eq k (x .key) s) i) (Option·some-injective _ _ (rw s at e) i)) in omega (arith, v)))
+      (λ s. rw s (let ih = sum-remove-some g k b xs (rw s at e) in omega (arith, ih)))
+
+  -- what is stored comes in, what was there goes out
+  pub sum-store : (g : Pair K A → ℕ) (k : K) (x : Option A) (m : Map K A) → Ascending o m → sum g (store o k x m) + orElse 0 (λ a. g (pair k a)) (lookup o k m) ≡ orElse 0 (λ a. g (pair k a)) x + sum g m
+  unfolding store orElse
+  sum-store g k none m h = go (lookup o k m) refl
+    where
+      go : (y : Option A) → lookup o k m ≡ y → sum g (remove o k m) + orElse 0 (λ a. g (pair k a)) (lookup o k m) ≡ 0 + sum g m
+      go none e = rw (e, remove-absent k m e) (omega arith)
+      go (some b) e = rw e (let s = sum-remove-some g k b m e in omega arith)
+  sum-store g k (some c) m h = go (lookup o k m) refl
+    where
+      go : (y : Option A) → lookup o k m ≡ y → sum g (insert o k c m) + orElse 0 (λ a. g (pair k a)) (lookup o k m) ≡ g (pair k c) + sum g m
+      go none e = rw (e, sum-insert-none g k c m e) (omega arith)
+      go (some b) e = rw e (sum-insert-some g k c b m e h)
