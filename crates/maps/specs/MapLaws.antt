@@ -1,16 +1,15 @@
 -- The laws of maps over a lawful order of the keys. Keys, values and maps are written out, and what is known of them comes last.
 -- Assumes nothing.
-use mathlib.Core.Bool.{Bool, true, false, cond, _&&_, true≢false, false≢true}
-use mathlib.Core.List.{List, [], _∷_, map}
+use mathlib.Core.Bool.{Bool, true, false, cond}
+use mathlib.Core.List.{[], _∷_, _++_, map}
 use mathlib.Core.Option.{Option, none, some, Option·some-injective, Option·none-ne-some, Option·some-ne-none}
 use mathlib.Core.Path.{_≡_, refl, sym, ap, _∙_}
-use Prim.Native.Nat.{ℕ, suc, _+_, _≤_}
-use native.Mathlib.Nat.{zero-add, add-zero}
+use Prim.Native.Nat.{ℕ, zero, suc, _+_, _≤_, _<_}
 use native.Mathlib.Omega.{arith}
-use lib.ListN.{length}
+use lib.ListN.{length, getD}
 use Rattle.maps.specs.Lists.{select, every, sum, mapOption, orElse}
 use Rattle.maps.specs.Maps.{Order, Pair, Map, lookup, insert, remove, store, mergeWith}
-use Rattle.maps.specs.OrderLaws.{Lawful, split, three, below-differs, above-differs, same-sym}
+use Rattle.maps.specs.OrderLaws.{Lawful, split, and-both, three, below-differs, above-differs, below-not-back}
 
 -- a key with its value
 abbrev pub pair : {K A : Type 0} → K → A → Pair K A
@@ -48,6 +47,11 @@ module _ {A : Type 0} where
   unfoldable pub laid : (Option A → A → A) → Option A → Option A → Option A
   laid f x none = x
   laid f x (some b) = some (f x b)
+
+  -- what is there, if it meets p
+  unfoldable pub kept : (A → Bool) → Option A → Option A
+  kept p none = none
+  kept p (some a) = cond (p a) (some a) none
 
 module _ {K A : Type 0} (o : Order K) (law : Lawful o) where
   -- ---- what is below all
@@ -149,6 +153,13 @@ module _ {K A : Type 0} (o : Order K) (law : Lawful o) where
   lookup-store-other j k none m n = lookup-remove-other j k m n
   lookup-store-other j k (some a) m n = lookup-insert-other j k a m n
 
+  -- the same as one equation
+  pub lookup-store : (j k : K) (x : Option A) (m : Map K A) → Ascending o m → lookup o j (store o k x m) ≡ cond (o .same j k) x (lookup o j m)
+  lookup-store j k x m h =
+      split (o .same j k)
+      (λ e. rw e (rw (law .same-eq j k e) (lookup-store-same k x m h)))
+      (λ e. rw e (lookup-store-other j k x m e))
+
   pub lookup-mergeWith : (f : Option A → A → A) (k : K) (older newer : Map K A) → Ascending o newer → lookup o k (mergeWith o f older newer) ≡ laid f (lookup o k older) (lookup o k newer)
   unfolding mergeWith laid lookup Ascending
   lookup-mergeWith f k older [] h = refl
@@ -160,7 +171,7 @@ module _ {K A : Type 0} (o : Order K) (law : Lawful o) where
       (λ e. rw (e, law .same-eq k j e, lookup-below j xs (h .0), lookup-insert-same j v older))
       (λ e. rw (e, lookup-insert-other k j v older e))
 
-  lookup-head : (x : Pair K A) (xs : Map K A) → lookup o (x .key) (x ∷ xs) ≡ some (x .val)
+  pub lookup-head : (x : Pair K A) (xs : Map K A) → lookup o (x .key) (x ∷ xs) ≡ some (x .val)
   unfolding lookup
   lookup-head x xs = rw (law .same-refl (x .key))
 
@@ -257,3 +268,248 @@ module _ {K A : Type 0} (o : Order K) (law : Lawful o) where
       go : (y : Option A) → lookup o k m ≡ y → sum g (insert o k c m) + orElse 0 (λ a. g (pair k a)) (lookup o k m) ≡ g (pair k c) + sum g m
       go none e = rw (e, sum-insert-none g k c m e) (omega arith)
       go (some b) e = rw e (sum-insert-some g k c b m e h)
+
+  -- ---- lengths
+
+  pub length-insert-none : (k : K) (a : A) (m : Map K A) → lookup o k m ≡ none → length (insert o k a m) ≡ suc (length m)
+  unfolding lookup insert
+  length-insert-none k a [] e = refl
+  length-insert-none k a (x ∷ xs) e =
+      three o law k (x .key)
+      (λ s p. absurd (Option·some-ne-none _ (rw s at e)))
+      (λ s p. rw (s, p))
+      (λ s p q. rw (s, p) (ap suc (length-insert-none k a xs (rw s at e))))
+
+  pub length-insert-some : (k : K) (a b : A) (m : Map K A) → lookup o k m ≡ some b → Ascending o m → length (insert o k a m) ≡ length m
+  unfolding lookup insert Ascending
+  length-insert-some k a b [] e h = absurd (Option·none-ne-some _ e)
+  length-insert-some k a b (x ∷ xs) e h =
+      three o law k (x .key)
+      (λ s p. rw s)
+      (λ s p. absurd (absent k b x xs h p e))
+      (λ s p q. rw (s, p) (ap suc (length-insert-some k a b xs (rw s at e) (h .1))))
+
+  pub length-insert-le : (k : K) (a : A) (m : Map K A) → length m ≤ length (insert o k a m)
+  unfolding insert
+  length-insert-le k a [] = omega arith
+  length-insert-le k a (x ∷ xs) =
+      three o law k (x .key)
+      (λ s p. rw s (omega arith))
+      (λ s p. rw (s, p) (omega arith))
+      (λ s p q. rw (s, p) (let ih = length-insert-le k a xs in omega arith))
+
+  pub length-remove-some : (k : K) (b : A) (m : Map K A) → lookup o k m ≡ some b → suc (length (remove o k m)) ≡ length m
+  unfolding lookup remove
+  length-remove-some k b [] e = absurd (Option·none-ne-some _ e)
+  length-remove-some k b (x ∷ xs) e = split (o .same k (x .key)) (λ s. rw s) (λ s. rw s (ap suc (length-remove-some k b xs (rw s at e))))
+
+  pub length-remove-none : (k : K) (m : Map K A) → lookup o k m ≡ none → length (remove o k m) ≡ length m
+  length-remove-none k m e = rw (remove-absent k m e)
+
+  pub length-remove-le : (k : K) (m : Map K A) → length (remove o k m) ≤ length m
+  unfolding remove
+  length-remove-le k [] = omega arith
+  length-remove-le k (x ∷ xs) =
+      split (o .same k (x .key)) (λ s. rw s (omega arith)) (λ s. rw s (let ih = length-remove-le k xs in omega arith))
+
+  pub length-older : (f : Option A → A → A) (older newer : Map K A) → length older ≤ length (mergeWith o f older newer)
+  unfolding mergeWith
+  length-older f older [] = omega arith
+  length-older f older (x ∷ xs) =
+      let v = f (lookup o (x .key) older) (x .val) in
+      let ih = length-older f (insert o (x .key) v older) xs in
+      let st = length-insert-le (x .key) v older in
+      omega arith
+
+  -- ---- every pair of a map
+
+  pub every-lookup : (P : Pair K A → Bool) (k : K) (a : A) (m : Map K A) → every P m ≡ true → lookup o k m ≡ some a → P (pair k a) ≡ true
+  unfolding lookup every
+  every-lookup P k a [] h e = absurd (Option·none-ne-some _ e)
+  every-lookup P k a (x ∷ xs) h e =
+      and-both (P x) (every P xs) h
+      (λ p q. split (o .same k (x .key))
+      (λ s. (λ i. P (pair (law .same-eq k (x .key) s i) (sym (Option·some-injective _ _ (rw s at e)) i))) ∙ p)
+      (λ s. every-lookup P k a xs q (rw s at e)))
+
+  pub every-intro : (P : Pair K A → Bool) (m : Map K A) → Ascending o m → ((k : K) (a : A) → lookup o k m ≡ some a → P (pair k a) ≡ true) → every P m ≡ true
+  unfolding lookup every Ascending
+  every-intro P [] h f = refl
+  every-intro P (x ∷ xs) h f =
+      rw (f (x .key) (x .val) (lookup-head x xs))
+      (every-intro P xs (h .1)
+      (λ k a e. split (o .same k (x .key))
+      (λ s. absurd (Option·some-ne-none _ (sym e ∙ rw (law .same-eq k (x .key) s) (lookup-below (x .key) xs (h .0)))))
+      (λ s. f k a (rw s e))))
+
+  pub every-insert : (P : Pair K A → Bool) (k : K) (a : A) (m : Map K A) → every P m ≡ true → P (pair k a) ≡ true → every P (insert o k a m) ≡ true
+  unfolding insert every
+  every-insert P k a [] h e = rw e
+  every-insert P k a (x ∷ xs) h e =
+      and-both (P x) (every P xs) h
+      (λ p q. three o law k (x .key)
+      (λ s r. rw (s, e) q)
+      (λ s r. rw (s, r, e) h)
+      (λ s r t. rw (s, r, p) (every-insert P k a xs q e)))
+
+  pub every-remove : (P : Pair K A → Bool) (k : K) (m : Map K A) → every P m ≡ true → every P (remove o k m) ≡ true
+  unfolding remove every
+  every-remove P k [] h = refl
+  every-remove P k (x ∷ xs) h =
+      and-both (P x) (every P xs) h
+      (λ p q. split (o .same k (x .key)) (λ s. rw s q) (λ s. rw (s, p) (every-remove P k xs q)))
+
+  pub every-store : (P : Pair K A → Bool) (k : K) (x : Option A) (m : Map K A) → every P m ≡ true → ((a : A) → x ≡ some a → P (pair k a) ≡ true) → every P (store o k x m) ≡ true
+  unfolding store
+  every-store P k none m h f = every-remove P k m h
+  every-store P k (some a) m h f = every-insert P k a m h (f a refl)
+
+  -- ---- the pairs that meet a test
+
+  below-select : (j : K) (P : Pair K A → Bool) (m : Map K A) → AllBelow o j m → AllBelow o j (select P m)
+  unfolding AllBelow select
+  below-select j P [] h = tt
+  below-select j P (x ∷ xs) h = split (P x) (λ e. rw e (h .0, below-select j P xs (h .1))) (λ e. rw e (below-select j P xs (h .1)))
+
+  pub ascending-select : (P : Pair K A → Bool) (m : Map K A) → Ascending o m → Ascending o (select P m)
+  unfolding Ascending select
+  ascending-select P [] h = tt
+  ascending-select P (x ∷ xs) h =
+      split (P x) (λ e. rw e (below-select (x .key) P xs (h .0), ascending-select P xs (h .1))) (λ e. rw e (ascending-select P xs (h .1)))
+
+  pub lookup-select : (P : Pair K A → Bool) (k : K) (m : Map K A) → Ascending o m → lookup o k (select P m) ≡ kept (λ a. P (pair k a)) (lookup o k m)
+  unfolding lookup select kept Ascending
+  lookup-select P k [] h = refl
+  lookup-select P k (x ∷ xs) h =
+      split (o .same k (x .key))
+      (λ s.
+      let p = law .same-eq k (x .key) s in
+      let n : lookup o k (select P xs) ≡ none = rw p (lookup-below (x .key) (select P xs) (below-select (x .key) P xs (h .0))) in
+      split (P x) (λ e. rw (e, s, p, e)) (λ e. rw (e, s, n, p, e)))
+      (λ s. split (P x) (λ e. rw (e, s) (lookup-select P k xs (h .1))) (λ e. rw (e, s) (lookup-select P k xs (h .1))))
+
+  -- ---- places: what lies before k, and at k
+
+  -- past the pairs whose keys lie below k
+  pub lookup-past : (k : K) (xs ys : Map K A) → every (λ p. o .below (p .key) k) xs ≡ true → lookup o k (xs ++ ys) ≡ lookup o k ys
+  unfolding lookup every
+  lookup-past k [] ys h = refl
+  lookup-past k (x ∷ xs) ys h =
+      and-both (o .below (x .key) k) _ h (λ p q. rw (above-differs o law (x .key) k p) (lookup-past k xs ys q))
+
+  pub remove-past : (k : K) (xs ys : Map K A) → every (λ p. o .below (p .key) k) xs ≡ true → remove o k (xs ++ ys) ≡ xs ++ remove o k ys
+  unfolding remove every
+  remove-past k [] ys h = refl
+  remove-past k (x ∷ xs) ys h =
+      and-both (o .below (x .key) k) _ h (λ p q. rw (above-differs o law (x .key) k p) (ap (λ z. x ∷ z) (remove-past k xs ys q)))
+
+  pub insert-past : (k : K) (a : A) (xs ys : Map K A) → every (λ p. o .below (p .key) k) xs ≡ true → insert o k a (xs ++ ys) ≡ xs ++ insert o k a ys
+  unfolding insert every
+  insert-past k a [] ys h = refl
+  insert-past k a (x ∷ xs) ys h =
+      and-both (o .below (x .key) k) _ h
+      (λ p q. rw (above-differs o law (x .key) k p, below-not-back o law (x .key) k p) (ap (λ z. x ∷ z) (insert-past k a xs ys q)))
+
+  -- at the first pair: k itself, or a later key
+  pub lookup-here : (k : K) (x : Pair K A) (xs : Map K A) → o .same k (x .key) ≡ true → lookup o k (x ∷ xs) ≡ some (x .val)
+  unfolding lookup
+  lookup-here k x xs e = rw e
+
+  pub insert-here : (k : K) (a : A) (x : Pair K A) (xs : Map K A) → o .same k (x .key) ≡ true → insert o k a (x ∷ xs) ≡ pair k a ∷ xs
+  unfolding insert
+  insert-here k a x xs e = rw e
+
+  pub remove-here : (k : K) (x : Pair K A) (xs : Map K A) → o .same k (x .key) ≡ true → remove o k (x ∷ xs) ≡ xs
+  unfolding remove
+  remove-here k x xs e = rw e
+
+  pub insert-below : (k : K) (a : A) (m : Map K A) → AllBelow o k m → insert o k a m ≡ pair k a ∷ m
+  unfolding insert AllBelow
+  insert-below k a [] h = refl
+  insert-below k a (x ∷ xs) h = rw (below-differs o law k (x .key) (h .0), h .0)
+
+  -- a key below the first pair's is below all
+  pub below-first : (k : K) (x : Pair K A) (xs : Map K A) → Ascending o (x ∷ xs) → o .below k (x .key) ≡ true → AllBelow o k (x ∷ xs)
+  unfolding AllBelow Ascending
+  below-first k x xs h b = (b, below-all k (x .key) xs b (h .0))
+
+  below-getD : (k : K) (m : Map K A) (i : ℕ) (z : Pair K A) → AllBelow o k m → i < length m → o .below k (getD m i z .key) ≡ true
+  unfolding AllBelow
+  below-getD k [] i z h l = absurd (omega arith)
+  below-getD k (x ∷ xs) zero z h l = h .0
+  below-getD k (x ∷ xs) (suc i) z h l = below-getD k xs i z (h .1) (omega arith)
+
+  pub ascending-getD : (m : Map K A) (i j : ℕ) (z : Pair K A) → Ascending o m → i < j → j < length m → o .below (getD m i z .key) (getD m j z .key) ≡ true
+  unfolding Ascending
+  ascending-getD [] i j z h l b = absurd (omega arith)
+  ascending-getD (x ∷ xs) i zero z h l b = absurd (omega arith)
+  ascending-getD (x ∷ xs) zero (suc j) z h l b = below-getD (x .key) xs j z (h .0) (omega arith)
+  ascending-getD (x ∷ xs) (suc i) (suc j) z h l b = ascending-getD xs i j z (h .1) (omega arith) (omega arith)
+
+  -- neighbours in order are enough
+  pub ascending-if : (m : Map K A) (z : Pair K A) → ((i : ℕ) → suc i < length m → o .below (getD m i z .key) (getD m (suc i) z .key) ≡ true) → Ascending o m
+  unfolding Ascending AllBelow
+  ascending-if [] z f = tt
+  ascending-if (x ∷ []) z f = (tt, tt)
+  ascending-if (x ∷ (y ∷ ys)) z f =
+      let t = ascending-if (y ∷ ys) z (λ i l. f (suc i) (omega arith)) in
+      (below-first (x .key) y ys t (f 0 (omega arith)), t)
+
+  pub lookup-getD : (m : Map K A) (i : ℕ) (z : Pair K A) → Ascending o m → i < length m → lookup o (getD m i z .key) m ≡ some (getD m i z .val)
+  unfolding lookup Ascending
+  lookup-getD [] i z h l = absurd (omega arith)
+  lookup-getD (x ∷ xs) zero z h l = lookup-head x xs
+  lookup-getD (x ∷ xs) (suc i) z h l =
+      rw (above-differs o law (x .key) (getD xs i z .key) (below-getD (x .key) xs i z (h .0) (omega arith))) (lookup-getD xs i z (h .1) (omega arith))
+
+  -- what is found has a place
+  pub lookup-place : (k : K) (a : A) (m : Map K A) (z : Pair K A) → lookup o k m ≡ some a → (i : ℕ) × (i < length m) × (getD m i z ≡ pair k a)
+  unfolding lookup
+  lookup-place k a [] z e = absurd (Option·none-ne-some _ e)
+  lookup-place k a (x ∷ xs) z e =
+      split (o .same k (x .key))
+      (λ s. (0, omega arith, λ i. pair (sym (law .same-eq k (x .key) s) i) (Option·some-injective _ _ (rw s at e) i)))
+      (λ s. let r = lookup-place k a xs z (rw s at e) in (suc (r .0), omega (arith, r .1), r .2))
+
+module _ {K A B : Type 0} (o : Order K) (law : Lawful o) where
+  -- no longer than a map that has all its keys
+  pub length-sub : (m : Map K A) (n : Map K B) → Ascending o m → ((k : K) → lookup o k n ≡ none → lookup o k m ≡ none) → length m ≤ length n
+  unfolding lookup Ascending
+  length-sub [] n h f = omega arith
+  length-sub (x ∷ xs) n h f = go (lookup o (x .key) n) refl (length-sub xs (remove o (x .key) n) (h .1))
+    where
+      go : (y : Option B) → lookup o (x .key) n ≡ y → (((k : K) → lookup o k (remove o (x .key) n) ≡ none → lookup o k xs ≡ none) → length xs ≤ length (remove o (x .key) n)) → suc (length xs) ≤ length n
+      go none e ih = absurd (Option·some-ne-none _ (sym (lookup-head o law x xs) ∙ f (x .key) e))
+      go (some b) e ih =
+          let l = ih (λ k z. split (o .same k (x .key))
+          (λ s. rw (law .same-eq k (x .key) s) (lookup-below o law (x .key) xs (h .0)))
+          (λ s. rw s at (f k (sym (lookup-remove-other o law k (x .key) n s) ∙ z)))) in
+          let r = length-remove-some o law (x .key) b n e in
+          omega arith
+
+  below-map : (f : A → B) (j : K) (m : Map K A) → AllBelow o j m → AllBelow o j (map (λ p. pair (p .key) (f (p .val))) m)
+  unfolding AllBelow
+  below-map f j [] h = tt
+  below-map f j (x ∷ xs) h = (h .0, below-map f j xs (h .1))
+
+  -- the values changed, the keys kept
+  pub ascending-map : (f : A → B) (m : Map K A) → Ascending o m → Ascending o (map (λ p. pair (p .key) (f (p .val))) m)
+  unfolding Ascending
+  ascending-map f [] h = tt
+  ascending-map f (x ∷ xs) h = (below-map f (x .key) xs (h .0), ascending-map f xs (h .1))
+
+  pub lookup-map : (f : A → B) (k : K) (m : Map K A) → lookup o k (map (λ p. pair (p .key) (f (p .val))) m) ≡ mapOption f (lookup o k m)
+  unfolding lookup mapOption
+  lookup-map f k [] = refl
+  lookup-map f k (x ∷ xs) = split (o .same k (x .key)) (λ s. rw s) (λ s. rw s (lookup-map f k xs))
+
+module _ {K A : Type 0} (o : Order K) (law : Lawful o) where
+  laid-none : (f : Option A → A → A) (x y : Option A) → laid f x y ≡ none → y ≡ none
+  unfolding laid
+  laid-none f x none e = refl
+  laid-none f x (some b) e = absurd (Option·some-ne-none _ e)
+
+  pub length-newer : (f : Option A → A → A) (older newer : Map K A) → Ascending o newer → length newer ≤ length (mergeWith o f older newer)
+  length-newer f older newer h =
+      length-sub o law newer (mergeWith o f older newer) h
+      (λ k e. laid-none f (lookup o k older) (lookup o k newer) (sym (lookup-mergeWith o law f k older newer h) ∙ e))
