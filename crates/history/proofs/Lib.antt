@@ -1,3 +1,4 @@
 -- The proof of demand 3: laws of windows, one group, contexts, the rule of what is held, and the theorem.
 pub mod Windows
 pub mod Group
+pub mod Contexts
