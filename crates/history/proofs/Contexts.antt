@@ -437,3 +437,77 @@ module _ (pass newer : Context) (older : ℕ → Option Table) (groups : (g : �
       let p = fits-parts pass h in
       let l = length-sub numbers numbersLawful (newer .groups) (pass .groups) asc none-newer in
       fits-of newer (record { few-groups = omega arith; small-tables = small-newer (p .small-tables); few-tombs = omega arith; few-cleaned = omega arith; few-waiting = ap waitingFits w ∙ p .few-waiting })
+
+-- ---- a step of the pass is a step of the newer context
+
+-- the group's table where the step is made leaves an entry or has none
+unfoldable pub LeavesAt : LogItem → Context → Type 0
+LeavesAt it c = Leaves (it .content) (lookup numbers (it .group) (c .groups))
+
+pub record Stepped (older pass newer : Context) (x : Placed) : Type 0 where
+  pub next : Context
+  pub taken : step limited replayAppend x newer ≡ ok next
+  pub related : Related older pass next
+  pub leaves : LeavesAt (x .item) newer
+
+-- one group: at the item's own number, and at another
+at-group : (g k : ℕ) (x : Content) (o s n p m : Option Table) → (eqb g k ≡ true → s ≡ lay (effected x o) n) → p ≡ lay o m → cond (eqb g k) s p ≡ lay (cond (eqb k g) (effected x o) o) (cond (eqb g k) n m)
+at-group g k x o s n p m h e =
+    split (eqb g k)
+    (λ u. rw (u, eq-eqb k g (sym (eqb-true g k u))) (h u))
+    (λ u. rw (u, ne-eqb k g (λ z. eqb-false g k u (sym z))) e)
+
+module _ (older pass newer : Context) (x : Placed) (r : Related older pass newer) where
+  abbrev tombedOlder : ℕ → Option Table
+  tombedOlder g = tombed g (newer .tombstones) (lookup numbers g (older .groups))
+
+  -- after the step the pass's groups are the newer ones laid over the older ones
+  next-groups : (s n : Option Table) → s ≡ lay (effected (x .item .content) (tombedOlder (x .item .group))) n → (g : ℕ) → lookup numbers g (store numbers (x .item .group) s (pass .groups)) ≡ lay (tombed g (newer .tombstones ++ tombOf (x .item)) (lookup numbers g (older .groups))) (lookup numbers g (store numbers (x .item .group) n (newer .groups)))
+  next-groups s n e g =
+      lookup-store numbers numbersLawful g (x .item .group) s (pass .groups) (r .good-pass .ascend)
+      ∙ at-group g (x .item .group) (x .item .content) (tombedOlder g) s n (lookup numbers g (pass .groups)) (lookup numbers g (newer .groups)) (λ u. rw (eqb-true g (x .item .group) u) e) (r .same-groups g)
+      ∙ ap (λ o. lay o (cond (eqb g (x .item .group)) n (lookup numbers g (newer .groups)))) (sym (tombed-step g (newer .tombstones) (x .item) (lookup numbers g (older .groups))))
+      ∙ ap (lay (tombed g (newer .tombstones ++ tombOf (x .item)) (lookup numbers g (older .groups)))) (sym (lookup-store numbers numbersLawful g (x .item .group) n (newer .groups) (r .good-newer .ascend)))
+
+  -- the newer context after the item
+  module _ (f : FitIf (x .item .content)) (s : Option Table) (w : fits (after (x .item) s pass) ≡ true) (v : SimulatedIf (x .item .content) (tombedOlder (x .item .group)) (lookup numbers (x .item .group) (newer .groups)) s) where
+    next-tombs : pass .tombstones ++ tombOf (x .item) ≡ older .tombstones ++ (newer .tombstones ++ tombOf (x .item))
+    next-tombs = ap (λ l. l ++ tombOf (x .item)) (r .same-tombs) ∙ append-assoc (older .tombstones) (newer .tombstones) (tombOf (x .item))
+
+    next-cleaned : pass .cleaned ++ cleanOf (x .item) ≡ older .cleaned ++ (newer .cleaned ++ cleanOf (x .item))
+    next-cleaned = ap (λ l. l ++ cleanOf (x .item)) (r .same-cleaned) ∙ append-assoc (older .cleaned) (newer .cleaned) (cleanOf (x .item))
+
+    longer : {A : Type 0} (l m n : List A) → l ≡ m ++ n → length n ≤ length l
+    longer l m n e = rw (e, length-append m n) (omega arith)
+
+    next-fits : fits (after (x .item) (v .next) newer) ≡ true
+    next-fits =
+        unfold after in
+        fits-newer (after (x .item) s pass) (after (x .item) (v .next) newer) (λ g. tombed g (newer .tombstones ++ tombOf (x .item)) (lookup numbers g (older .groups))) (next-groups s (v .next) (v .again)) (ascending-store numbers numbersLawful (x .item .group) (v .next) (newer .groups) (r .good-newer .ascend)) (tables-store (x .item .group) (v .next) (newer .groups) (r .good-newer .ascend) (r .good-newer .tables) (good-changed (x .item .content) (lookup numbers (x .item .group) (newer .groups)) (v .next) (r .good-newer .tables (x .item .group)) f (v .taken))) (longer (pass .tombstones ++ tombOf (x .item)) (older .tombstones) (newer .tombstones ++ tombOf (x .item)) next-tombs) (longer (pass .cleaned ++ cleanOf (x .item)) (older .cleaned) (newer .cleaned ++ cleanOf (x .item)) next-cleaned) (r .good-newer .none-waits ∙ sym (r .good-pass .none-waits)) w
+
+    next-step : step limited replayAppend x newer ≡ ok (after (x .item) (v .next) newer)
+    next-step = step-of x newer (r .good-newer .ascend) (v .next) (v .taken) ∙ limited-fits (x .place) (after (x .item) (v .next) newer) next-fits
+
+  -- a step that the pass takes, the newer context takes, and they stay related
+  pub related-step : (next-pass : Context) → FitIf (x .item .content) → LeavesAt (x .item) pass → step limited replayAppend x pass ≡ ok next-pass → Stepped older next-pass newer x
+  unfolding LeavesAt after
+  related-step next-pass f l h =
+      let t = step-ok x pass (r .good-pass .ascend) next-pass h in
+      let here = r .same-groups (x .item .group) in
+      let v =
+          simulate-if (x .item .content) (tombedOlder (x .item .group)) (lookup numbers (x .item .group) (newer .groups)) (t .0) (good-tombed (x .item .group) (newer .tombstones) (lookup numbers (x .item .group) (older .groups)) (r .good-older .tables (x .item .group))) (r .good-newer .tables (x .item .group)) f (rw here at l) ((sym (ap (changed (x .item .content)) here) ∙ t .1)) in
+      let w = rw (t .2) at (t .3) in
+      rw (t .2)
+      (record {
+        next = after (x .item) (v .next) newer;
+        taken = next-step f (t .0) w v;
+        related = record {
+          good-older = r .good-older;
+          good-pass = rw (t .2) at (good-step x pass next-pass (r .good-pass) f h);
+          good-newer = good-step x newer (after (x .item) (v .next) newer) (r .good-newer) f (next-step f (t .0) w v);
+          same-tombs = next-tombs f (t .0) w v;
+          same-cleaned = next-cleaned f (t .0) w v;
+          same-groups = next-groups (t .0) (v .next) (v .again)
+        };
+        leaves = v .leaves
+      })
