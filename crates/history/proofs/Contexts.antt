@@ -140,7 +140,7 @@ module _ (it : LogItem) (c : Context) where
         (λ e. absurd (refused-not-ok (sym h ∙ changed-reserved (lookup numbers (it .group) (c .groups)) e)))
         (λ e. act-not-refused e r (sym (changed-not (lookup numbers (it .group) (c .groups)) e) ∙ h))
 
-limited-fits : (p : Option ℕ) (c : Context) → fits c ≡ true → limited p c ≡ ok c
+pub limited-fits : (p : Option ℕ) (c : Context) → fits c ≡ true → limited p c ≡ ok c
 unfolding limited
 limited-fits p c h = rw h
 

@@ -266,23 +266,23 @@ delete-laid k o t go gt =
 
 -- ---- what an item does, by its content
 
-change-entries : (es : List EntryIndex) (o : Option Table) → change replayAppend (entries es) o ≡ andThen (appended false es (made o)) (λ x. ok (some x))
+pub change-entries : (es : List EntryIndex) (o : Option Table) → change replayAppend (entries es) o ≡ andThen (appended false es (made o)) (λ x. ok (some x))
 unfolding change entriesTo
 change-entries es o = refl
 
-change-clean : (o : Option Table) → change replayAppend (command clean) o ≡ ok none
+pub change-clean : (o : Option Table) → change replayAppend (command clean) o ≡ ok none
 unfolding change commandTo isLiveRewrite
 change-clean o = refl
 
-change-compact : (i : ℕ) (o : Option Table) → change replayAppend (command (compact i)) o ≡ ok (some (compacted i (made o)))
+pub change-compact : (i : ℕ) (o : Option Table) → change replayAppend (command (compact i)) o ≡ ok (some (compacted i (made o)))
 unfolding change commandTo
 change-compact i o = refl
 
-change-put : (k v : List ℕ) (f : FileId) (o : Option Table) → change replayAppend (kv k (put (some v) (some f))) o ≡ ok (some (putKey k (record { value = v; file = f }) (made o)))
+pub change-put : (k v : List ℕ) (f : FileId) (o : Option Table) → change replayAppend (kv k (put (some v) (some f))) o ≡ ok (some (putKey k (record { value = v; file = f }) (made o)))
 unfolding change changeTo putTo putHeld andThen
 change-put k v f o = refl
 
-change-del : (k : List ℕ) (o : Option Table) → change replayAppend (kv k del) o ≡ ok (some (deleteKey k (made o)))
+pub change-del : (k : List ℕ) (o : Option Table) → change replayAppend (kv k del) o ≡ ok (some (deleteKey k (made o)))
 unfolding change changeTo andThen
 change-del k o = refl
 

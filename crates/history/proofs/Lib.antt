@@ -2,3 +2,4 @@
 pub mod Windows
 pub mod Group
 pub mod Contexts
+pub mod Merging
