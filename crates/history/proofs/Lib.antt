@@ -3,3 +3,4 @@ pub mod Windows
 pub mod Group
 pub mod Contexts
 pub mod Merging
+pub mod Passes
