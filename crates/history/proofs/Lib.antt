@@ -4,3 +4,4 @@ pub mod Group
 pub mod Contexts
 pub mod Merging
 pub mod Passes
+pub mod Rule
