@@ -1,6 +1,8 @@
 // Queues, files and the entry record (src/pipe_log.rs; the entry record is src/memtable.rs's `EntryIndex`). The pipe is left out.
 ghost use mathlib.Core.Path.{_≡_};
 ghost use Rattle.pipe_log.specs.Numbers.{queueNumber, compressionNumber};
+ghost use Rattle.pipe_log.specs.Freshness.{numberOrder, freshness};
+use cells::Order;
 
 // The type of log queue.
 pub enum LogQueue {
@@ -60,6 +62,45 @@ impl CompressionType {
         match self {
             CompressionType::None => 0,
             CompressionType::Lz4 => 1,
+        }
+    }
+}
+
+// Numbers in their order.
+fn compare(a: u64, b: u64) -> Order
+    ensures { λ r. ⌜ r ≡ numberOrder a b ⌝ }
+{
+    if a < b {
+        return Order::Less;
+    }
+    if b < a {
+        return Order::Greater;
+    }
+    Order::Equal
+}
+
+impl FileId {
+    pub fn new(queue: LogQueue, seq: u64) -> Self
+        ensures { λ r. ⌜ (r .queue ≡ queue) × (r .seq ≡ seq) ⌝ }
+    {
+        FileId { queue, seq }
+    }
+
+    // Order by freshness: any Append file is fresher than any Rewrite file.
+    pub fn cmp(self, other: FileId) -> Order
+        ensures { λ r. ⌜ r ≡ freshness self other ⌝ }
+    {
+        let mine = self.queue;
+        let its = other.queue;
+        match mine {
+            LogQueue::Append => match its {
+                LogQueue::Append => compare(self.seq, other.seq),
+                LogQueue::Rewrite => Order::Greater,
+            },
+            LogQueue::Rewrite => match its {
+                LogQueue::Append => Order::Less,
+                LogQueue::Rewrite => compare(self.seq, other.seq),
+            },
         }
     }
 }
