@@ -13,7 +13,7 @@ use Rattle.cells.specs.Part.{part}
 use Rattle.maps.specs.Lists.{findFrom, mapOption, orElse}
 use Rattle.maps.specs.Maps.{sameBytes}
 use Rattle.rules.specs.Limits.{reservedKey}
-use Rattle.rules.specs.Items.{LogItem, oneByte, markByte, end, statusOf}
+use Rattle.rules.specs.Items.{LogItem, oneByte, end, statusOf}
 use Rattle.rules.specs.Checks.{Mark, firstMark}
 use Rattle.log_batch.specs.declared.open.Opened.{Opened}
 use Rattle.log_batch.specs.Lent.{openedRow, openedOf, itemAt, itemsFrom}
@@ -82,11 +82,11 @@ module _ (es bs : List ℕ) where
   items-start n xs = let e : n - 0 ≡ n = omega arith in rw e
 
   module _ (n i : ℕ) (xs : List ℕ) where
-    items-end : n ≤ i → itemsFrom es bs (n - i) (drop (i * 9) xs) ≡ []
+    pub items-end : n ≤ i → itemsFrom es bs (n - i) (drop (i * 9) xs) ≡ []
     unfolding itemsFrom
     items-end h = let e : n - i ≡ 0 = omega arith in rw e
 
-    items-more : i < n → itemsFrom es bs (n - i) (drop (i * 9) xs) ≡ itemAt es bs (drop (i * 9) xs) ∷ itemsFrom es bs (n - (i + 1)) (drop ((i + 1) * 9) xs)
+    pub items-more : i < n → itemsFrom es bs (n - i) (drop (i * 9) xs) ≡ itemAt es bs (drop (i * 9) xs) ∷ itemsFrom es bs (n - (i + 1)) (drop ((i + 1) * 9) xs)
     unfolding itemsFrom
     items-more h =
         let e : n - i ≡ suc (n - (i + 1)) = omega arith in
@@ -126,3 +126,25 @@ unfolding statusOf
 status-end zero p q = absurd (p refl)
 status-end (suc zero) p q = absurd (q refl)
 status-end (suc (suc n)) p q = refl
+
+-- ---- no item meets a test that is found nowhere
+
+some-none : (p : ℕ) → some p ≡ none → ⊥
+some-none p e = let z : _≡_ {A = ℕ} 0 1 = cc in omega arith
+
+not-met : (b : Bool) → (b ≡ true → ⊥) → b ≡ false
+not-met true h = absurd (h refl)
+not-met false h = refl
+
+module _ (es bs xs : List ℕ) (n : ℕ) (p : ℕ → LogItem → Bool) where
+  none-here : (i : ℕ) → i < n → findFrom p i (itemsFrom es bs (n - i) (drop (i * 9) xs)) ≡ none → p i (itemAt es bs (drop (i * 9) xs)) ≡ false
+  none-here i h e = not-met _ (λ t. some-none i (sym (find-here es bs n i xs p h t) ∙ e))
+
+  none-from : (k j i : ℕ) → j + k ≡ i → i < n → findFrom p j (itemsFrom es bs (n - j) (drop (j * 9) xs)) ≡ none → p i (itemAt es bs (drop (i * 9) xs)) ≡ false
+  none-from zero j i h l e = let same : j ≡ i = omega arith in none-here i l (rw same at e)
+  none-from (suc k) j i h l e =
+      let s : j < n = omega arith in
+      none-from k (j + 1) i (omega arith) l (sym (find-more es bs n j xs p s (none-here j s e)) ∙ e)
+
+  pub none-met : (i : ℕ) → i < n → findFrom p 0 (itemsFrom es bs n xs) ≡ none → p i (itemAt es bs (drop (i * 9) xs)) ≡ false
+  none-met i h e = none-from i 0 i (omega arith) h (ap (findFrom p 0) (sym (items-start es bs n xs)) ∙ e)

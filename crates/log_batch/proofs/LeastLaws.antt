@@ -1,12 +1,12 @@
 -- The least number that one item meets. Assumes nothing.
-use mathlib.Core.Bool.{Bool, true, false, cond, not, _&&_, _||_}
-use mathlib.Core.Path.{_≡_, refl, sym, ap, _∙_}
-use mathlib.Core.List.{List, [], _∷_}
-use mathlib.Core.Option.{Option, none, some}
-use Prim.Native.Nat.{ℕ, zero, suc, _+_, _*_, _-_, _≤_, _<_}
+use mathlib.Core.Bool.{Bool, true, false, cond}
+use mathlib.Core.Path.{_≡_, refl, ap}
+use mathlib.Core.List.{List}
+use mathlib.Core.Option.{Option}
+use Prim.Native.Nat.{ℕ, zero, suc, _-_, _≤_, _<_}
 use native.Mathlib.Decide.{decLe}
 use native.Mathlib.Omega.{arith}
-use lib.Dec.{eqb, ltb}
+use lib.Dec.{ltb}
 use lib.ListN.{length}
 use borrow.Author.Tests.{eq-eqb, ne-eqb, lt-ltb, le-ltb}
 use Rattle.cells.specs.PartLaws.{length-part}
@@ -83,6 +83,10 @@ module _ (call : Call) (m : Option Mark) (i : ℕ) (it : LogItem) where
 pub least-refused : (call : Call) (m : Option Mark) (i g : ℕ) (es bs : List ℕ) → (i ≡ 32 → ⊥) → leastOf call m i (openedOf (Refused g) es bs) ≡ 3
 unfolding leastOf judge openedOf withoutFile long meets3 isReserved isIncomplete any hasFile
 least-refused call m i g es bs h = rw (ne-eqb i 32 h)
+
+pub refused-is-3 : (call : Call) (m : Option Mark) (i g : ℕ) (es bs : List ℕ) → judge call m 3 i (openedOf (Refused g) es bs) ≡ true
+unfolding judge openedOf withoutFile meets3 isReserved isIncomplete any hasFile
+refused-is-3 call m i g es bs = refl
 
 -- ---- the first number of a run that meets a test
 

@@ -1,6 +1,6 @@
 -- 01's batch as it is lent: `items` in rows of 9 numbers, `entries` in rows of 8 (pipe_log's Rows), and `bytes` for keys and values.
 -- Every content of the three slices stands for some batch.
-use mathlib.Core.Bool.{Bool, true, false, cond, _&&_}
+use mathlib.Core.Bool.{Bool, true, cond, _&&_}
 use mathlib.Core.List.{List, [], _∷_}
 use mathlib.Core.Option.{Option, none, some}
 use Prim.Native.Nat.{ℕ, zero, suc, _+_, _*_, _/_, _≤_}
@@ -87,12 +87,12 @@ unfoldable pub valueOf : value.Value → List ℕ → Option (List ℕ)
 valueOf value.the-variants.Absent bytes = none
 valueOf (value.the-variants.At a n) bytes = some (part a n bytes)
 
-unfoldable pub fileOf : file.KeyFile → Option FileId
-fileOf file.the-variants.Absent = none
-fileOf (file.the-variants.Of f) = some f
+unfoldable pub keyFileOf : file.KeyFile → Option FileId
+keyFileOf file.the-variants.Absent = none
+keyFileOf (file.the-variants.Of f) = some f
 
 unfoldable pub changeOf : op.OpType → value.Value → file.KeyFile → List ℕ → rules.Change
-changeOf op.the-variants.Put v f bytes = rules.put (valueOf v bytes) (fileOf f)
+changeOf op.the-variants.Put v f bytes = rules.put (valueOf v bytes) (keyFileOf f)
 changeOf op.the-variants.Del v f bytes = rules.del
 
 unfoldable pub keyChange : KeyValue → List ℕ → rules.Change

@@ -1,7 +1,7 @@
 // The checks 2 to 7 over a whole batch: the least number that any item meets, at the first item that meets it.
 ghost use mathlib.Core.Path.{_≡_};
 ghost use mathlib.Core.List.{List};
-ghost use Prim.Native.Nat.{ℕ, _*_, _≤_, _<_};
+ghost use Prim.Native.Nat.{ℕ, _*_, _<_};
 ghost use lib.ListN.{length, drop};
 ghost use Rattle.rules.specs.Checks.{breaksMark, checks};
 ghost use Rattle.log_batch.specs.Lent.{rowCount, itemOf, itemAt, itemsOf, bytesWithin, Within};

@@ -1,8 +1,8 @@
 -- `log_batch::causes::is_del_or_compact` meets its contract. Assumes nothing.
+use borrow.Author.Needs.{needs}
+use Rattle.rules.specs.Items.{isTombstone, isClean}
 use Rattle.log_batch.specs.Judged.{delOrCompact}
 use Rattle.log_batch.specs.Lent.{commandOf, keyContent, keyChange, changeOf, contentOf}
-use Rattle.rules.specs.Items.{isTombstone, isClean}
-use borrow.Author.Needs.{needs}
 use Rattle.log_batch.proofs.causes.is_del_or_compact.Statement.{statement}
 use Rattle.log_batch.proofs.causes.is_del_or_compact.Tie as tie
 

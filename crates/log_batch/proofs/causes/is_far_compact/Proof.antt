@@ -1,7 +1,7 @@
 -- `log_batch::causes::is_far_compact` meets its contract. Assumes nothing.
-use Rattle.log_batch.specs.Lent.{commandOf}
-use Rattle.rules.specs.Checks.{isOutOfRange}
 use borrow.Author.Needs.{needs}
+use Rattle.rules.specs.Checks.{isOutOfRange}
+use Rattle.log_batch.specs.Lent.{commandOf}
 use Rattle.log_batch.proofs.causes.is_far_compact.Statement.{statement}
 use Rattle.log_batch.proofs.causes.is_far_compact.Tie as tie
 

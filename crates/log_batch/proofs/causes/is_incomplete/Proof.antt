@@ -1,9 +1,9 @@
 -- `log_batch::causes::is_incomplete` meets its contract. Assumes nothing.
-use Rattle.log_batch.specs.Judged.{entryMeets, entriesIncomplete}
-use Rattle.log_batch.specs.Lent.{contentOf}
-use Rattle.rules.specs.Checks.{isIncomplete}
 use native.Mathlib.Omega.{arith}
 use borrow.Author.Needs.{needs}
+use Rattle.rules.specs.Checks.{isIncomplete}
+use Rattle.log_batch.specs.Judged.{entryMeets, entriesIncomplete}
+use Rattle.log_batch.specs.Lent.{contentOf}
 use Rattle.log_batch.proofs.causes.is_incomplete.Statement.{statement}
 use Rattle.log_batch.proofs.causes.is_incomplete.Tie as tie
 

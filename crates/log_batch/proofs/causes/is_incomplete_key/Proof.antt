@@ -1,8 +1,8 @@
 -- `log_batch::causes::is_incomplete_key` meets its contract. Assumes nothing.
-use Rattle.log_batch.specs.Lent.{keyContent}
-use Rattle.rules.specs.Checks.{isIncomplete}
 use mathlib.Core.Path.{sym, _∙_}
 use borrow.Author.Needs.{needs}
+use Rattle.rules.specs.Checks.{isIncomplete}
+use Rattle.log_batch.specs.Lent.{keyContent}
 use Rattle.log_batch.proofs.causes.is_incomplete_key.Statement.{statement}
 use Rattle.log_batch.proofs.causes.is_incomplete_key.Tie as tie
 

@@ -1,6 +1,6 @@
 -- `log_batch::causes::is_long` meets its contract. Assumes nothing.
-use Rattle.log_batch.specs.Judged.{longPlaces}
 use borrow.Author.Needs.{needs}
+use Rattle.log_batch.specs.Judged.{longPlaces}
 use Rattle.log_batch.proofs.causes.is_long.Statement.{statement}
 use Rattle.log_batch.proofs.causes.is_long.Tie as tie
 

@@ -1,7 +1,7 @@
 -- `log_batch::causes::is_long_key` meets its contract. Assumes nothing.
-use Rattle.log_batch.specs.Judged.{longValue, longKey}
-use borrow.Author.Tests.{lt-ltb, le-ltb}
 use borrow.Author.Needs.{needs}
+use borrow.Author.Tests.{lt-ltb, le-ltb}
+use Rattle.log_batch.specs.Judged.{longValue, longKey}
 use Rattle.log_batch.proofs.causes.is_long_key.Statement.{statement}
 use Rattle.log_batch.proofs.causes.is_long_key.Tie as tie
 

@@ -1,9 +1,9 @@
 -- `log_batch::causes::is_not_rewritable` meets its contract. Assumes nothing.
-use Rattle.log_batch.specs.Judged.{delOrCompact}
-use Rattle.rules.specs.Checks.{isNotRewritable}
 use mathlib.Core.Path.{sym, _∙_}
-use borrow.Author.Tests.{not-true, not-false}
 use borrow.Author.Needs.{needs}
+use borrow.Author.Tests.{not-true, not-false}
+use Rattle.rules.specs.Checks.{isNotRewritable}
+use Rattle.log_batch.specs.Judged.{delOrCompact}
 use Rattle.log_batch.proofs.causes.is_not_rewritable.Statement.{statement}
 use Rattle.log_batch.proofs.causes.is_not_rewritable.Tie as tie
 

@@ -1,9 +1,9 @@
 -- `log_batch::causes::is_other_key` meets its contract. Assumes nothing.
-use Rattle.log_batch.specs.Lent.{fileOf, keyContent, keyChange, changeOf}
-use Rattle.maps.specs.Lists.{orElse}
-use Rattle.rules.specs.Checks.{otherFile, isOtherQueue}
 use mathlib.Core.Path.{sym, _∙_}
 use borrow.Author.Needs.{needs}
+use Rattle.maps.specs.Lists.{orElse}
+use Rattle.rules.specs.Checks.{otherFile, isOtherQueue}
+use Rattle.log_batch.specs.Lent.{keyFileOf, keyContent, keyChange, changeOf}
 use Rattle.log_batch.proofs.causes.is_other_key.Statement.{statement}
 use Rattle.log_batch.proofs.causes.is_other_key.Tie as tie
 
@@ -31,7 +31,7 @@ enum-told-3 : tie.Need-enum-told-3
 enum-told-3 c = search needs
 
 returns-3 : tie.Need-returns-3
-unfolding isOtherQueue keyContent keyChange changeOf otherFile fileOf orElse
+unfolding isOtherQueue keyContent keyChange changeOf otherFile keyFileOf orElse
 returns-3 c = λ bytes. rw (sym (c .before .before .before .before .before .is-live-rewrite .ensures) ∙ c .before .before .before .before .if1 .left, c .before .before .enum-told .given .1, c .enum-told3 .given .1)
 
 writes-requires : tie.Need-writes-requires
@@ -41,7 +41,7 @@ same-queue-requires : tie.Need-same-queue-requires
 same-queue-requires c κs = search needs
 
 returns-4 : tie.Need-returns-4
-unfolding isOtherQueue keyContent keyChange changeOf otherFile fileOf orElse
+unfolding isOtherQueue keyContent keyChange changeOf otherFile keyFileOf orElse
 returns-4 c = λ bytes. rw (sym (c .before .before .before .before .before .before .before .before .is-live-rewrite .ensures) ∙ c .before .before .before .before .before .before .before .if1 .left, c .before .before .before .before .before .enum-told .given .1, c .before .before .before .file-id .given .1, c .same-queue .ensures, c .before .writes .ensures)
 
 pub is-other-key-spec : {M : Type 1} → statement M

@@ -1,9 +1,9 @@
 -- `log_batch::causes::is_other_queue` meets its contract. Assumes nothing.
-use Rattle.log_batch.specs.Judged.{entryMeets}
-use Rattle.log_batch.specs.Lent.{contentOf}
-use Rattle.rules.specs.Checks.{isOtherQueue}
 use native.Mathlib.Omega.{arith}
 use borrow.Author.Needs.{needs}
+use Rattle.rules.specs.Checks.{isOtherQueue}
+use Rattle.log_batch.specs.Judged.{entryMeets}
+use Rattle.log_batch.specs.Lent.{contentOf}
 use Rattle.log_batch.proofs.causes.is_other_queue.Statement.{statement}
 use Rattle.log_batch.proofs.causes.is_other_queue.Tie as tie
 

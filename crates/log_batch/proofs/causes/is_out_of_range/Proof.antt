@@ -1,9 +1,9 @@
 -- `log_batch::causes::is_out_of_range` meets its contract. Assumes nothing.
-use Rattle.log_batch.specs.Judged.{entryMeets}
-use Rattle.log_batch.specs.Lent.{contentOf, keyContent}
-use Rattle.rules.specs.Checks.{isOutOfRange}
 use native.Mathlib.Omega.{arith}
 use borrow.Author.Needs.{needs}
+use Rattle.rules.specs.Checks.{isOutOfRange}
+use Rattle.log_batch.specs.Judged.{entryMeets}
+use Rattle.log_batch.specs.Lent.{contentOf, keyContent}
 use Rattle.log_batch.proofs.causes.is_out_of_range.Statement.{statement}
 use Rattle.log_batch.proofs.causes.is_out_of_range.Tie as tie
 

@@ -1,8 +1,8 @@
 -- `log_batch::causes::lacks_file` meets its contract. Assumes nothing.
-use Rattle.log_batch.specs.Lent.{fileOf, keyChange, changeOf}
+use borrow.Author.Needs.{needs}
 use Rattle.maps.specs.Lists.{orElse}
 use Rattle.rules.specs.Checks.{lacksFile}
-use borrow.Author.Needs.{needs}
+use Rattle.log_batch.specs.Lent.{keyFileOf, keyChange, changeOf}
 use Rattle.log_batch.proofs.causes.lacks_file.Statement.{statement}
 use Rattle.log_batch.proofs.causes.lacks_file.Tie as tie
 
@@ -23,11 +23,11 @@ enum-told-4 : tie.Need-enum-told-4
 enum-told-4 c = search needs
 
 returns-2 : tie.Need-returns-2
-unfolding lacksFile keyChange changeOf fileOf orElse
+unfolding lacksFile keyChange changeOf keyFileOf orElse
 returns-2 c = λ bytes. rw (c .before .before .enum-told .given .1, c .enum-told3 .given .1)
 
 returns-3 : tie.Need-returns-3
-unfolding lacksFile keyChange changeOf fileOf orElse
+unfolding lacksFile keyChange changeOf keyFileOf orElse
 returns-3 c = λ bytes. rw (c .before .before .enum-told .given .1, c .enum-told4 .given .1)
 
 pub lacks-file-spec : {M : Type 1} → statement M

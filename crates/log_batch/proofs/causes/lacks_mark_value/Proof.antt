@@ -1,7 +1,7 @@
 -- `log_batch::causes::lacks_mark_value` meets its contract. Assumes nothing.
-use Rattle.log_batch.specs.Lent.{keyContent, contentOf}
-use Rattle.rules.specs.Checks.{lacksMarkValue}
 use borrow.Author.Needs.{needs}
+use Rattle.rules.specs.Checks.{lacksMarkValue}
+use Rattle.log_batch.specs.Lent.{keyContent, contentOf}
 use Rattle.log_batch.proofs.causes.lacks_mark_value.Statement.{statement}
 use Rattle.log_batch.proofs.causes.lacks_mark_value.Tie as tie
 

@@ -1,8 +1,8 @@
 -- `log_batch::causes::lacks_value` meets its contract. Assumes nothing.
-use Rattle.log_batch.specs.Lent.{valueOf, keyChange, changeOf}
+use borrow.Author.Needs.{needs}
 use Rattle.maps.specs.Lists.{orElse}
 use Rattle.rules.specs.Checks.{lacksValue}
-use borrow.Author.Needs.{needs}
+use Rattle.log_batch.specs.Lent.{valueOf, keyChange, changeOf}
 use Rattle.log_batch.proofs.causes.lacks_value.Statement.{statement}
 use Rattle.log_batch.proofs.causes.lacks_value.Tie as tie
 

@@ -1,11 +1,11 @@
 -- `log_batch::checks::breaks_mark` meets its contract. Assumes nothing.
+use borrow.Author.Needs.{needs}
+use borrow.Author.Tests.{eq-eqb, ne-eqb}
+use Rattle.maps.specs.Lists.{orElse}
+use Rattle.rules.specs.Checks.{breaksMark}
+use Rattle.rules.specs.Items.{isMark}
 use Rattle.log_batch.specs.Judged.{byteAs, markOf}
 use Rattle.log_batch.specs.Lent.{itemOf}
-use Rattle.maps.specs.Lists.{orElse}
-use Rattle.rules.specs.Items.{isMark}
-use Rattle.rules.specs.Checks.{breaksMark}
-use borrow.Author.Tests.{eq-eqb, ne-eqb}
-use borrow.Author.Needs.{needs}
 use Rattle.log_batch.proofs.checks.breaks_mark.Statement.{statement}
 use Rattle.log_batch.proofs.checks.breaks_mark.Tie as tie
 

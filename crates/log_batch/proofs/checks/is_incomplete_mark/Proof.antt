@@ -1,9 +1,9 @@
 -- `log_batch::checks::is_incomplete_mark` meets its contract. Assumes nothing.
+use mathlib.Core.Path.{sym, _∙_}
+use borrow.Author.Needs.{needs}
+use borrow.Author.Tests.{not-true, not-false}
 use Rattle.log_batch.specs.Judged.{incompleteMark}
 use Rattle.log_batch.specs.Lent.{itemOf}
-use mathlib.Core.Path.{sym, _∙_}
-use borrow.Author.Tests.{not-true, not-false}
-use borrow.Author.Needs.{needs}
 use Rattle.log_batch.proofs.checks.is_incomplete_mark.Statement.{statement}
 use Rattle.log_batch.proofs.checks.is_incomplete_mark.Tie as tie
 

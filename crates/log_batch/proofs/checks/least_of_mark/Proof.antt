@@ -1,10 +1,10 @@
 -- `log_batch::checks::least_of_mark` meets its contract. Assumes nothing.
-use Rattle.log_batch.specs.Judged.{markAs, leastMark}
+use mathlib.Core.Path.{sym, _∙_}
+use borrow.Author.Needs.{needs}
+use borrow.Author.Tests.{not-true, not-false}
 use Rattle.maps.specs.Lists.{orElse}
 use Rattle.rules.specs.Checks.{meets7}
-use mathlib.Core.Path.{sym, _∙_}
-use borrow.Author.Tests.{not-true, not-false}
-use borrow.Author.Needs.{needs}
+use Rattle.log_batch.specs.Judged.{markAs, leastMark}
 use Rattle.log_batch.proofs.checks.least_of_mark.Statement.{statement}
 use Rattle.log_batch.proofs.checks.least_of_mark.Tie as tie
 

@@ -1,6 +1,6 @@
 -- `log_batch::checks::lesser` meets its contract. Assumes nothing.
-use Rattle.log_batch.specs.Judged.{lesserOf}
 use borrow.Author.Tests.{lt-ltb, le-ltb}
+use Rattle.log_batch.specs.Judged.{lesserOf}
 use Rattle.log_batch.proofs.checks.lesser.Statement.{statement}
 use Rattle.log_batch.proofs.checks.lesser.Tie as tie
 

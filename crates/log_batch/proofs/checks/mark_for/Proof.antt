@@ -1,8 +1,8 @@
 -- `log_batch::checks::mark_for` meets its contract. Assumes nothing.
-use Rattle.log_batch.specs.Judged.{markAs, markFor}
 use mathlib.Core.Path.{sym, _∙_}
-use borrow.Author.Tests.{not-true, not-false}
 use borrow.Author.Needs.{needs}
+use borrow.Author.Tests.{not-true, not-false}
+use Rattle.log_batch.specs.Judged.{markAs, markFor}
 use Rattle.log_batch.proofs.checks.mark_for.Statement.{statement}
 use Rattle.log_batch.proofs.checks.mark_for.Tie as tie
 

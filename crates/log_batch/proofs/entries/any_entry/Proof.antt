@@ -1,15 +1,14 @@
 -- `log_batch::entries::any_entry` meets its contract: what is left from row i on gives the whole answer. Assumes nothing.
-use Rattle.log_batch.proofs.PlaceLaws.{lent-back}
--- `log_batch::entries::any_entry` meets its contract: what is left from row i on gives the whole answer. Assumes nothing.
-use Rattle.log_batch.proofs.RowLaws.{any-here, any-more, any-end, rows-start}
-use Rattle.log_batch.specs.Judged.{entryMeets}
+use mathlib.Core.Path.{_≡_, sym, _∙_, ap}
+use Prim.Native.Nat.{_*_, _-_, _≤_}
+use native.Mathlib.Omega.{arith}
+use lib.ListN.{drop, length-drop}
+use borrow.Author.Needs.{needs}
 use Rattle.maps.specs.Lists.{any}
 use Rattle.pipe_log.specs.Rows.{entriesOf}
-use lib.ListN.{length, drop, length-drop}
-use mathlib.Core.Path.{_≡_, refl, sym, _∙_, ap}
-use Prim.Native.Nat.{_*_, _-_, _≤_}
-use borrow.Author.Needs.{needs}
-use native.Mathlib.Omega.{arith}
+use Rattle.log_batch.specs.Judged.{entryMeets}
+use Rattle.log_batch.proofs.PlaceLaws.{lent-back}
+use Rattle.log_batch.proofs.RowLaws.{any-here, any-more, any-end, rows-start}
 use Rattle.log_batch.proofs.entries.any_entry.Statement.{statement}
 use Rattle.log_batch.proofs.entries.any_entry.Tie as tie
 
@@ -41,7 +40,9 @@ entry-meets-requires : tie.Need-entry-meets-requires Inv-loop μ-loop
 entry-meets-requires c κs = rw (lent-back (c .before .before .loop .i * 8) (c .before .before .before .before .args .rows .now)) (simp length-drop (omega arith))
 
 returns : tie.Need-returns Inv-loop μ-loop
-returns c = sym (c .before .before .before .before .loop .inv .1 ∙ any-here _ (c .before .before .before .before .loop .i) _ _ (c .before .before .before .loop-test .taken) (sym (rw (lent-back (c .before .before .before .before .loop .i * 8) (c .before .before .before .before .before .before .args .rows .now)) at (c .before .entry-meets .ensures)) ∙ c .if1 .taken))
+returns c =
+    let turn = c .before .before .before .before .loop in
+    sym (turn .inv .1 ∙ any-here _ (turn .i) _ _ (c .before .before .before .loop-test .taken) (sym (rw (lent-back (turn .i * 8) (c .before .before .before .before .before .before .args .rows .now)) at (c .before .entry-meets .ensures)) ∙ c .if1 .taken))
 
 add-i : tie.Need-add-i Inv-loop μ-loop
 add-i c = search needs
@@ -50,7 +51,9 @@ loop-less : tie.Need-loop-less Inv-loop μ-loop
 loop-less c = search needs
 
 loop-again : tie.Need-loop-again Inv-loop μ-loop
-loop-again c = (search needs, c .before .before .before .before .loop .inv .1 ∙ any-more _ (c .before .before .before .before .loop .i) _ _ (c .before .before .before .loop-test .taken) (sym (rw (lent-back (c .before .before .before .before .loop .i * 8) (c .before .before .before .before .before .before .args .rows .now)) at (c .before .entry-meets .ensures)) ∙ c .if1 .left))
+loop-again c =
+    let turn = c .before .before .before .before .loop in
+    (search needs, turn .inv .1 ∙ any-more _ (turn .i) _ _ (c .before .before .before .loop-test .taken) (sym (rw (lent-back (turn .i * 8) (c .before .before .before .before .before .before .args .rows .now)) at (c .before .entry-meets .ensures)) ∙ c .if1 .left))
 
 returns-2 : tie.Need-returns-2 Inv-loop μ-loop
 returns-2 c = sym (c .before .loop .inv .1 ∙ any-end _ (c .before .loop .i) _ _ (c .loop-test .left))

@@ -1,7 +1,7 @@
 -- `log_batch::entries::entry_meets` meets its contract. Assumes nothing.
+use borrow.Author.Needs.{needs}
 use Rattle.log_batch.specs.Judged.{entryMeets}
 use Rattle.log_batch.proofs.RowLaws.{has-file}
-use borrow.Author.Needs.{needs}
 use Rattle.log_batch.proofs.entries.entry_meets.Statement.{statement}
 use Rattle.log_batch.proofs.entries.entry_meets.Tie as tie
 

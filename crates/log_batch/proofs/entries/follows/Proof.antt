@@ -1,6 +1,6 @@
 -- `log_batch::entries::follows` meets its contract. Assumes nothing.
-use Rattle.log_batch.proofs.RowLaws.{follows-eqb, follows-none}
 use borrow.Author.Needs.{needs}
+use Rattle.log_batch.proofs.RowLaws.{follows-eqb, follows-none}
 use Rattle.log_batch.proofs.entries.follows.Statement.{statement}
 use Rattle.log_batch.proofs.entries.follows.Tie as tie
 

@@ -1,6 +1,6 @@
 -- `log_batch::entries::is_append` meets its contract. Assumes nothing.
-use Rattle.rules.specs.Items.{sameQueue}
 use borrow.Author.Needs.{needs}
+use Rattle.rules.specs.Items.{sameQueue}
 use Rattle.log_batch.proofs.entries.is_append.Statement.{statement}
 use Rattle.log_batch.proofs.entries.is_append.Tie as tie
 

@@ -1,13 +1,12 @@
 -- `log_batch::entries::is_consecutive` meets its contract: what is left from row i on gives the whole answer. Assumes nothing.
-use Rattle.log_batch.proofs.RowLaws.{consecutive-end, consecutive-more, rows-start}
-use Rattle.rules.specs.Checks.{consecutive}
+use mathlib.Core.Path.{_≡_, sym, _∙_, ap}
+use Prim.Native.Nat.{_*_, _-_, _≤_}
+use lib.ListN.{drop}
+use borrow.Author.Needs.{needs}
 use borrow.Author.Tests.{not-true, not-false}
 use Rattle.pipe_log.specs.Rows.{entriesOf}
-use lib.ListN.{length, drop, length-drop}
-use mathlib.Core.Path.{_≡_, refl, sym, _∙_, ap}
-use Prim.Native.Nat.{_*_, _-_, _≤_}
-use borrow.Author.Needs.{needs}
-use native.Mathlib.Omega.{arith}
+use Rattle.rules.specs.Checks.{consecutive}
+use Rattle.log_batch.proofs.RowLaws.{consecutive-end, consecutive-more, rows-start}
 use Rattle.log_batch.proofs.entries.is_consecutive.Statement.{statement}
 use Rattle.log_batch.proofs.entries.is_consecutive.Tie as tie
 
@@ -45,7 +44,9 @@ follows-requires : tie.Need-follows-requires Inv-loop μ-loop
 follows-requires c κs = search needs
 
 returns : tie.Need-returns Inv-loop μ-loop
-returns c = sym (c .before .before .before .before .before .loop .inv .1 ∙ consecutive-more _ (c .before .before .before .before .before .loop .i) _ _ (c .before .before .before .before .loop-test .taken) (sym (not-true _ (c .if1 .taken)) ∙ c .before .follows .ensures))
+returns c =
+    let turn = c .before .before .before .before .before .loop in
+    sym (turn .inv .1 ∙ consecutive-more _ (turn .i) _ _ (c .before .before .before .before .loop-test .taken) (sym (not-true _ (c .if1 .taken)) ∙ c .before .follows .ensures))
 
 add-i : tie.Need-add-i Inv-loop μ-loop
 add-i c = search needs
@@ -54,7 +55,9 @@ loop-less : tie.Need-loop-less Inv-loop μ-loop
 loop-less c = search needs
 
 loop-again : tie.Need-loop-again Inv-loop μ-loop
-loop-again c = (search needs, c .before .before .before .before .before .loop .inv .1 ∙ consecutive-more _ (c .before .before .before .before .before .loop .i) _ _ (c .before .before .before .before .loop-test .taken) (sym (not-false _ (c .if1 .left)) ∙ c .before .follows .ensures))
+loop-again c =
+    let turn = c .before .before .before .before .before .loop in
+    (search needs, turn .inv .1 ∙ consecutive-more _ (turn .i) _ _ (c .before .before .before .before .loop-test .taken) (sym (not-false _ (c .if1 .left)) ∙ c .before .follows .ensures))
 
 returns-2 : tie.Need-returns-2 Inv-loop μ-loop
 returns-2 c = sym (c .before .loop .inv .1 ∙ consecutive-end _ (c .before .loop .i) _ (c .loop-test .left))

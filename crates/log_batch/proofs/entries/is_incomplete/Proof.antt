@@ -1,7 +1,7 @@
 -- `log_batch::entries::is_incomplete` meets its contract. Assumes nothing.
-use Rattle.log_batch.specs.Judged.{entriesIncomplete}
 use mathlib.Core.Path.{sym, _∙_}
 use borrow.Author.Needs.{needs}
+use Rattle.log_batch.specs.Judged.{entriesIncomplete}
 use Rattle.log_batch.proofs.entries.is_incomplete.Statement.{statement}
 use Rattle.log_batch.proofs.entries.is_incomplete.Tie as tie
 

@@ -1,9 +1,9 @@
 -- `log_batch::entries::is_of_other_queue` meets its contract. Assumes nothing.
+use mathlib.Core.Path.{sym, _∙_}
+use borrow.Author.Needs.{needs}
+use borrow.Author.Tests.{not-true, not-false}
 use Rattle.log_batch.specs.Judged.{entryMeets}
 use Rattle.log_batch.proofs.RowLaws.{has-file, record-queue}
-use mathlib.Core.Path.{sym, _∙_}
-use borrow.Author.Tests.{not-true, not-false}
-use borrow.Author.Needs.{needs}
 use Rattle.log_batch.proofs.entries.is_of_other_queue.Statement.{statement}
 use Rattle.log_batch.proofs.entries.is_of_other_queue.Tie as tie
 

@@ -1,8 +1,8 @@
 -- `log_batch::entries::is_out_of_range` meets its contract. Assumes nothing.
-use Rattle.log_batch.specs.Judged.{entryMeets}
-use Rattle.pipe_log.specs.Rows.{entryOf}
-use borrow.Author.Tests.{lt-ltb, le-ltb}
 use borrow.Author.Needs.{needs}
+use borrow.Author.Tests.{lt-ltb, le-ltb}
+use Rattle.pipe_log.specs.Rows.{entryOf}
+use Rattle.log_batch.specs.Judged.{entryMeets}
 use Rattle.log_batch.proofs.entries.is_out_of_range.Statement.{statement}
 use Rattle.log_batch.proofs.entries.is_out_of_range.Tie as tie
 

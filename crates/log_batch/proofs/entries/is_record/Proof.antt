@@ -1,9 +1,9 @@
 -- `log_batch::entries::is_record` meets its contract. Assumes nothing.
-use Rattle.pipe_log.specs.Rows.{isRecord}
-use lib.ListN.{getD}
 use native.Mathlib.Omega.{arith}
-use borrow.Author.Tests.{lt-ltb, le-ltb}
+use lib.ListN.{getD}
 use borrow.Author.Needs.{needs}
+use borrow.Author.Tests.{lt-ltb, le-ltb}
+use Rattle.pipe_log.specs.Rows.{isRecord}
 use Rattle.log_batch.proofs.entries.is_record.Statement.{statement}
 use Rattle.log_batch.proofs.entries.is_record.Tie as tie
 
@@ -19,14 +19,18 @@ shared-slice-read-if2 c = search needs
 
 returns-2 : tie.Need-returns-2
 unfolding isRecord
-returns-2 c = rw (lt-ltb (getD (c .before .before .before .before .args .row .now) 1 0) 2 (omega arith), le-ltb (getD (c .before .before .before .before .args .row .now) 5 0) 2 (omega arith))
+returns-2 c =
+    let args = c .before .before .before .before .args in
+    rw (lt-ltb (getD (args .row .now) 1 0) 2 (omega arith), le-ltb (getD (args .row .now) 5 0) 2 (omega arith))
 
 shared-slice-read-result : tie.Need-shared-slice-read-result
 shared-slice-read-result c = search needs
 
 returns-3 : tie.Need-returns-3
 unfolding isRecord
-returns-3 c = rw (lt-ltb (getD (c .before .before .before .before .before .args .row .now) 1 0) 2 (omega arith), lt-ltb (getD (c .before .before .before .before .before .args .row .now) 5 0) 2 (omega arith))
+returns-3 c =
+    let args = c .before .before .before .before .before .args in
+    rw (lt-ltb (getD (args .row .now) 1 0) 2 (omega arith), lt-ltb (getD (args .row .now) 5 0) 2 (omega arith))
 
 pub is-record-spec : {M : Type 1} → statement M
 is-record-spec =

@@ -1,6 +1,6 @@
 -- `log_batch::entries::queue_at` meets its contract. Assumes nothing.
-use Rattle.pipe_log.specs.Rows.{queueAt}
 use borrow.Author.Tests.{eq-eqb, ne-eqb}
+use Rattle.pipe_log.specs.Rows.{queueAt}
 use Rattle.log_batch.proofs.entries.queue_at.Statement.{statement}
 use Rattle.log_batch.proofs.entries.queue_at.Tie as tie
 

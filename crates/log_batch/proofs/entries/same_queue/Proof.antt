@@ -1,7 +1,6 @@
 -- `log_batch::entries::same_queue` meets its contract. Assumes nothing.
-use Rattle.log_batch.proofs.RowLaws.{same-queue-not}
-use Rattle.rules.specs.Items.{sameQueue}
 use borrow.Author.Needs.{needs}
+use Rattle.log_batch.proofs.RowLaws.{same-queue-not}
 use Rattle.log_batch.proofs.entries.same_queue.Statement.{statement}
 use Rattle.log_batch.proofs.entries.same_queue.Tie as tie
 

@@ -1,8 +1,6 @@
-use Rattle.log_batch.proofs.PlaceLaws.{lent-part, lent-length}
 -- `log_batch::item::bytes_of` meets its contract. Assumes nothing.
-use native.Mathlib.Omega.{arith}
-use Rattle.cells.specs.PartLaws.{part-is, length-part}
 use borrow.Author.Needs.{needs}
+use Rattle.log_batch.proofs.PlaceLaws.{lent-part, lent-length}
 use Rattle.log_batch.proofs.item.bytes_of.Statement.{statement}
 use Rattle.log_batch.proofs.item.bytes_of.Tie as tie
 

@@ -1,9 +1,8 @@
-use Prim.Native.Nat.{_*_}
-use Rattle.log_batch.proofs.PlaceLaws.{lent-part, lent-length}
 -- `log_batch::item::entries_of` meets its contract. Assumes nothing.
+use Prim.Native.Nat.{_*_}
 use native.Mathlib.Omega.{arith}
-use Rattle.cells.specs.PartLaws.{part-is, length-part}
 use borrow.Author.Needs.{needs}
+use Rattle.log_batch.proofs.PlaceLaws.{lent-part, lent-length}
 use Rattle.log_batch.proofs.item.entries_of.Statement.{statement}
 use Rattle.log_batch.proofs.item.entries_of.Tie as tie
 

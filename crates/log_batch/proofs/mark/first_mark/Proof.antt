@@ -1,13 +1,12 @@
 -- `log_batch::mark::first_mark` meets its contract: the items from i on give the whole answer. Assumes nothing.
-use Rattle.log_batch.proofs.ItemLaws.{items-start, mark-end, mark-found, mark-more}
-use Rattle.log_batch.specs.Judged.{markOf, markAs}
-use Rattle.log_batch.specs.Lent.{rowCount, itemsFrom, itemsOf}
-use Rattle.rules.specs.Checks.{firstMark}
-use lib.ListN.{drop}
 use mathlib.Core.Path.{_≡_, sym, ap, _∙_}
 use Prim.Native.Nat.{_*_, _-_, _≤_}
+use lib.ListN.{drop}
 use borrow.Author.Needs.{needs}
-use native.Mathlib.Omega.{arith}
+use Rattle.rules.specs.Checks.{firstMark}
+use Rattle.log_batch.specs.Judged.{markAs}
+use Rattle.log_batch.specs.Lent.{rowCount, itemsFrom, itemsOf}
+use Rattle.log_batch.proofs.ItemLaws.{items-start, mark-end, mark-found, mark-more}
 use Rattle.log_batch.proofs.mark.first_mark.Statement.{statement}
 use Rattle.log_batch.proofs.mark.first_mark.Tie as tie
 
@@ -32,7 +31,9 @@ enum-known-mark c = search needs
 
 returns : tie.Need-returns Inv-loop μ-loop
 unfolding markAs
-returns c = sym (c .before .before .before .before .before .loop .inv .2 ∙ mark-found _ _ _ (c .before .before .before .before .before .loop .i) _ _ (c .before .before .before .before .loop-test .taken) (sym (c .before .before .before .mark-at .ensures) ∙ ap markAs (c .before .mark .given .1)))
+returns c =
+    let turn = c .before .before .before .before .before .loop in
+    sym (turn .inv .2 ∙ mark-found _ _ _ (turn .i) _ _ (c .before .before .before .before .loop-test .taken) (sym (c .before .before .before .mark-at .ensures) ∙ ap markAs (c .before .mark .given .1)))
 
 enum-told : tie.Need-enum-told Inv-loop μ-loop
 enum-told c = search needs
@@ -45,7 +46,9 @@ loop-less c = search needs
 
 loop-again : tie.Need-loop-again Inv-loop μ-loop
 unfolding markAs
-loop-again c = (search needs, c .before .before .before .before .loop .inv .1, c .before .before .before .before .loop .inv .2 ∙ mark-more _ _ _ (c .before .before .before .before .loop .i) _ (c .before .before .before .loop-test .taken) (sym (c .before .before .mark-at .ensures) ∙ ap markAs (c .enum-told .given .1)))
+loop-again c =
+    let turn = c .before .before .before .before .loop in
+    (search needs, turn .inv .1, turn .inv .2 ∙ mark-more _ _ _ (turn .i) _ (c .before .before .before .loop-test .taken) (sym (c .before .before .mark-at .ensures) ∙ ap markAs (c .enum-told .given .1)))
 
 returns-2 : tie.Need-returns-2 Inv-loop μ-loop
 unfolding markAs

@@ -1,7 +1,7 @@
 -- `log_batch::mark::is_reserved` meets its contract. Assumes nothing.
-use Rattle.log_batch.specs.Lent.{contentOf}
-use Rattle.rules.specs.Items.{isReserved}
 use borrow.Author.Needs.{needs}
+use Rattle.rules.specs.Items.{isReserved}
+use Rattle.log_batch.specs.Lent.{contentOf}
 use Rattle.log_batch.proofs.mark.is_reserved.Statement.{statement}
 use Rattle.log_batch.proofs.mark.is_reserved.Tie as tie
 

@@ -1,14 +1,13 @@
 -- `log_batch::mark::mark_at` meets its contract. Assumes nothing.
-use lib.ListN.{drop}
+use mathlib.Core.Path.{sym, _∙_}
 use Prim.Native.Nat.{_*_}
--- `log_batch::mark::mark_at` meets its contract. Assumes nothing.
-use Rattle.log_batch.proofs.ItemLaws.{item-is}
-use Rattle.log_batch.specs.Judged.{byteAs, markOf, markAs, markHere}
-use Rattle.log_batch.specs.Lent.{itemOf, openedOf}
+use lib.ListN.{drop}
+use borrow.Author.Needs.{needs}
 use Rattle.maps.specs.Lists.{mapOption}
 use Rattle.rules.specs.Items.{markByte}
-use mathlib.Core.Path.{sym, _∙_}
-use borrow.Author.Needs.{needs}
+use Rattle.log_batch.specs.Judged.{byteAs, markOf, markAs, markHere}
+use Rattle.log_batch.specs.Lent.{itemOf, openedOf}
+use Rattle.log_batch.proofs.ItemLaws.{item-is}
 use Rattle.log_batch.proofs.mark.mark_at.Statement.{statement}
 use Rattle.log_batch.proofs.mark.mark_at.Tie as tie
 
@@ -23,7 +22,9 @@ enum-told c = search needs
 
 returns : tie.Need-returns
 unfolding markAs markHere openedOf markByte mapOption
-returns c = rw (item-is (c .before .before .before .before .before .before .args .entries .now) (c .before .before .before .before .before .before .args .bytes .now) (drop (c .before .before .before .before .before .before .args .i * 9) (c .before .before .before .before .before .before .args .items .now)) _ (sym (c .before .before .open-item .ensures .0) ∙ c .enum-told .given .1))
+returns c =
+    let args = c .before .before .before .before .before .before .args in
+    rw (item-is (args .entries .now) (args .bytes .now) (drop (args .i * 9) (args .items .now)) _ (sym (c .before .before .open-item .ensures .0) ∙ c .enum-told .given .1))
 
 mark-byte-requires : tie.Need-mark-byte-requires
 mark-byte-requires c κs = (rw (c .before .item .given .1) at (c .before .before .before .open-item .ensures .1)) .places
@@ -36,11 +37,15 @@ enum-told-2 c = search needs
 
 returns-2 : tie.Need-returns-2
 unfolding markAs markHere openedOf itemOf byteAs mapOption
-returns-2 c = rw (item-is (c .before .before .before .before .before .before .before .before .before .before .args .entries .now) (c .before .before .before .before .before .before .before .before .before .before .args .bytes .now) (drop (c .before .before .before .before .before .before .before .before .before .before .args .i * 9) (c .before .before .before .before .before .before .before .before .before .before .args .items .now)) _ (sym (c .before .before .before .before .before .before .open-item .ensures .0) ∙ c .before .before .before .before .item .given .1), ← c .before .before .mark-byte .ensures (c .before .before .before .before .before .before .before .before .before .before .args .entries .now), c .enum-told2 .given .1)
+returns-2 c =
+    let args = c .before .before .before .before .before .before .before .before .before .before .args in
+    rw (item-is (args .entries .now) (args .bytes .now) (drop (args .i * 9) (args .items .now)) _ (sym (c .before .before .before .before .before .before .open-item .ensures .0) ∙ c .before .before .before .before .item .given .1), ← c .before .before .mark-byte .ensures (args .entries .now), c .enum-told2 .given .1)
 
 returns-3 : tie.Need-returns-3
 unfolding markAs markOf markHere openedOf itemOf byteAs mapOption
-returns-3 c = rw (item-is (c .before .before .before .before .before .before .before .before .before .before .before .args .entries .now) (c .before .before .before .before .before .before .before .before .before .before .before .args .bytes .now) (drop (c .before .before .before .before .before .before .before .before .before .before .before .args .i * 9) (c .before .before .before .before .before .before .before .before .before .before .before .args .items .now)) _ (sym (c .before .before .before .before .before .before .before .open-item .ensures .0) ∙ c .before .before .before .before .before .item .given .1), ← c .before .before .before .mark-byte .ensures (c .before .before .before .before .before .before .before .before .before .before .before .args .entries .now), c .before .byte .given .1)
+returns-3 c =
+    let args = c .before .before .before .before .before .before .before .before .before .before .before .args in
+    rw (item-is (args .entries .now) (args .bytes .now) (drop (args .i * 9) (args .items .now)) _ (sym (c .before .before .before .before .before .before .before .open-item .ensures .0) ∙ c .before .before .before .before .before .item .given .1), ← c .before .before .before .mark-byte .ensures (args .entries .now), c .before .byte .given .1)
 
 pub mark-at-spec : {M : Type 1} → statement M
 mark-at-spec =

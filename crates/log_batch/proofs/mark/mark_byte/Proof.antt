@@ -1,8 +1,8 @@
 -- `log_batch::mark::mark_byte` meets its contract. Assumes nothing.
+use borrow.Author.Needs.{needs}
+use Rattle.rules.specs.Items.{markByte}
 use Rattle.log_batch.specs.Judged.{byteAs}
 use Rattle.log_batch.specs.Lent.{contentOf}
-use Rattle.rules.specs.Items.{markByte}
-use borrow.Author.Needs.{needs}
 use Rattle.log_batch.proofs.mark.mark_byte.Statement.{statement}
 use Rattle.log_batch.proofs.mark.mark_byte.Tie as tie
 

@@ -1,10 +1,10 @@
 -- `log_batch::mark::mark_byte_of_key` meets its contract. Assumes nothing.
+use mathlib.Core.Path.{sym, _∙_}
+use borrow.Author.Needs.{needs}
+use borrow.Author.Tests.{not-true, not-false}
+use Rattle.rules.specs.Items.{isReserved, markByte}
 use Rattle.log_batch.specs.Judged.{byteAs}
 use Rattle.log_batch.specs.Lent.{keyContent, keyChange, changeOf}
-use Rattle.rules.specs.Items.{isReserved, markByte}
-use mathlib.Core.Path.{sym, _∙_}
-use borrow.Author.Tests.{not-true, not-false}
-use borrow.Author.Needs.{needs}
 use Rattle.log_batch.proofs.mark.mark_byte_of_key.Statement.{statement}
 use Rattle.log_batch.proofs.mark.mark_byte_of_key.Tie as tie
 

@@ -1,12 +1,12 @@
 -- `log_batch::mark::one_byte` meets its contract. Assumes nothing.
-use Rattle.log_batch.proofs.ItemLaws.{one-byte-part, not-one-byte}
-use Rattle.cells.specs.PartLaws.{length-part}
-use Rattle.log_batch.specs.Judged.{byteAs}
-use Rattle.log_batch.specs.Lent.{valueOf}
-use Rattle.rules.specs.Items.{oneByte}
 use mathlib.Core.Path.{sym, _∙_}
 use native.Mathlib.Omega.{arith}
 use borrow.Author.Needs.{needs}
+use Rattle.cells.specs.PartLaws.{length-part}
+use Rattle.rules.specs.Items.{oneByte}
+use Rattle.log_batch.specs.Judged.{byteAs}
+use Rattle.log_batch.specs.Lent.{valueOf}
+use Rattle.log_batch.proofs.ItemLaws.{one-byte-part, not-one-byte}
 use Rattle.log_batch.proofs.mark.one_byte.Statement.{statement}
 use Rattle.log_batch.proofs.mark.one_byte.Tie as tie
 

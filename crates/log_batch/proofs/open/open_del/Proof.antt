@@ -1,8 +1,8 @@
 -- `log_batch::open::open_del` meets its contract. Assumes nothing.
-use Rattle.log_batch.specs.Lent.{itemIf, openedDel}
 use mathlib.Core.Path.{sym, _∙_}
-use borrow.Author.Tests.{not-true, not-false}
 use borrow.Author.Needs.{needs}
+use borrow.Author.Tests.{not-true, not-false}
+use Rattle.log_batch.specs.Lent.{itemIf, openedDel}
 use Rattle.log_batch.proofs.open.open_del.Statement.{statement}
 use Rattle.log_batch.proofs.open.open_del.Tie as tie
 

@@ -1,8 +1,8 @@
 -- `log_batch::open::open_entries` meets its contract. Assumes nothing.
-use Rattle.log_batch.specs.Lent.{itemIf, openedEntries}
 use mathlib.Core.Path.{sym, _∙_}
-use borrow.Author.Tests.{not-true, not-false}
 use borrow.Author.Needs.{needs}
+use borrow.Author.Tests.{not-true, not-false}
+use Rattle.log_batch.specs.Lent.{itemIf, openedEntries}
 use Rattle.log_batch.proofs.open.open_entries.Statement.{statement}
 use Rattle.log_batch.proofs.open.open_entries.Tie as tie
 

@@ -1,11 +1,8 @@
 -- `log_batch::open::open_item` meets its contract. Assumes nothing.
 use Prim.Native.Nat.{_*_}
--- `log_batch::open::open_item` meets its contract. Assumes nothing.
-use Rattle.log_batch.specs.Lent.{openedWithin}
-use Rattle.log_batch.proofs.PlaceLaws.{row-begins, row-left, opened-within, lent-back}
-use mathlib.Core.Path.{sym, subst}
 use native.Mathlib.Omega.{arith}
 use borrow.Author.Needs.{needs}
+use Rattle.log_batch.proofs.PlaceLaws.{row-begins, row-left, opened-within, lent-back}
 use Rattle.log_batch.proofs.open.open_item.Statement.{statement}
 use Rattle.log_batch.proofs.open.open_item.Tie as tie
 
@@ -25,10 +22,14 @@ part-open-row-end : tie.Need-part-open-row-end
 part-open-row-end c = search needs
 
 open-row-requires : tie.Need-open-row-requires
-open-row-requires c κs = rw (lent-back (c .before .before .before .before .args .i * 9) (c .before .before .before .before .args .items .now)) (row-left _ _ (c .before .before .before .before .pre))
+open-row-requires c κs =
+    let args = c .before .before .before .before .args in
+    rw (lent-back (args .i * 9) (args .items .now)) (row-left _ _ (c .before .before .before .before .pre))
 
 returns : tie.Need-returns
-returns c = let e = rw (lent-back (c .before .before .before .before .before .args .i * 9) (c .before .before .before .before .before .args .items .now)) at (c .open-row .ensures) in (e, rw e (opened-within _ _ _))
+returns c =
+    let args = c .before .before .before .before .before .args in
+    let e = rw (lent-back (args .i * 9) (args .items .now)) at (c .open-row .ensures) in (e, rw e (opened-within _ _ _))
 
 pub open-item-spec : {M : Type 1} → statement M
 open-item-spec =

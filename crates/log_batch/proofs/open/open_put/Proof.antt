@@ -1,8 +1,8 @@
 -- `log_batch::open::open_put` meets its contract. Assumes nothing.
-use Rattle.log_batch.specs.Lent.{itemIf, openedPut}
 use mathlib.Core.Path.{sym, _∙_}
-use borrow.Author.Tests.{not-true, not-false}
 use borrow.Author.Needs.{needs}
+use borrow.Author.Tests.{not-true, not-false}
+use Rattle.log_batch.specs.Lent.{itemIf, openedPut}
 use Rattle.log_batch.proofs.open.open_put.Statement.{statement}
 use Rattle.log_batch.proofs.open.open_put.Tie as tie
 

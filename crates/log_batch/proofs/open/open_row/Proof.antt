@@ -1,7 +1,7 @@
 -- `log_batch::open::open_row` meets its contract. Assumes nothing.
-use Rattle.log_batch.specs.Lent.{itemIf, openedRow}
-use borrow.Author.Tests.{eq-eqb, ne-eqb, lt-ltb, le-ltb}
 use borrow.Author.Needs.{needs}
+use borrow.Author.Tests.{ne-eqb, lt-ltb, le-ltb}
+use Rattle.log_batch.specs.Lent.{itemIf, openedRow}
 use Rattle.log_batch.proofs.open.open_row.Statement.{statement}
 use Rattle.log_batch.proofs.open.open_row.Tie as tie
 

@@ -1,7 +1,7 @@
 -- `log_batch::open::row_count` meets its contract. Assumes nothing.
-use Rattle.log_batch.specs.Lent.{rowCount}
 use mathlib.Core.Path.{refl}
 use borrow.Author.Needs.{needs}
+use Rattle.log_batch.specs.Lent.{rowCount}
 use Rattle.log_batch.proofs.open.row_count.Statement.{statement}
 use Rattle.log_batch.proofs.open.row_count.Tie as tie
 

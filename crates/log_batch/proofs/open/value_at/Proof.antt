@@ -1,7 +1,7 @@
 -- `log_batch::open::value_at` meets its contract. Assumes nothing.
-use Rattle.log_batch.specs.Lent.{valueAt}
-use borrow.Author.Tests.{eq-eqb, ne-eqb}
 use borrow.Author.Needs.{needs}
+use borrow.Author.Tests.{eq-eqb, ne-eqb}
+use Rattle.log_batch.specs.Lent.{valueAt}
 use Rattle.log_batch.proofs.open.value_at.Statement.{statement}
 use Rattle.log_batch.proofs.open.value_at.Tie as tie
 

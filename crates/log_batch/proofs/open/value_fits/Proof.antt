@@ -1,7 +1,7 @@
 -- `log_batch::open::value_fits` meets its contract. Assumes nothing.
-use Rattle.log_batch.specs.Lent.{valueFits}
-use borrow.Author.Tests.{eq-eqb, ne-eqb}
 use borrow.Author.Needs.{needs}
+use borrow.Author.Tests.{eq-eqb, ne-eqb}
+use Rattle.log_batch.specs.Lent.{valueFits}
 use Rattle.log_batch.proofs.open.value_fits.Statement.{statement}
 use Rattle.log_batch.proofs.open.value_fits.Tie as tie
 

@@ -1,10 +1,9 @@
 -- `log_batch::open::within` meets its contract. Assumes nothing.
-use Prim.Native.Nat.{_+_}
--- `log_batch::open::within` meets its contract. Assumes nothing.
-use Rattle.log_batch.proofs.PlaceLaws.{leb-after}
-use native.Mathlib.Omega.{arith}
 use mathlib.Core.Path.{sym}
+use Prim.Native.Nat.{_+_}
+use native.Mathlib.Omega.{arith}
 use borrow.Author.Tests.{lt-leb}
+use Rattle.log_batch.proofs.PlaceLaws.{leb-after}
 use Rattle.log_batch.proofs.open.within.Statement.{statement}
 use Rattle.log_batch.proofs.open.within.Tie as tie
 

@@ -1,7 +1,7 @@
 -- `log_batch::causes::Call::is_live_rewrite` meets its contract. Assumes nothing.
-use Rattle.log_batch.specs.Judged.{callOf}
-use Rattle.rules.specs.Items.{isLiveRewrite}
 use borrow.Author.Needs.{needs}
+use Rattle.rules.specs.Items.{isLiveRewrite}
+use Rattle.log_batch.specs.Judged.{callOf}
 use Rattle.log_batch.proofs.causes.Call.is_live_rewrite.Statement.{statement}
 use Rattle.log_batch.proofs.causes.Call.is_live_rewrite.Tie as tie
 

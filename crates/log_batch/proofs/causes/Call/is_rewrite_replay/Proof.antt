@@ -1,7 +1,7 @@
 -- `log_batch::causes::Call::is_rewrite_replay` meets its contract. Assumes nothing.
-use Rattle.log_batch.specs.Judged.{callOf}
-use Rattle.rules.specs.Checks.{isRewriteReplay}
 use borrow.Author.Needs.{needs}
+use Rattle.rules.specs.Checks.{isRewriteReplay}
+use Rattle.log_batch.specs.Judged.{callOf}
 use Rattle.log_batch.proofs.causes.Call.is_rewrite_replay.Statement.{statement}
 use Rattle.log_batch.proofs.causes.Call.is_rewrite_replay.Tie as tie
 

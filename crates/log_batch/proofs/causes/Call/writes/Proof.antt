@@ -1,7 +1,7 @@
 -- `log_batch::causes::Call::writes` meets its contract. Assumes nothing.
-use Rattle.log_batch.specs.Judged.{callOf}
-use Rattle.rules.specs.Items.{writes}
 use borrow.Author.Needs.{needs}
+use Rattle.rules.specs.Items.{writes}
+use Rattle.log_batch.specs.Judged.{callOf}
 use Rattle.log_batch.proofs.causes.Call.writes.Statement.{statement}
 use Rattle.log_batch.proofs.causes.Call.writes.Tie as tie
 

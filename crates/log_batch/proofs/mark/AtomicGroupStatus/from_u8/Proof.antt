@@ -1,7 +1,7 @@
 -- `log_batch::mark::AtomicGroupStatus::from_u8` meets its contract. Assumes nothing.
-use Rattle.log_batch.proofs.ItemLaws.{status-end}
-use Rattle.log_batch.specs.Judged.{statusAs}
 use Rattle.rules.specs.Items.{statusOf}
+use Rattle.log_batch.specs.Judged.{statusAs}
+use Rattle.log_batch.proofs.ItemLaws.{status-end}
 use Rattle.log_batch.proofs.mark.AtomicGroupStatus.from_u8.Statement.{statement}
 use Rattle.log_batch.proofs.mark.AtomicGroupStatus.from_u8.Tie as tie
 
