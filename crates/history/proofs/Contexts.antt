@@ -54,7 +54,7 @@ after it t c =
       groups = store numbers (it .group) t (c .groups);
       tombstones = c .tombstones ++ tombOf it;
       cleaned = c .cleaned ++ cleanOf it;
-      waiting = c .waiting
+      waiting = c .waiting;
     }
 
 -- a reserved key's item is no clean
@@ -88,7 +88,7 @@ acted it t c =
       groups = store numbers (it .group) t (c .groups);
       tombstones = c .tombstones;
       cleaned = c .cleaned ++ cleanOf it;
-      waiting = c .waiting
+      waiting = c .waiting;
     }
 
 module _ (it : LogItem) (c : Context) where
@@ -121,7 +121,7 @@ module _ (it : LogItem) (c : Context) where
         groups = store-again numbers numbersLawful (it .group) (lookup numbers (it .group) (c .groups)) (c .groups) refl asc i;
         tombstones = c .tombstones;
         cleaned = none-cleaned i;
-        waiting = c .waiting
+        waiting = c .waiting;
       }
     where
       none-cleaned : c .cleaned ++ cond (isClean (it .content)) (it .group ∷ []) [] ≡ c .cleaned
@@ -246,7 +246,7 @@ good-step x c d g f h =
           tables = unfold after in tables-store (x .item .group) t (c .groups) (g .ascend) (g .tables) (good-changed (x .item .content) (lookup numbers (x .item .group) (c .groups)) t (g .tables (x .item .group)) f e);
           cleaned-is = unfold after in (ap (λ l. l ++ cleanOf (x .item)) (g .cleaned-is) ∙ ap (λ l. cleansOf (c .tombstones) ++ l) (sym (clean-tomb (x .item))) ∙ sym (cleans-append (c .tombstones) (tombOf (x .item))));
           tombs = unfold after in (every-append (λ it. isTombstone (it .content)) (c .tombstones) (tombOf (x .item)) ∙ and-both (g .tombs) (every-tomb (x .item)));
-          within = w
+          within = w;
         }
 
 pub good-fresh : GoodContext (fresh Append)
@@ -259,7 +259,7 @@ good-fresh =
       tables = λ g. tt;
       cleaned-is = refl;
       tombs = refl;
-      within = refl
+      within = refl;
     }
 
 -- ---- the newer table takes what the laid one takes
@@ -351,7 +351,7 @@ related-start c g =
       good-newer = good-fresh;
       same-tombs = unfold fresh in sym (append-nil (c .tombstones));
       same-cleaned = unfold fresh in sym (append-nil (c .cleaned));
-      same-groups = λ k. unfold fresh lay laid tombed lookup in refl
+      same-groups = λ k. unfold fresh lay laid tombed lookup in refl;
     }
 
 -- ---- limits: what is newer is no larger
@@ -374,13 +374,13 @@ fits-parts : (c : Context) → fits c ≡ true → Fits c
 unfolding fits
 fits-parts c h =
     let p =
-        five (leb (length (c .groups)) maxGroups) (every (λ (p : Pair ℕ Table). tableFits (p .val)) (c .groups)) (leb (length (c .tombstones)) maxTombstones) (leb (length (c .cleaned)) maxCleaned) (waitingFits (c .waiting)) h in
+    five (leb (length (c .groups)) maxGroups) (every (λ (p : Pair ℕ Table). tableFits (p .val)) (c .groups)) (leb (length (c .tombstones)) maxTombstones) (leb (length (c .cleaned)) maxCleaned) (waitingFits (c .waiting)) h in
     record {
       few-groups = leb-true (length (c .groups)) maxGroups (p .0);
       small-tables = p .1;
       few-tombs = leb-true (length (c .tombstones)) maxTombstones (p .2);
       few-cleaned = leb-true (length (c .cleaned)) maxCleaned (p .3);
-      few-waiting = p .4
+      few-waiting = p .4;
     }
 
 fits-of : (c : Context) → Fits c → fits c ≡ true
@@ -409,7 +409,7 @@ merged-larger o t asc h =
     (rw (merged-keys o t) (unfold overKeys in length-newer bytes bytesLawful (λ a b. b) (made o .keys) (t .keys) asc))
     h
 
-some-not-none : {A : Type 0} {a : A} → some a ≡ none → ⊥
+pub some-not-none : {A : Type 0} {a : A} → some a ≡ none → ⊥
 some-not-none p = let z : _≡_ {A = ℕ} 0 1 = cc in omega arith
 
 -- the newer context is within the limits where the pass is
@@ -495,7 +495,7 @@ module _ (older pass newer : Context) (x : Placed) (r : Related older pass newer
       let t = step-ok x pass (r .good-pass .ascend) next-pass h in
       let here = r .same-groups (x .item .group) in
       let v =
-          simulate-if (x .item .content) (tombedOlder (x .item .group)) (lookup numbers (x .item .group) (newer .groups)) (t .0) (good-tombed (x .item .group) (newer .tombstones) (lookup numbers (x .item .group) (older .groups)) (r .good-older .tables (x .item .group))) (r .good-newer .tables (x .item .group)) f (rw here at l) ((sym (ap (changed (x .item .content)) here) ∙ t .1)) in
+      simulate-if (x .item .content) (tombedOlder (x .item .group)) (lookup numbers (x .item .group) (newer .groups)) (t .0) (good-tombed (x .item .group) (newer .tombstones) (lookup numbers (x .item .group) (older .groups)) (r .good-older .tables (x .item .group))) (r .good-newer .tables (x .item .group)) f (rw here at l) ((sym (ap (changed (x .item .content)) here) ∙ t .1)) in
       let w = rw (t .2) at (t .3) in
       rw (t .2)
       (record {
@@ -507,7 +507,7 @@ module _ (older pass newer : Context) (x : Placed) (r : Related older pass newer
           good-newer = good-step x newer (after (x .item) (v .next) newer) (r .good-newer) f (next-step f (t .0) w v);
           same-tombs = next-tombs f (t .0) w v;
           same-cleaned = next-cleaned f (t .0) w v;
-          same-groups = next-groups (t .0) (v .next) (v .again)
+          same-groups = next-groups (t .0) (v .next) (v .again);
         };
-        leaves = v .leaves
+        leaves = v .leaves;
       })

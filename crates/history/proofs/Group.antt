@@ -68,7 +68,7 @@ good-empty =
       no-span = refl;
       is-counted = refl;
       append-entries = refl;
-      append-keys = refl
+      append-keys = refl;
     }
 
 pub good-made : (o : Option Table) → GoodIf o → Good (made o)
@@ -302,7 +302,7 @@ simulate-entries es o n s gn h =
       next = some (withEntries (over (made n .entries) es) (made n));
       taken = change-entries es n ∙ andThen-of (appended false es (made n)) (λ x. ok (some x)) (withEntries (over (made n .entries) es) (made n)) (append-newer es o (made n) (whole .0) taken);
       again = sym (ok-inj (whole .2)) ∙ ap some (appended-is es (mergeTable Append o (made n)) (whole .0) taken ∙ append-laid es o (made n) (good-made n gn)) ∙ sym (lay-made o (withEntries (over (made n .entries) es) (made n)));
-      leaves = tt
+      leaves = tt;
     }
 
 simulate-clean : (o n s : Option Table) → change replayAppend (command clean) (lay o n) ≡ ok s → Simulated (command clean) o n s
@@ -318,7 +318,7 @@ simulate-compact i o n s gn lx h =
       next = some (compacted i (made n));
       taken = change-compact i n;
       again = sym (ok-inj (sym (change-compact i (lay o n)) ∙ h)) ∙ ap (λ t. some (compacted i t)) (made-lay o n) ∙ ap some (compact-laid i o (made n) (good-made n gn) p) ∙ sym (lay-made (some (compacted i (made o))) (compacted i (made n)));
-      leaves = p
+      leaves = p;
     }
 
 simulate-del : (k : List ℕ) (o n s : Option Table) → GoodIf o → GoodIf n → change replayAppend (kv k del) (lay o n) ≡ ok s → Simulated (kv k del) o n s
@@ -328,7 +328,7 @@ simulate-del k o n s go gn h =
       next = some (deleteKey k (made n));
       taken = change-del k n;
       again = sym (ok-inj (sym (change-del k (lay o n)) ∙ h)) ∙ ap (λ t. some (deleteKey k t)) (made-lay o n) ∙ ap some (delete-laid k o (made n) (good-made o go) (good-made n gn)) ∙ sym (lay-made (some (deleteKey k (made o))) (deleteKey k (made n)));
-      leaves = tt
+      leaves = tt;
     }
 
 simulate-put : (k : List ℕ) (v : Option (List ℕ)) (f : Option FileId) (o n s : Option Table) → GoodIf o → GoodIf n → FitPut v f → change replayAppend (kv k (put v f)) (lay o n) ≡ ok s → Simulated (kv k (put v f)) o n s
@@ -340,7 +340,7 @@ simulate-put k (some v) (some f) o n s go gn fx h =
       next = some (putKey k (record { value = v; file = f }) (made n));
       taken = change-put k v f n;
       again = sym (ok-inj (sym (change-put k v f (lay o n)) ∙ h)) ∙ ap (λ t. some (putKey k (record { value = v; file = f }) t)) (made-lay o n) ∙ ap some (put-laid k (record { value = v; file = f }) o (made n) (good-made o go) (good-made n gn)) ∙ sym (lay-made o (putKey k (record { value = v; file = f }) (made n)));
-      leaves = tt
+      leaves = tt;
     }
 
 pub simulate : (x : Content) (o n s : Option Table) → GoodIf o → GoodIf n → Fit x → Leaves x (lay o n) → change replayAppend x (lay o n) ≡ ok s → Simulated x o n s
@@ -362,7 +362,7 @@ good-entries es t g c a =
       no-span = g .no-span;
       is-counted = g .is-counted;
       append-entries = a;
-      append-keys = g .append-keys
+      append-keys = g .append-keys;
     }
 
 good-keys : (m : Map (List ℕ) Held) (t : Table) → Good t → Ascending bytes m → every (λ p. sameQueue (p .val .file .queue) Append) m ≡ true → Good (withKeys m t)
@@ -374,7 +374,7 @@ good-keys m t g c a =
       no-span = g .no-span;
       is-counted = g .is-counted;
       append-entries = g .append-entries;
-      append-keys = a
+      append-keys = a;
     }
 
 every-below : (p : EntryIndex → Bool) (x : ℕ) (a : List EntryIndex) → every p a ≡ true → every p (entriesBelow x a) ≡ true

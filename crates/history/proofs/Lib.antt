@@ -5,3 +5,6 @@ pub mod Contexts
 pub mod Merging
 pub mod Passes
 pub mod Rule
+pub mod OnePass
+pub mod Counts
+pub mod Theorem

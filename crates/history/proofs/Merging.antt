@@ -84,7 +84,7 @@ replayed-is (x ∷ xs) c asc = later (replayed-is xs first-done (acted-ascend x 
           same-tombs = r .same-tombs ∙ (unfold acted in refl);
           more-cleaned = r .more-cleaned ∙ (unfold acted in append-assoc (c .cleaned) (cleanOf x) (cleansOf xs));
           ascend = r .ascend;
-          tombed-groups = λ g. r .tombed-groups g ∙ ap (tombed g xs) (unfold acted in cond-at g (x .group) (x .content) (c .groups) asc)
+          tombed-groups = λ g. r .tombed-groups g ∙ ap (tombed g xs) (unfold acted in cond-at g (x .group) (x .content) (c .groups) asc);
         }
 
 -- ---- newer tables
@@ -146,7 +146,7 @@ module _ (older pass newer : Context) (r : Related older pass newer) where
         groups = merged-groups i;
         tombstones = (mid-is .same-tombs ∙ (sym (r .same-tombs))) i;
         cleaned = (mid-is .more-cleaned ∙ (ap (λ l. older .cleaned ++ l) (sym (r .good-newer .cleaned-is))) ∙ sym (r .same-cleaned)) i;
-        waiting = (mid-is .same-waiting ∙ (r .good-older .none-waits) ∙ sym (r .good-pass .none-waits)) i
+        waiting = (mid-is .same-waiting ∙ (r .good-older .none-waits) ∙ sym (r .good-pass .none-waits)) i;
       }
 
   tables-merged : mergeTables Append newer mid ≡ ok pass

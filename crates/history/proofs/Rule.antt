@@ -85,7 +85,7 @@ left-clean : (es : List EntryIndex) → leftOf (command clean) es ≡ []
 unfolding leftOf endsEntry
 left-clean es = select-none (λ e. false) es (all-true es)
 
-left-compact : (i : ℕ) (es : List EntryIndex) → leftOf (command (compact i)) es ≡ entriesFrom i es
+pub left-compact : (i : ℕ) (es : List EntryIndex) → leftOf (command (compact i)) es ≡ entriesFrom i es
 unfolding leftOf endsEntry entriesFrom
 left-compact i es = select-same (λ e. not (ltb (e .index) i)) (λ e. leb i (e .index)) es (λ e. not-ltb (e .index) i)
 
@@ -332,7 +332,7 @@ pub record HeldBy (items : List LogItem) (c : Context) : Type 0 where
   pub keys-held : (g : ℕ) (k : List ℕ) → sameBytes k reservedKey ≡ false → keyIn g k c ≡ keyHeld g k items
 
 -- the item's own group, and another
-left-own : (g : ℕ) (it : LogItem) (es : List EntryIndex) → eqb (it .group) g ≡ true → select (leftBy g it) es ≡ leftOf (it .content) es
+pub left-own : (g : ℕ) (it : LogItem) (es : List EntryIndex) → eqb (it .group) g ≡ true → select (leftBy g it) es ≡ leftOf (it .content) es
 unfolding leftOf
 left-own g it es u =
     select-same (leftBy g it) (λ e. not (endsEntry (e .index) (it .content))) es (λ e. unfold leftBy in ap (λ b. not (b && endsEntry (e .index) (it .content))) u)

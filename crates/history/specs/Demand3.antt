@@ -49,16 +49,16 @@ pub record Last (batches : List Batch) (c : Context) : Type 1 where
 pub record Demand3 (batches : List Batch) : Type 1 where
   -- 'every replay .. is accepted': of the next batch of a run that is part of the history
   pub replay-accepted :
-    (before so-far after : List Batch) (b : Batch) (c : Context)
-    → history batches (fresh Append) ≡ before ++ (so-far ++ (b ∷ after))
-    → Made (run so-far) c
-    → (d : Context) × (replay b c ≡ ok d)
+      (before so-far after : List Batch) (b : Batch) (c : Context)
+      → history batches (fresh Append) ≡ before ++ (so-far ++ (b ∷ after))
+      → Made (run so-far) c
+      → (d : Context) × (replay b c ≡ ok d)
   -- 'and merge': of neighbouring stretches of the history, each made by runs and merges of its own
   pub merge-accepted :
-    (before after : List Batch) (older newer : Runs) (c d : Context)
-    → history batches (fresh Append) ≡ before ++ (batchesOf (merged older newer) ++ after)
-    → Made older c
-    → Made newer d
-    → (e : Context) × (merge d c ≡ ok e)
+      (before after : List Batch) (older newer : Runs) (c d : Context)
+      → history batches (fresh Append) ≡ before ++ (batchesOf (merged older newer) ++ after)
+      → Made older c
+      → Made newer d
+      → (e : Context) × (merge d c ≡ ok e)
   -- 'The last context': of runs that the whole history was cut into
   pub last : (runs : Runs) (c : Context) → batchesOf runs ≡ history batches (fresh Append) → Made runs c → Last batches c
