@@ -1,0 +1,1 @@
+fn main() { println!("{}", raft_engine::env::hash_u64(1)); }
