@@ -16,3 +16,8 @@ pub fn batch_of(items: Vec<LogItem>) -> LogItemBatch {
 pub fn cleans(mut batch: LogBatch) -> Vec<u64> {
     batch.drain().map(|item| item.raft_group_id).collect()
 }
+
+/// Whether a key is reserved, by the rule that is not for tests.
+pub fn reserved(key: &[u8]) -> bool {
+    crate::is_internal_key(key, None)
+}

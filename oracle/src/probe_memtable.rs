@@ -7,10 +7,11 @@ use std::sync::atomic::Ordering;
 
 pub type Table = MemTable<VacantAllocator>;
 pub type Context = MemTableRecoverContext<VacantAllocator>;
+pub type Tables = MemTableAccessor<VacantAllocator>;
 
 /// What the join leaves: the tables and the counters that can be read.
 pub struct Index {
-    pub memtables: MemTableAccessor<VacantAllocator>,
+    pub memtables: Tables,
     stats: Arc<GlobalStats>,
 }
 
@@ -74,10 +75,7 @@ fn copy_table_with(t: &Table, copies: &mut Copies) -> Table {
     }
 }
 
-fn copy_accessor(
-    a: &MemTableAccessor<VacantAllocator>,
-    copies: &mut Copies,
-) -> MemTableAccessor<VacantAllocator> {
+fn copy_tables(a: &Tables, copies: &mut Copies) -> Tables {
     let out = MemTableAccessor::new(copies.of(&a.global_stats));
     for slot in &a.slots {
         for t in slot.read().values() {
@@ -138,7 +136,7 @@ pub fn copy_context(c: &Context) -> Context {
     MemTableRecoverContext {
         stats: copies.of(&c.stats),
         tombstone_items: c.tombstone_items.clone(),
-        memtables: copy_accessor(&c.memtables, &mut copies),
+        memtables: copy_tables(&c.memtables, &mut copies),
         pending_atomic_groups: waiting,
     }
 }
@@ -147,7 +145,7 @@ pub fn copy_index(i: &Index) -> Index {
     let mut copies = Copies::default();
     Index {
         stats: copies.of(&i.stats),
-        memtables: copy_accessor(&i.memtables, &mut copies),
+        memtables: copy_tables(&i.memtables, &mut copies),
     }
 }
 
@@ -166,7 +164,7 @@ pub fn join(rewrite: Context, append: Context) -> Index {
     Index { memtables, stats }
 }
 
-pub fn context_tables(c: &Context) -> &MemTableAccessor<VacantAllocator> {
+pub fn context_tables(c: &Context) -> &Tables {
     &c.memtables
 }
 
@@ -182,34 +180,47 @@ pub fn tombstones(c: &Context) -> &[LogItem] {
     &c.tombstone_items
 }
 
+fn part(p: &PendingAtomicGroup) -> Part {
+    Part {
+        status: p.status as u8,
+        start: p.start,
+        end: p.end,
+        items: p.items.clone(),
+        tombstones: p.tombstone_items.clone(),
+    }
+}
+
 /// Waiting parts by group number, ascending; a group's parts in order.
 pub fn waiting(c: &Context) -> Vec<(u64, Vec<Part>)> {
     let mut out = Vec::new();
     for (id, parts) in c.pending_atomic_groups.iter() {
-        let parts = parts.iter().map(|p| Part {
-            status: p.status as u8,
-            start: p.start,
-            end: p.end,
-            items: p.items.clone(),
-            tombstones: p.tombstone_items.clone(),
-        });
-        out.push((*id, parts.collect()));
+        out.push((*id, parts.iter().map(part).collect()));
     }
     out.sort_by_key(|(id, _)| *id);
     out
 }
 
-pub fn cleaned(a: &MemTableAccessor<VacantAllocator>) -> Vec<u64> {
+pub fn cleaned(a: &Tables) -> Vec<u64> {
     a.removed_memtables.lock().iter().copied().collect()
+}
+
+/// Takes the newest waiting part of a group away.
+pub fn pop_waiting(c: &mut Context, group: u64) -> Option<Part> {
+    let parts = c.pending_atomic_groups.get_mut(&group)?;
+    let p = parts.pop()?;
+    if parts.is_empty() {
+        c.pending_atomic_groups.remove(&group);
+    }
+    Some(part(&p))
 }
 
 /// The slot of a group number.
 pub fn slot(group: u64) -> usize {
-    MemTableAccessor::<VacantAllocator>::slot_index(group)
+    Tables::slot_index(group)
 }
 
 /// Group numbers, ascending.
-pub fn groups(a: &MemTableAccessor<VacantAllocator>) -> Vec<u64> {
+pub fn groups(a: &Tables) -> Vec<u64> {
     let mut out = a.fold(Vec::new(), |mut v, t| {
         v.push(t.region_id());
         v
