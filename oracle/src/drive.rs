@@ -645,9 +645,10 @@ fn dump_view(word: &str, v: &View) -> Answer {
         Some((start, end)) => line.number(start).number(end),
         None => line.word("-"),
     };
-    let mut out = vec![line.number(v.entries.len() as u64).number(v.keys.len() as u64).0];
-    out.extend(v.entries.iter().map(|e| Line::of("entry").entry(e).0));
-    out.extend(v.keys.iter().map(|(k, x, f)| Line::of("key").bytes(k).bytes(x).file(*f).0));
+    let mut out = vec![line.0];
+    out.push(Line::of("entries").entries(&v.entries).0);
+    let keys = Line::of("keys").number(v.keys.len() as u64);
+    out.push(v.keys.iter().fold(keys, |l, (k, x, f)| l.bytes(k).bytes(x).file(*f)).0);
     out
 }
 

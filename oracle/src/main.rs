@@ -1,10 +1,17 @@
 //! The Rust as oracle: see README.md.
 
+mod boundary;
 mod check;
 mod drive;
+mod generate;
 mod law;
 mod panics;
+mod random;
+mod run;
+mod takes;
 mod text;
+mod vectors;
+mod world;
 
 use drive::Driver;
 use std::io::{BufRead, Write};
@@ -12,6 +19,16 @@ use std::io::{BufRead, Write};
 fn usage() -> ! {
     eprintln!("see oracle/README.md for the commands");
     std::process::exit(2)
+}
+
+fn number(t: &str) -> u64 {
+    t.parse().unwrap_or_else(|_| usage())
+}
+
+fn print_script(seed: u64) {
+    for line in generate::script(seed) {
+        println!("{}", line);
+    }
 }
 
 fn exit_with(differences: usize) {
@@ -49,6 +66,13 @@ fn main() {
         ["answer", "law"] => answer(true),
         ["check", path] => exit_with(check::check(path, false)),
         ["check", path, "panics"] => exit_with(check::check(path, true)),
+        ["script", seed] => print_script(number(seed)),
+        ["run", n] => exit_with(run::run(number(n), true)),
+        ["run", n, "plain"] => exit_with(run::run(number(n), false)),
+        ["vectors", "memtable", seed, n] => vectors::memtable(number(seed), number(n)),
+        ["vectors", "index", seed, n] => vectors::index(number(seed), number(n)),
+        ["vectors", "mix", seed, n] => vectors::mix(number(seed), number(n)),
+        ["takes"] => takes::takes(std::io::stdin().lock(), &mut std::io::stdout().lock()),
         _ => usage(),
     }
 }

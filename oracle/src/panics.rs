@@ -48,13 +48,14 @@ pub fn catch<T>(call: impl FnOnce() -> T) -> Result<T, Panic> {
 
 /// 01's number for each place where the Rust stops, with a name for figures.
 /// The lines are those of the unchanged files.
-const PLACES: [(&str, u8, &str); 23] = [
+const PLACES: [(&str, u8, &str); 24] = [
     ("memtable.rs:218", 3, "entry without a file"),
     ("memtable.rs:231", 8, "merged spans go back"),
     ("memtable.rs:260", 3, "entry without a file"),
     ("memtable.rs:349", 17, "key rewrite to a lower number"),
     ("memtable.rs:455", 15, "Append entry before a rewrite"),
     ("memtable.rs:456", 15, "Append entry before a rewrite"),
+    ("memtable.rs:460", 3, "indexes not consecutive"),
     ("memtable.rs:466", 16, "gated rewrite meets a Rewrite entry"),
     ("memtable.rs:548", 8, "spans go back"),
     ("memtable.rs:600", 13, "append below the first entry"),
