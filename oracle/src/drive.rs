@@ -90,6 +90,8 @@ pub struct Driver {
     objects: BTreeMap<u64, Object>,
     /// Whether 01's refusals are given where the Rust returns.
     pub law: bool,
+    /// Whether a batch that panics leaves its state.
+    keep: bool,
     /// Whether the last line ended in a panic, and of which kind.
     pub panicked: Option<String>,
 }
@@ -110,6 +112,7 @@ impl Driver {
             "script" => self.script(&mut t),
             "mix" => mix(&mut t),
             "try" => self.attempt(&line[4..]),
+            "left" => self.left(&line[5..]),
             "t" => self.table_line(&mut t),
             "q" => self.query_line(&mut t),
             "c" => self.object_line(&mut t),
@@ -133,6 +136,14 @@ impl Driver {
         let answer = self.line(line);
         self.tables = tables;
         self.objects = objects;
+        answer
+    }
+
+    /// Answers a call; where the Rust stops, keeps what it leaves.
+    fn left(&mut self, line: &str) -> Read<Answer> {
+        self.keep = true;
+        let answer = self.line(line);
+        self.keep = false;
         answer
     }
 
@@ -332,7 +343,11 @@ impl Driver {
                 ok()
             }
             Err(p) => {
-                std::mem::forget(copy);
+                if self.keep {
+                    self.objects.insert(n, copy);
+                } else {
+                    std::mem::forget(copy);
+                }
                 self.refused(Refusal::panic(p, None))
             }
         }

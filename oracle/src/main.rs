@@ -64,9 +64,10 @@ fn main() {
     match args.as_slice() {
         ["answer"] => answer(false),
         ["answer", "law"] => answer(true),
-        ["check", path] => exit_with(check::check(path, false)),
-        ["check", path, "panics"] => exit_with(check::check(path, true)),
-        ["script", seed] => print_script(number(seed)),
+        ["check", path] => exit_with(check::check(path, true, false)),
+        ["check", path, "panics"] => exit_with(check::check(path, true, true)),
+        ["check", path, "plain"] => exit_with(check::check(path, false, false)),
+        ["scripts", from, to] => (number(from)..=number(to)).for_each(print_script),
         ["run", n] => exit_with(run::run(number(n), true)),
         ["run", n, "plain"] => exit_with(run::run(number(n), false)),
         ["vectors", "memtable", seed, n] => vectors::memtable(number(seed), number(n)),

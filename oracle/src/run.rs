@@ -53,7 +53,7 @@ fn answers(
 
 /// The order of tombstones between groups is open: they are put in the order
 /// of group numbers, each group's own order kept.
-fn open(mut answer: Vec<String>) -> Vec<String> {
+pub fn open(mut answer: Vec<String>) -> Vec<String> {
     let group = |l: &String| -> Option<u64> {
         l.strip_prefix("tombstone ")?.split(' ').nth(1)?.parse().ok()
     };
