@@ -1,0 +1,62 @@
+-- `cells::bytes::shift_up_u8` meets its contract: all of the stretch from its place `left` on is moved. Assumes nothing.
+use Prim.Native.Nat.{_+_, _-_, _≤_}
+use native.Mathlib.Nat.{sub-self}
+use Rattle.cells.specs.Part.{part}
+use Rattle.cells.specs.PartLaws.{part-none}
+use Rattle.cells.proofs.Steps.{Laid, laid-none, up-more, up-all}
+use borrow.Author.Needs.{needs}
+use Rattle.cells.proofs.bytes.shift_up_u8.Statement.{statement}
+use Rattle.cells.proofs.bytes.shift_up_u8.Tie as tie
+
+abbrev Inv-loop : tie.InvT-loop
+Inv-loop s₀ from to count left₀ s left = (left ≤ count) × Laid s₀ (to + left) (part (from + left) (count - left) s₀) s
+
+abbrev μ-loop : tie.MeasureT-loop
+μ-loop s₀ from to count left₀ s left = left
+
+loop-holds : tie.Need-loop-holds Inv-loop μ-loop
+loop-holds c = (search needs, rw (sub-self, part-none) (laid-none _ _))
+
+sub-left : tie.Need-sub-left Inv-loop μ-loop
+sub-left c = search needs
+
+add-s : tie.Need-add-s Inv-loop μ-loop
+add-s c = search needs
+
+slice-read-s : tie.Need-slice-read-s Inv-loop μ-loop
+slice-read-s c = search needs
+
+add-s-2 : tie.Need-add-s-2 Inv-loop μ-loop
+add-s-2 c = search needs
+
+slice-write-s : tie.Need-slice-write-s Inv-loop μ-loop
+slice-write-s c = search needs
+
+loop-less : tie.Need-loop-less Inv-loop μ-loop
+loop-less c = search needs
+
+loop-again : tie.Need-loop-again Inv-loop μ-loop
+loop-again c = (search needs, up-more _ _ _ (c .before .before .loop .left) 0 (c .before .before .loop .inv .1) (search needs) (search needs) (search needs) (search needs))
+
+same-length : tie.Need-same-length Inv-loop μ-loop
+same-length c = search needs
+
+returns : tie.Need-returns Inv-loop μ-loop
+returns c = up-all _ _ _ (c .before .loop .left) (c .before .loop .inv .1) (search needs)
+
+pub shift-up-u8-spec : {M : Type 1} → statement M
+shift-up-u8-spec =
+    tie.close
+    (tie.spec
+    Inv-loop
+    μ-loop
+    loop-holds
+    sub-left
+    add-s
+    slice-read-s
+    add-s-2
+    slice-write-s
+    loop-less
+    loop-again
+    same-length
+    returns)

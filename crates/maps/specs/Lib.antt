@@ -1,0 +1,3 @@
+-- Lists and maps as the rules speak of them.
+pub mod Lists
+pub mod Maps
