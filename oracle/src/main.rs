@@ -9,6 +9,7 @@ mod panics;
 mod random;
 mod run;
 mod takes;
+mod takes_lines;
 mod text;
 mod vectors;
 mod world;
@@ -72,6 +73,7 @@ fn main() {
         ["run", n, "plain"] => exit_with(run::run(number(n), false)),
         ["vectors", "memtable", seed, n] => vectors::memtable(number(seed), number(n)),
         ["vectors", "index", seed, n] => vectors::index(number(seed), number(n)),
+        ["vectors", "takes", seed, n] => vectors::takes(number(seed), number(n)),
         ["vectors", "mix", seed, n] => vectors::mix(number(seed), number(n)),
         ["takes"] => takes::takes(std::io::stdin().lock(), &mut std::io::stdout().lock()),
         _ => usage(),

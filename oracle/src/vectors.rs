@@ -4,6 +4,7 @@ use crate::boundary;
 use crate::drive::Driver;
 use crate::generate::{query, script};
 use crate::random::Random;
+use crate::takes_lines;
 use crate::text::Line;
 use crate::world::{World, MAX_INDEX};
 use raft_engine::env::{EntryIndex, FileId, LogQueue};
@@ -38,6 +39,12 @@ pub fn index(seed: u64, n: u64) {
     for s in seed..seed + n {
         print_answered(&script(s));
     }
+}
+
+/// Inputs of the program `takes` ("> ") with its output ("= ").
+pub fn takes(seed: u64, n: u64) {
+    heading("takes", seed, n);
+    takes_lines::print(seed, n);
 }
 
 /// Group numbers, mixed, and their slots.
