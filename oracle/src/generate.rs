@@ -61,11 +61,19 @@ impl Script {
     /// One to four contexts of a queue, each with its batches.
     fn runs(&mut self, first: u64, queue: LogQueue) -> u64 {
         let n = self.w.r.from_to(1, 4);
+        let mut begun = false;
         for object in first..first + n {
             self.push(Line::of("c").number(object).word("new").queue(queue));
+            if begun {
+                self.replay_all_groups(object, 2);
+            }
             for _ in 0..self.w.r.from_to(0, 8) {
                 self.replay(object, queue);
                 self.queries(object, 50);
+            }
+            begun = queue == LogQueue::Rewrite && self.w.r.percent(20);
+            if begun {
+                self.replay_all_groups(object, 0);
             }
             self.look(object);
             self.carry_on(object, first + n);
@@ -104,7 +112,10 @@ impl Script {
         let more = if self.begun.is_some() { 70 } else { 45 };
         let marked = queue == LogQueue::Rewrite && self.w.r.percent(more);
         let items = if marked {
-            self.marked_items(object, seq)
+            let group = self.begun.unwrap_or(self.w.group());
+            let status = self.status();
+            self.begun = if status < 2 && self.w.r.percent(80) { Some(group) } else { None };
+            self.marked_items(object, group, status, seq)
         } else {
             self.items(object, queue, seq)
         };
@@ -133,13 +144,10 @@ impl Script {
     }
 
     /// Items of one group with a mark at some place.
-    fn marked_items(&mut self, object: u64, seq: u64) -> Vec<LogItem> {
-        let group = self.begun.unwrap_or(self.w.group());
+    fn marked_items(&mut self, object: u64, group: u64, status: u8, seq: u64) -> Vec<LogItem> {
         let n = if self.w.r.percent(5) { 20 } else { self.w.r.below(4) };
         let mut items: Vec<LogItem> =
             (0..n).map(|_| self.item(object, group, LogQueue::Rewrite, seq)).collect();
-        let status = self.status();
-        self.begun = if status < 2 && self.w.r.percent(80) { Some(group) } else { None };
         let at = self.w.r.below(items.len() as u64 + 1) as usize;
         items.insert(at, put(group, RESERVED.to_vec(), Some(vec![status]), None));
         if self.w.wild && self.w.r.percent(10) {
@@ -147,6 +155,17 @@ impl Script {
             items.push(put(other, RESERVED.to_vec(), Some(vec![1]), None));
         }
         items
+    }
+
+    /// Begins in one run what the next run ends, in every group, so that a
+    /// merge finishes parts of several groups.
+    fn replay_all_groups(&mut self, object: u64, status: u8) {
+        for group in self.w.groups.clone() {
+            let seq = self.seq(LogQueue::Rewrite);
+            let items = self.marked_items(object, group, status, seq);
+            let file = FileId::new(LogQueue::Rewrite, seq);
+            self.push(Line::of("c").number(object).word("replay").file(file).items(&items));
+        }
     }
 
     fn status(&mut self) -> u8 {
