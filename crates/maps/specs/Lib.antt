@@ -1,3 +1,6 @@
--- Lists and maps as the rules speak of them.
+-- Lists and maps as the rules speak of them, and their laws.
 pub mod Lists
 pub mod Maps
+pub mod OrderLaws
+pub mod MapLaws
+pub mod ListLaws
