@@ -25,15 +25,7 @@ struct Script {
 }
 
 pub fn script(seed: u64) -> Vec<String> {
-    let mut s = Script {
-        w: World::new(seed),
-        lines: vec![Line::of("script").number(seed).0],
-        next: HashMap::new(),
-        append_seq: 1,
-        rewrite_seq: 1,
-        begun: None,
-        joined: false,
-    };
+    let mut s = Script::new(seed);
     let appends = s.runs(APPEND, LogQueue::Append);
     let rewrites = s.runs(REWRITE, LogQueue::Rewrite);
     s.merges(APPEND, appends);
@@ -49,7 +41,33 @@ pub fn script(seed: u64) -> Vec<String> {
     s.lines
 }
 
+/// Append batches, each as the text behind `replay`, with its items.
+pub fn append_batches(seed: u64) -> Vec<(String, Vec<LogItem>)> {
+    let mut s = Script::new(seed);
+    let n = s.w.r.from_to(1, 20);
+    (0..n)
+        .map(|_| {
+            let seq = s.seq(LogQueue::Append);
+            let items = s.items(APPEND, LogQueue::Append, seq);
+            let file = FileId::new(LogQueue::Append, seq);
+            (Line::default().file(file).items(&items).0, items)
+        })
+        .collect()
+}
+
 impl Script {
+    fn new(seed: u64) -> Script {
+        Script {
+            w: World::new(seed),
+            lines: vec![Line::of("script").number(seed).0],
+            next: HashMap::new(),
+            append_seq: 1,
+            rewrite_seq: 1,
+            begun: None,
+            joined: false,
+        }
+    }
+
     fn push(&mut self, line: Line) {
         self.lines.push(line.0);
     }

@@ -2,6 +2,7 @@
 
 mod boundary;
 mod check;
+mod cuttings;
 mod drive;
 mod generate;
 mod law;
@@ -75,6 +76,7 @@ fn main() {
         ["vectors", "index", seed, n] => vectors::index(number(seed), number(n)),
         ["vectors", "takes", seed, n] => vectors::takes(number(seed), number(n)),
         ["vectors", "mix", seed, n] => vectors::mix(number(seed), number(n)),
+        ["cuttings", n] => exit_with(cuttings::run(number(n))),
         ["takes"] => takes::takes(std::io::stdin().lock(), &mut std::io::stdout().lock()),
         _ => usage(),
     }
