@@ -3,3 +3,5 @@ pub mod Windows
 pub mod Group
 pub mod Contexts
 pub mod Merging
+pub mod Passes
+pub mod Rule
