@@ -8,3 +8,4 @@ pub mod Rule
 pub mod OnePass
 pub mod Counts
 pub mod Theorem
+pub mod Counterexamples
