@@ -2,7 +2,7 @@
 -- appended, so that it leaves its group no entry.
 use mathlib.Core.Path.{_≡_, refl}
 use mathlib.Core.List.{List, [], _∷_, _++_}
-use Rattle.rules.specs.Causes.{Result, ok, refuse, aboveLast}
+use Rattle.rules.specs.Causes.{ok, refuse, aboveLast}
 use Rattle.rules.specs.Items.{Append, Batch, entries, command, compact}
 use Rattle.rules.proofs.Opened.{opened}
 use Rattle.rules.proofs.Bench.{several, batch, recovered, merged, held}

@@ -1,4 +1,5 @@
 -- The proof of demand 3: laws of windows, one group, contexts, the rule of what is held, and the theorem.
+pub mod Basics
 pub mod Windows
 pub mod Group
 pub mod Contexts
