@@ -1,0 +1,3 @@
+//! The name that lib.rs exports.
+
+pub struct Engine;
