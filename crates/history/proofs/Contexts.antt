@@ -1,29 +1,29 @@
 -- Append contexts: what an accepted step does, and the relation of one pass, an older context and the newer context that is merged into it.
 -- Assumes nothing.
 use mathlib.Core.Path.{_≡_, refl, sym, ap, _∙_}
-use mathlib.Core.Logic.{_⊎_, inl, inr, ⊎-elim}
-use mathlib.Core.Bool.{Bool, true, false, cond, not, _&&_, true≢false, false≢true}
+use mathlib.Core.Logic.{_⊎_, ⊎-elim}
+use mathlib.Core.Bool.{Bool, true, false, cond, _&&_, true≢false, false≢true}
 use mathlib.Core.List.{List, [], _∷_, _++_, append-assoc, append-nil}
 use mathlib.Core.Option.{Option, none, some}
-use Prim.Native.Nat.{ℕ, _≤_, _<_, _+_}
+use Prim.Native.Nat.{ℕ, _≤_}
 use native.Mathlib.Omega.{arith}
 use lib.Dec.{leb, eqb}
 use lib.ListN.{length, length-append}
 use borrow.Author.Tests.{leb-true, le-leb, eqb-true, eq-eqb, ne-eqb, eqb-false}
-use Rattle.maps.specs.Lists.{every, any, sum, orElse}
-use Rattle.maps.specs.Maps.{Pair, Map, lookup, store, mergeWith, numbers, bytes}
-use Rattle.maps.specs.ListLaws.{any-none, every-append}
+use Rattle.maps.specs.Lists.{every, sum}
+use Rattle.maps.specs.Maps.{Pair, Map, lookup, store, numbers, bytes}
+use Rattle.maps.specs.ListLaws.{every-append}
 use Rattle.maps.specs.OrderLaws.{split, numbersLawful, bytesLawful}
-use Rattle.maps.specs.MapLaws.{pair, Ascending, laid, ascending-nil, ascending-store, ascending-mergeWith, lookup-store, store-again, lookup-mergeWith, ext, every-intro, every-lookup, length-sub, length-newer}
+use Rattle.maps.specs.MapLaws.{Ascending, laid, ascending-nil, ascending-store, lookup-store, store-again, every-intro, every-lookup, length-sub, length-newer}
 use Rattle.rules.specs.Limits.{maxGroups, maxEntries, maxKeys, maxTombstones, maxCleaned}
-use Rattle.rules.specs.Causes.{Refusal, Result, ok, refused, refuse, refuseAt, andThen, placed, inOrder, limitPassed}
-use Rattle.rules.specs.Items.{LogQueue, Append, Rewrite, sameQueue, Command, clean, compact, Change, put, del, Content, entries, command, kv, LogItem, Placed, isReserved, isClean, isTombstone, writes, Call, replayAppend}
-use Rattle.rules.specs.Table.{Table, made, change, isAboveLast, firstIndex, over, overKeys}
-use Rattle.rules.specs.Context.{Kind, context, Context, fresh, withGroups, withTombstones, withCleaned, tableFits, waitingFits, fits, limited, addCleaned, act, keeps, addTombstone, step, replayTombstones}
-use Rattle.rules.specs.Calls.{clashes, mergeTable, mergeTables, mergeContexts, replayCall, both, merge}
-use Rattle.rules.specs.Waiting.{acceptAll}
-use Rattle.history.proofs.Windows.{and-left, and-right, and-both, no-gap, length-over}
-use Rattle.history.proofs.Group.{ok-inj, refused-not-ok, andThen-ok, andThen-of, Good, GoodIf, good-made, Fit, Leaves, effect, lay, lay-made, made-lay, merged-entries, merged-keys, Simulated, simulate, good-change, good-effect}
+use Rattle.rules.specs.Causes.{Refusal, Result, ok, refused, refuseAt, andThen, placed, limitPassed}
+use Rattle.rules.specs.Items.{Append, sameQueue, put, del, Content, entries, command, kv, LogItem, Placed, isReserved, isClean, isTombstone, writes, replayAppend}
+use Rattle.rules.specs.Table.{Table, made, change, overKeys}
+use Rattle.rules.specs.Context.{context, Context, fresh, withGroups, withTombstones, withCleaned, tableFits, waitingFits, fits, limited, addCleaned, act, keeps, addTombstone, step}
+use Rattle.rules.specs.Calls.{mergeTable}
+use Rattle.history.proofs.Basics.{and-left, and-right, and-both, some-not-none, cond-same, ok-inj, refused-not-ok}
+use Rattle.history.proofs.Windows.{length-over}
+use Rattle.history.proofs.Group.{Good, GoodIf, Fit, Leaves, effect, lay, lay-made, merged-entries, merged-keys, Simulated, simulate, good-change, good-effect}
 
 -- ---- items, a reserved one being skipped
 
@@ -314,10 +314,6 @@ no-effect (command c) o h = absurd (true≢false h)
 no-effect (kv k del) o h = absurd (true≢false h)
 no-effect (kv k (put v f)) o h = split (isReserved (kv k (put v f))) (λ e. rw e) (λ e. rw e)
 
-cond-same : {A : Type 0} (b : Bool) (a : A) → cond b a a ≡ a
-cond-same true a = refl
-cond-same false a = refl
-
 tombed-step : (g : ℕ) (xs : List LogItem) (it : LogItem) (o : Option Table) → tombed g (xs ++ tombOf it) o ≡ cond (eqb (it .group) g) (effected (it .content) (tombed g xs o)) (tombed g xs o)
 unfolding tombOf
 tombed-step g xs it o =
@@ -408,9 +404,6 @@ merged-larger o t asc h =
     (rw (merged-entries o t) (length-over (made o .entries) (t .entries)))
     (rw (merged-keys o t) (unfold overKeys in length-newer bytes bytesLawful (λ a b. b) (made o .keys) (t .keys) asc))
     h
-
-pub some-not-none : {A : Type 0} {a : A} → some a ≡ none → ⊥
-some-not-none p = let z : _≡_ {A = ℕ} 0 1 = cc in omega arith
 
 -- the newer context is within the limits where the pass is
 module _ (pass newer : Context) (older : ℕ → Option Table) (groups : (g : ℕ) → lookup numbers g (pass .groups) ≡ lay (older g) (lookup numbers g (newer .groups))) (asc : Ascending numbers (newer .groups)) (good : (g : ℕ) → GoodIf (lookup numbers g (newer .groups))) where

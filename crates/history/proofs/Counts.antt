@@ -1,13 +1,12 @@
 -- Live counts of an Append context: all that it holds counts to the Append queue, and nothing to the Rewrite queue.
 -- Assumes nothing.
 use mathlib.Core.Path.{_≡_, refl, sym, ap, _∙_}
-use mathlib.Core.Bool.{Bool, true, false, cond, not, true≢false, false≢true}
+use mathlib.Core.Bool.{true, false, cond, not, false≢true}
 use mathlib.Core.List.{List, [], _∷_}
-use mathlib.Core.Option.{Option, none, some}
+use mathlib.Core.Option.{some}
 use Prim.Native.Nat.{ℕ, _+_}
-use native.Mathlib.Omega.{arith}
 use lib.ListN.{length}
-use Rattle.maps.specs.Lists.{select, every, sum}
+use Rattle.maps.specs.Lists.{sum}
 use Rattle.maps.specs.Maps.{Pair, Map, lookup, numbers}
 use Rattle.maps.specs.ListLaws.{every-from, select-all, select-none}
 use Rattle.maps.specs.OrderLaws.{split, numbersLawful}
@@ -18,8 +17,9 @@ use Rattle.rules.specs.TableQueries.{keysOf, liveOf}
 use Rattle.rules.specs.Context.{Context}
 use Rattle.rules.specs.Queries.{liveEntries}
 use Rattle.history.specs.Demand3.{numberHeld}
+use Rattle.history.proofs.Basics.{some-not-none}
 use Rattle.history.proofs.Group.{Good, GoodIf}
-use Rattle.history.proofs.Contexts.{GoodContext, some-not-none}
+use Rattle.history.proofs.Contexts.{GoodContext}
 
 -- sums over a map of two functions that agree on what is held
 sum-by : (f g : Pair ℕ Table → ℕ) (m : Map ℕ Table) → Ascending numbers m → ((k : ℕ) (t : Table) → lookup numbers k m ≡ some t → f (pair k t) ≡ g (pair k t)) → sum f m ≡ sum g m

@@ -1,43 +1,24 @@
 -- One group: what an item does to a table that is a newer one laid over an older one, it does to the newer one.
 -- Assumes nothing.
 use mathlib.Core.Path.{_≡_, refl, sym, ap, _∙_}
-use mathlib.Core.Logic.{_⊎_, inl, inr}
-use mathlib.Core.Bool.{Bool, true, false, cond, _&&_, true≢false, false≢true}
-use mathlib.Core.List.{List, [], _∷_, _++_}
+use mathlib.Core.Logic.{_⊎_}
+use mathlib.Core.Bool.{Bool, true, false}
+use mathlib.Core.List.{List, [], _∷_}
 use mathlib.Core.Option.{Option, none, some}
-use Prim.Native.Nat.{ℕ, _≤_}
-use native.Mathlib.Omega.{arith}
+use Prim.Native.Nat.{ℕ}
 use lib.Dec.{ltb, leb}
-use lib.ListN.{length}
-use Rattle.maps.specs.Lists.{select, every, orElse}
-use Rattle.maps.specs.Maps.{Pair, Map, lookup, insert, remove, mergeWith, bytes}
+use Rattle.maps.specs.Lists.{every, orElse}
+use Rattle.maps.specs.Maps.{Map, lookup, insert, remove, mergeWith, bytes}
 use Rattle.maps.specs.ListLaws.{every-append, every-selected}
 use Rattle.maps.specs.OrderLaws.{split, bytesLawful}
-use Rattle.maps.specs.MapLaws.{pair, Ascending, laid, ascending-nil, ascending-insert, ascending-remove, ascending-mergeWith, lookup-insert-same, lookup-insert-other, lookup-remove-same, lookup-remove-other, lookup-mergeWith, ext, every-insert, every-remove, every-intro, every-lookup, length-newer}
-use Rattle.rules.specs.Causes.{Refusal, Result, ok, refused, refuse, andThen, aboveLast}
-use Rattle.rules.specs.Items.{LogQueue, Append, Rewrite, FileId, EntryIndex, sameQueue, fileOf, Command, clean, compact, Change, put, del, Content, entries, command, kv, Call, replayAppend, isLiveRewrite}
+use Rattle.maps.specs.MapLaws.{Ascending, laid, ascending-nil, ascending-insert, ascending-remove, ascending-mergeWith, lookup-insert-same, lookup-insert-other, lookup-remove-same, lookup-remove-other, lookup-mergeWith, ext, every-insert, every-remove}
+use Rattle.rules.specs.Causes.{ok, refuse, andThen, aboveLast}
+use Rattle.rules.specs.Items.{Append, FileId, EntryIndex, sameQueue, fileOf, clean, compact, put, del, Content, entries, command, kv, replayAppend, isLiveRewrite}
 use Rattle.rules.specs.Checks.{consecutive}
-use Rattle.rules.specs.Table.{Held, Span, Table, emptyTable, made, withEntries, withKeys, withSpan, entriesBelow, entriesFrom, isAboveLast, over, appended, compacted, putKey, deleteKey, overKeys, putHeld, entriesTo, putTo, changeTo, commandTo, change}
+use Rattle.rules.specs.Table.{Held, Table, emptyTable, made, withEntries, withKeys, withSpan, entriesBelow, entriesFrom, isAboveLast, over, appended, compacted, putKey, deleteKey, overKeys, putHeld, entriesTo, putTo, changeTo, commandTo, change}
 use Rattle.rules.specs.Calls.{overOf, mergeTable}
-use Rattle.history.proofs.Windows.{and-left, and-right, and-both, over-nil, over-assoc, from-over, premise-over, above-over, consecutive-nil, consecutive-over, consecutive-from, over-cons, length-over}
-
--- ---- results
-
-pub ok-inj : {A : Type 0} {a b : A} → ok a ≡ ok b → a ≡ b
-ok-inj p = cc
-
-pub refused-not-ok : {A : Type 0} {a : A} {r : Refusal} → refused r ≡ ok a → ⊥
-refused-not-ok p = let z : _≡_ {A = ℕ} 0 1 = cc in omega arith
-
--- what follows an accepted step
-pub andThen-ok : {A B : Type 0} (r : Result A) (f : A → Result B) (b : B) → andThen r f ≡ ok b → (a : A) × (r ≡ ok a) × (f a ≡ ok b)
-unfolding andThen
-andThen-ok (ok a) f b h = (a, refl, h)
-andThen-ok (refused r) f b h = absurd (refused-not-ok h)
-
-pub andThen-of : {A B : Type 0} (r : Result A) (f : A → Result B) (a : A) → r ≡ ok a → andThen r f ≡ f a
-unfolding andThen
-andThen-of r f a h = rw h
+use Rattle.history.proofs.Basics.{and-both, ok-inj, refused-not-ok, andThen-ok, andThen-of}
+use Rattle.history.proofs.Windows.{over-nil, over-assoc, from-over, premise-over, above-over, consecutive-over, consecutive-from, over-cons}
 
 -- ---- tables
 

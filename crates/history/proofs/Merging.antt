@@ -1,27 +1,28 @@
 -- Related contexts: merging the newer one into the older one gives the pass.
 -- Assumes nothing.
 use mathlib.Core.Path.{_≡_, refl, sym, ap, _∙_}
-use mathlib.Core.Bool.{Bool, true, false, cond, not, _&&_, true≢false, false≢true}
+use mathlib.Core.Bool.{Bool, true, false, cond, not, false≢true}
 use mathlib.Core.List.{List, [], _∷_, _++_, append-assoc, append-nil}
 use mathlib.Core.Option.{Option, none, some}
 use Prim.Native.Nat.{ℕ}
 use lib.Dec.{eqb}
 use borrow.Author.Tests.{eqb-true, eq-eqb, ne-eqb, eqb-false}
 use Rattle.maps.specs.Lists.{every, any, first, mapOption, orElse}
-use Rattle.maps.specs.Maps.{Pair, Map, lookup, store, mergeWith, numbers}
+use Rattle.maps.specs.Maps.{Map, lookup, store, mergeWith, numbers}
 use Rattle.maps.specs.ListLaws.{any-none, every-head, every-tail}
 use Rattle.maps.specs.OrderLaws.{split, numbersLawful}
-use Rattle.maps.specs.MapLaws.{pair, Ascending, laid, ascending-store, ascending-mergeWith, lookup-store, lookup-mergeWith, ext, every-intro}
-use Rattle.rules.specs.Causes.{Refusal, Result, ok, refused, refuse, andThen, inOrder}
-use Rattle.rules.specs.Items.{LogQueue, Append, Rewrite, EntryIndex, sameQueue, Command, clean, compact, Change, put, del, Content, entries, command, kv, LogItem, isReserved, isTombstone, replayAppend}
+use Rattle.maps.specs.MapLaws.{Ascending, ascending-store, ascending-mergeWith, lookup-store, lookup-mergeWith, ext, every-intro}
+use Rattle.rules.specs.Causes.{ok, andThen, inOrder}
+use Rattle.rules.specs.Items.{Append, EntryIndex, sameQueue, clean, compact, put, del, Content, entries, command, kv, LogItem, isReserved, isTombstone, replayAppend}
 use Rattle.rules.specs.Checks.{consecutive}
-use Rattle.rules.specs.Table.{Table, made, change, isAboveLast, firstIndex, over}
-use Rattle.rules.specs.Context.{context, isContext, Context, withGroups, withTombstones, fits, limited, act, replayTombstones}
+use Rattle.rules.specs.Table.{Table, made, firstIndex}
+use Rattle.rules.specs.Context.{isContext, Context, withGroups, withTombstones, act, replayTombstones}
 use Rattle.rules.specs.Waiting.{acceptAll}
 use Rattle.rules.specs.Calls.{clashes, mergeTable, mergeTables, mergeContexts, replayCall, both, merge}
+use Rattle.history.proofs.Basics.{andThen-of}
 use Rattle.history.proofs.Windows.{no-gap}
-use Rattle.history.proofs.Group.{ok-inj, andThen-of, Good, GoodIf, effect, lay, lay-made, merged-entries, change-clean, change-compact, change-del}
-use Rattle.history.proofs.Contexts.{changed, effected, cleanOf, cleansOf, acted, act-of, GoodContext, tombed, Related, limited-fits}
+use Rattle.history.proofs.Group.{Good, GoodIf, effect, lay, lay-made, merged-entries, change-clean, change-compact, change-del}
+use Rattle.history.proofs.Contexts.{changed, effected, cleanOf, cleansOf, acted, act-of, tombed, Related, limited-fits}
 
 -- ---- newer tombstones, replayed and not kept a second time
 

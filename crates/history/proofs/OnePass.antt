@@ -2,25 +2,24 @@
 -- Assumes nothing.
 use mathlib.Core.Path.{_≡_, refl, sym, ap, _∙_}
 use mathlib.Core.Logic.{_⊎_, inl, inr, ⊎-elim}
-use mathlib.Core.Bool.{Bool, true, false, cond, true≢false, false≢true}
 use mathlib.Core.List.{List, [], _∷_, _++_, append-assoc, append-nil}
 use mathlib.Core.Option.{Option, none, some}
 use Prim.Native.Nat.{ℕ, suc}
-use lib.Dec.{eqb}
 use borrow.Author.Tests.{eq-eqb}
 use Rattle.maps.specs.Lists.{select, orElse}
 use Rattle.maps.specs.Maps.{lookup, numbers}
-use Rattle.rules.specs.Causes.{Refusal, Result, ok, refused, refuse, wrongKind, andThen, inOrder, left}
-use Rattle.rules.specs.Items.{LogQueue, Append, Rewrite, EntryIndex, sameQueue, Command, clean, compact, Content, entries, command, kv, LogItem, Batch, Placed, placedFrom, replayAppend}
-use Rattle.rules.specs.Table.{Table, made, entriesFrom}
+use Rattle.rules.specs.Causes.{Refusal, Result, ok, refused, refuse, wrongKind, inOrder, left}
+use Rattle.rules.specs.Items.{LogQueue, Append, Rewrite, sameQueue, clean, compact, Content, entries, command, kv, LogItem, Batch, Placed, placedFrom, replayAppend}
+use Rattle.rules.specs.Table.{made, entriesFrom}
 use Rattle.rules.specs.Checks.{checks}
-use Rattle.rules.specs.Context.{context, isContext, Context, fresh, limited, step, run}
+use Rattle.rules.specs.Context.{context, isContext, Context, limited, step, run}
 use Rattle.rules.specs.Calls.{checked, runBatch, replayBatch, replay}
-use Rattle.history.specs.Held.{entriesHeld, appendedTo, listOf, LeavesOrFindsNone, Premise}
+use Rattle.history.specs.Held.{entriesHeld, appendedTo, listOf, LeavesOrFindsNone}
 use Rattle.history.specs.Demand3.{entriesIn}
 use Rattle.history.specs.Recovery.{onePass, keepIf, history, itemsOf}
-use Rattle.history.proofs.Group.{ok-inj, refused-not-ok, andThen-ok, Leaves}
-use Rattle.history.proofs.Contexts.{FitIf, GoodContext, good-step, LeavesAt}
+use Rattle.history.proofs.Basics.{ok-inj, refused-not-ok, andThen-ok}
+use Rattle.history.proofs.Group.{Leaves}
+use Rattle.history.proofs.Contexts.{GoodContext, good-step, LeavesAt}
 use Rattle.history.proofs.Passes.{AllFit, checks-fit, Steps, Pass, steps-good}
 use Rattle.history.proofs.Rule.{HeldBy, held-step, entries-snoc, left-own, left-compact, leftOf, leftBy}
 

@@ -1,36 +1,27 @@
 -- Batches: what the checks show of their items, and a pass over batches that a newer context takes too.
 -- Assumes nothing.
-use mathlib.Core.Path.{_≡_, refl, sym, ap, _∙_}
-use mathlib.Core.Logic.{_⊎_, inl, inr}
-use mathlib.Core.Bool.{Bool, true, false, cond, not, _&&_, _||_, true≢false, false≢true}
+use mathlib.Core.Path.{_≡_, refl, sym, _∙_}
+use mathlib.Core.Logic.{inl, inr}
+use mathlib.Core.Bool.{Bool, true, false, not, _&&_, _||_, true≢false}
 use mathlib.Core.List.{List, [], _∷_, _++_}
 use mathlib.Core.Option.{Option, none, some}
 use Prim.Native.Nat.{ℕ, suc}
-use native.Mathlib.Omega.{arith}
 use lib.Dec.{eqb}
-use borrow.Author.Tests.{not-true, not-false}
+use borrow.Author.Tests.{not-false}
 use Rattle.maps.specs.Lists.{every, any, orElse, findFrom}
 use Rattle.maps.specs.OrderLaws.{split}
 use Rattle.rules.specs.Limits.{maxItems}
-use Rattle.rules.specs.Causes.{Cause, tooLong, incomplete, outOfRange, wrongQueue, notRewritable, badMark, Refusal, Result, ok, refused, refuse, andThen, inOrder, wrongKind}
-use Rattle.rules.specs.Items.{LogQueue, Append, Rewrite, FileId, EntryIndex, sameQueue, hasFile, fileOf, Command, clean, compact, Change, put, del, Content, entries, command, kv, LogItem, Batch, Placed, placedFrom, isReserved, writes, replayAppend, isLiveRewrite}
-use Rattle.rules.specs.Checks.{consecutive, long, isIncomplete, isOutOfRange, isOtherQueue, otherFile, lacksValue, lacksFile, isNotRewritable, meets3, meets7, firstMark, orNext, unlessReserved, checks}
-use Rattle.rules.specs.Context.{Kind, context, isContext, Context, fresh, limited, step, run}
+use Rattle.rules.specs.Causes.{Cause, tooLong, incomplete, outOfRange, wrongQueue, Refusal, ok, inOrder}
+use Rattle.rules.specs.Items.{Append, FileId, EntryIndex, sameQueue, hasFile, fileOf, put, del, Content, entries, command, kv, LogItem, Batch, Placed, placedFrom, isReserved, writes, replayAppend, isLiveRewrite}
+use Rattle.rules.specs.Checks.{consecutive, long, isIncomplete, isOutOfRange, isOtherQueue, otherFile, lacksValue, lacksFile, meets3, orNext, unlessReserved, checks}
+use Rattle.rules.specs.Context.{context, isContext, Context, fresh, limited, step, run}
 use Rattle.rules.specs.Calls.{checked, runBatch, replayBatch, replay, merge}
-use Rattle.history.proofs.Windows.{and-both}
-use Rattle.history.proofs.Group.{ok-inj, refused-not-ok, andThen-ok, andThen-of, Fit, FitPut}
-use Rattle.history.proofs.Contexts.{FitIf, GoodContext, good-step, good-fresh, LeavesAt, Related, related-start, related-step, Stepped}
+use Rattle.history.proofs.Basics.{and-both, or-left, or-right, some-not-none, ok-inj, andThen-of}
+use Rattle.history.proofs.Group.{Fit, FitPut}
+use Rattle.history.proofs.Contexts.{FitIf, GoodContext, good-step, LeavesAt, Related, related-start, related-step}
 use Rattle.history.proofs.Merging.{merge-related}
 
 -- ---- the checks
-
-or-left : (a b : Bool) → (a || b) ≡ false → a ≡ false
-or-left true b h = h
-or-left false b h = refl
-
-or-right : (a b : Bool) → (a || b) ≡ false → b ≡ false
-or-right true b h = absurd (true≢false h)
-or-right false b h = h
 
 -- each entry has a file, and a file that is there is of the Append queue
 append-files : (es : List EntryIndex) → any (λ e. not (hasFile (e .entries))) es ≡ false → any (λ e. hasFile (e .entries) && not (sameQueue (fileOf e .queue) Append)) es ≡ false → every (λ e. sameQueue (fileOf e .queue) Append) es ≡ true
@@ -70,10 +61,7 @@ fit-if x i it e h q =
 -- a search that finds nothing, at its first element and behind it
 find-head : {A : Type 0} (p : ℕ → A → Bool) (i : ℕ) (x : A) (xs : List A) → findFrom p i (x ∷ xs) ≡ none → p i x ≡ false
 unfolding findFrom
-find-head p i x xs h = split (p i x) (λ e. absurd (some-none (rw e at h))) (λ e. e)
-  where
-    some-none : {j : ℕ} → some j ≡ none → ⊥
-    some-none q = let z : _≡_ {A = ℕ} 0 1 = cc in omega arith
+find-head p i x xs h = split (p i x) (λ e. absurd (some-not-none (rw e at h))) (λ e. e)
 
 find-tail : {A : Type 0} (p : ℕ → A → Bool) (i : ℕ) (x : A) (xs : List A) → findFrom p i (x ∷ xs) ≡ none → findFrom p (suc i) xs ≡ none
 unfolding findFrom
@@ -93,10 +81,7 @@ found-fit i (x ∷ xs) h q =
 none-of : (n : Cause) (o : Option ℕ) (next : Option Refusal) → orNext n o next ≡ none → (o ≡ none) × (next ≡ none)
 unfolding orNext
 none-of n none next h = (refl, h)
-none-of n (some i) next h = absurd (some-none h)
-  where
-    some-none : {r : Refusal} → some r ≡ none → ⊥
-    some-none q = let z : _≡_ {A = ℕ} 0 1 = cc in omega arith
+none-of n (some i) next h = absurd (some-not-none h)
 
 -- a batch that the checks pass has fit items
 pub checks-fit : (items : List LogItem) → checks replayAppend items ≡ none → AllFit items

@@ -1,11 +1,11 @@
 -- The rule of what is held: an accepted step of one pass does to what a context holds what one item more does to what the rule says.
 -- Assumes nothing.
 use mathlib.Core.Path.{_≡_, refl, sym, ap, _∙_}
-use mathlib.Core.Logic.{_⊎_, inl, inr, ⊎-elim}
+use mathlib.Core.Logic.{⊎-elim}
 use mathlib.Core.Bool.{Bool, true, false, cond, not, _&&_, and-true, true≢false, false≢true}
 use mathlib.Core.List.{List, [], _∷_, _++_, append-assoc, append-nil}
 use mathlib.Core.Option.{Option, none, some}
-use Prim.Native.Nat.{ℕ, _≤_, _<_}
+use Prim.Native.Nat.{ℕ}
 use lib.Dec.{ltb, leb, eqb}
 use borrow.Author.Tests.{lt-ltb, le-ltb, le-leb, lt-leb, eqb-true, eq-eqb, ne-eqb, eqb-false}
 use Rattle.maps.specs.Lists.{select, every, orElse}
@@ -14,14 +14,15 @@ use Rattle.maps.specs.ListLaws.{every-append, every-all, select-append, select-
 use Rattle.maps.specs.OrderLaws.{split, numbersLawful, bytesLawful}
 use Rattle.maps.specs.MapLaws.{Ascending, lookup-store, lookup-insert-same, lookup-insert-other, lookup-remove-same, lookup-remove-other}
 use Rattle.rules.specs.Limits.{reservedKey}
-use Rattle.rules.specs.Causes.{Result, ok, andThen}
-use Rattle.rules.specs.Items.{Append, FileId, EntryIndex, Command, clean, compact, Change, put, del, Content, entries, command, kv, LogItem, Placed, isReserved, replayAppend}
+use Rattle.rules.specs.Causes.{ok}
+use Rattle.rules.specs.Items.{Append, FileId, EntryIndex, clean, compact, put, del, Content, entries, command, kv, LogItem, Placed, isReserved, replayAppend}
 use Rattle.rules.specs.Table.{Held, Table, emptyTable, made, withEntries, withKeys, entriesBelow, entriesFrom, over, appended, compacted, putKey, deleteKey, change}
 use Rattle.rules.specs.Context.{Context, fresh, limited, step}
 use Rattle.history.specs.Held.{endsEntry, entryStays, listOf, appendedTo, entriesHeld, endsKey, keyStays, heldOf, putOf, putTo, keyHeld}
 use Rattle.history.specs.Demand3.{entriesIn, keyIn}
+use Rattle.history.proofs.Basics.{ok-inj, andThen-ok}
 use Rattle.history.proofs.Windows.{either, over-nil, over-cons}
-use Rattle.history.proofs.Group.{ok-inj, andThen-ok, Good, GoodIf, good-made, Fit, FitPut, appended-is, change-entries, change-clean, change-compact, change-put, change-del}
+use Rattle.history.proofs.Group.{GoodIf, good-made, Fit, FitPut, appended-is, change-entries, change-clean, change-compact, change-put, change-del}
 use Rattle.history.proofs.Contexts.{changed, FitIf, after, GoodContext, step-ok}
 
 -- ---- the rule, with one item more

@@ -1,9 +1,9 @@
 -- Demand 3.
 -- Assumes nothing.
-use mathlib.Core.Path.{_≡_, refl, sym, ap, _∙_}
+use mathlib.Core.Path.{_≡_, sym, ap, _∙_}
 use mathlib.Core.List.{List, [], _∷_, _++_, append-assoc, append-nil}
 use Prim.Native.Nat.{ℕ}
-use Rattle.rules.specs.Causes.{Refusal, Result, ok, refused, inOrder, left}
+use Rattle.rules.specs.Causes.{Refusal, Result, ok, refused, left}
 use Rattle.rules.specs.Items.{Append, Batch}
 use Rattle.rules.specs.Context.{Context, fresh}
 use Rattle.rules.specs.Calls.{replay, merge, join, append, rewrite}
@@ -11,10 +11,10 @@ use Rattle.rules.specs.Queries.{takeCleaned, afterTaking}
 use Rattle.history.specs.Held.{Premise}
 use Rattle.history.specs.Recovery.{onePass, history, itemsOf, Runs, run, merged, batchesOf, Made}
 use Rattle.history.specs.Demand3.{Last, Demand3}
-use Rattle.history.proofs.Group.{ok-inj}
+use Rattle.history.proofs.Basics.{ok-inj}
 use Rattle.history.proofs.Contexts.{GoodContext, good-fresh}
-use Rattle.history.proofs.Passes.{Pass, pass-good, pass-split, pass-unique, pass-append, batch-replay, run-merges}
-use Rattle.history.proofs.Rule.{HeldBy, held-fresh}
+use Rattle.history.proofs.Passes.{Pass, pass-good, pass-split, pass-unique, batch-replay, run-merges}
+use Rattle.history.proofs.Rule.{held-fresh}
 use Rattle.history.proofs.OnePass.{PremiseFrom, Passed, one-pass}
 use Rattle.history.proofs.Counts.{live-append, live-rewrite}
 

@@ -2,33 +2,19 @@
 -- Assumes nothing.
 use mathlib.Core.Path.{_≡_, refl, sym, ap, _∙_}
 use mathlib.Core.Logic.{_⊎_, inl, inr}
-use mathlib.Core.Bool.{Bool, true, false, cond, _&&_, true≢false, false≢true}
+use mathlib.Core.Bool.{true, false}
 use mathlib.Core.List.{List, [], _∷_, _++_, append-assoc, append-nil}
-use mathlib.Core.Option.{Option, none, some}
-use Prim.Native.Nat.{ℕ, suc, _≤_, _<_, _+_}
+use Prim.Native.Nat.{ℕ, suc, _≤_, _<_}
 use native.Mathlib.Omega.{arith}
-use lib.Dec.{ltb, leb, eqb}
+use lib.Dec.{ltb, eqb}
 use lib.ListN.{length, length-append}
-use borrow.Author.Tests.{ltb-true, ltb-false, leb-true, leb-false, eqb-true, eq-eqb, lt-ltb, le-ltb, le-leb, lt-leb}
+use borrow.Author.Tests.{ltb-true, ltb-false, eqb-true, eq-eqb, lt-ltb, le-ltb, le-leb, lt-leb}
 use Rattle.maps.specs.Lists.{select, last, mapOption, orElse}
 use Rattle.maps.specs.OrderLaws.{split}
 use Rattle.rules.specs.Items.{EntryIndex}
 use Rattle.rules.specs.Checks.{consecutive}
 use Rattle.rules.specs.Table.{lastIndex, isAboveLast, entriesBelow, entriesFrom, over}
-
-pub and-left : (a b : Bool) → (a && b) ≡ true → a ≡ true
-and-left true b h = refl
-and-left false b h = h
-
-pub and-right : (a b : Bool) → (a && b) ≡ true → b ≡ true
-and-right true b h = h
-and-right false b h = absurd (false≢true h)
-
-pub and-both : {a b : Bool} → a ≡ true → b ≡ true → (a && b) ≡ true
-and-both p q = rw (p, q)
-
-pub cons-not-nil : {A : Type 0} {x : A} {xs : List A} → x ∷ xs ≡ [] → ⊥
-cons-not-nil p = let z : _≡_ {A = ℕ} 0 1 = cc in omega arith
+use Rattle.history.proofs.Basics.{and-left, and-right, and-both, cons-not-nil}
 
 -- by the place of an index
 pub either : {P : Type 0} (a b : ℕ) → (a < b → P) → (b ≤ a → P) → P
