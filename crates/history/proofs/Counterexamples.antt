@@ -5,7 +5,7 @@ use mathlib.Core.List.{List, [], _∷_, _++_}
 use Rattle.rules.specs.Causes.{ok, refuse, aboveLast}
 use Rattle.rules.specs.Items.{Append, Batch, entries, command, compact}
 use Rattle.rules.proofs.Opened.{opened}
-use Rattle.rules.proofs.Bench.{several, batch, recovered, merged, held}
+use Rattle.rules.proofs.Terms.{several, batch, recovered, merged, held}
 
 -- run 1 is 1..4
 abbrev pub first-run : List Batch

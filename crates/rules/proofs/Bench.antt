@@ -1,50 +1,15 @@
 -- 01's starred bench cases 2 to 10.
 use mathlib.Core.Path.{_≡_, refl}
-use mathlib.Core.Bool.{Bool, true, false}
+use mathlib.Core.Bool.{true}
 use mathlib.Core.List.{List, [], _∷_, _++_, map}
 use mathlib.Core.Option.{Option, none, some}
-use Prim.Native.Nat.{ℕ, zero, suc}
-use Rattle.pipe_log.specs.declared.CompressionType.{the-variants.None}
-use Rattle.rules.specs.Causes.{Refusal, Result, ok, refused, refuse, andThen, inOrder, entryCompacted, entryNotFound, belowFirst, aboveLast, appendLeft, alreadyRewritten}
-use Rattle.rules.specs.Items.{LogQueue, Append, Rewrite, EntryIndex, At, fileOf, LogItem, Batch, Content, entries, command, compact}
+use Prim.Native.Nat.{ℕ}
+use Rattle.rules.specs.Causes.{Result, ok, refuse, andThen, entryCompacted, entryNotFound, belowFirst, aboveLast, appendLeft, alreadyRewritten}
+use Rattle.rules.specs.Items.{Append, Rewrite, EntryIndex, fileOf, Batch, entries, command, compact}
 use Rattle.rules.specs.Table.{Table, Span, emptyTable, appended, rewritten, compacted, compactedCount, withEntries, withSpan}
 use Rattle.rules.specs.TableQueries.{fetchEntriesTo, minFileSeq, rewriteCount}
-use Rattle.rules.specs.Context.{Context, fresh}
-use Rattle.rules.specs.Calls.{replay, merge}
-use Rattle.maps.specs.Lists.{orElse}
-use Rattle.maps.specs.Maps.{lookup, numbers}
 use Rattle.rules.proofs.Opened.{opened}
-
--- an entry of length n
-abbrev pub sizedEntry : LogQueue → ℕ → ℕ → ℕ → EntryIndex
-sizedEntry q seq i n =
-    record { index = i; entries = At (record { id = record { queue = q; seq = seq }; offset = 0; len = 0 }); «compression_type» = None; «entry_offset» = 0; «entry_len» = n }
-
-abbrev pub entry : LogQueue → ℕ → ℕ → EntryIndex
-entry q seq i = sizedEntry q seq i 1
-
--- n entries of one file from index i up
-abbrev pub several : LogQueue → ℕ → ℕ → ℕ → List EntryIndex
-several q seq i zero = []
-several q seq i (suc n) = entry q seq i ∷ several q seq (suc i) n
-
-abbrev pub indexes : List EntryIndex → List ℕ
-indexes es = map (λ (e : EntryIndex). e .index) es
-
--- a batch of group 7
-abbrev pub batch : LogQueue → ℕ → List Content → Batch
-batch q seq cs = record { file = record { queue = q; seq = seq }; items = map (λ (c : Content). record { group = 7; content = c }) cs }
-
--- a run: batches replayed into a fresh context
-abbrev pub recovered : LogQueue → List Batch → Result Context
-recovered q bs = inOrder replay bs (fresh q)
-
-abbrev pub merged : Result Context → Result Context → Result Context
-merged older newer = andThen older (λ c. andThen newer (λ d. merge d c))
-
--- the indexes that group 7 holds
-abbrev pub held : Result Context → Result (List ℕ)
-held r = andThen r (λ c. ok (orElse [] (λ t. indexes (t .entries)) (lookup numbers 7 (c .groups))))
+use Rattle.rules.proofs.Terms.{sizedEntry, entry, several, indexes, batch, recovered, merged, held}
 
 -- the indexes that a table holds after a change
 abbrev pub heldBy : Result Table → Result (List ℕ)

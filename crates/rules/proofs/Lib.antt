@@ -1,3 +1,6 @@
--- Facts computed from the rules: 01's starred bench cases, and examples that tell the rules from likely wrong ones.
+-- Facts computed from the rules: 01's starred bench cases, examples that tell the rules from likely wrong ones, and a script of calls.
 pub mod Opened
+pub mod Terms
 pub mod Bench
+pub mod Examples
+pub mod Script
