@@ -1,0 +1,4 @@
+-- What the contracts of `memtable` cite, and the laws of its views.
+pub mod Views
+pub mod ListLaws
+pub mod WindowLaws
