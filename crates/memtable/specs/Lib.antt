@@ -2,3 +2,6 @@
 pub mod Views
 pub mod ListLaws
 pub mod WindowLaws
+pub mod RowLaws
+pub mod Spans
+pub mod Compaction

@@ -4,8 +4,9 @@ use mathlib.Core.List.{List, [], _∷_, _++_, append-nil}
 use mathlib.Core.Option.{Option, some}
 use mathlib.Core.Option as option
 use mathlib.Core.Path.{_≡_, refl, sym, ap, _∙_}
-use Prim.Native.Nat.{ℕ, zero, suc, _+_, _-_, _*_, _≤_, _<_}
-use native.Mathlib.Nat.{zero-add, add-zero, suc-add, add-assoc}
+use Prim.Native.Nat.{ℕ, zero, suc, _+_, _-_, _*_, _≤_, _<_, min}
+use native.Mathlib.Nat.{zero-add, add-zero, suc-add, sub-zero}
+use native.Mathlib.Decide.{decLe}
 use native.Mathlib.Numerals.{add-one}
 use native.Mathlib.Omega.{arith}
 use lib.Dec.{ltb, leb, eqb}
@@ -159,3 +160,42 @@ unfolding window
 getElem-window-none f zero xs i h = refl
 getElem-window-none f (suc n) xs zero h = absurd (omega arith)
 getElem-window-none f (suc n) xs (suc i) h = getElem-window-none (suc f) n (drop 8 xs) i (omega arith)
+
+-- ---- the records below an index, and those from it, wherever it lies
+
+below-by : (s f n c : ℕ) (xs : List ℕ) → c ≡ min (s - f) n → entriesBelow s (window f n xs) ≡ window f c xs
+unfolding window
+below-by s f n c xs e =
+    elim (decLe s f) [
+      | yes l ↦ (let z : c ≡ 0 = omega arith in rw z (below-none s f n xs l))
+      | no l ↦
+          elim (decLe (f + n) s) [
+            | yes g ↦ (let z : c ≡ n = omega arith in rw z (below-all s f n xs g))
+            | no g ↦
+                (let z : s ≡ f + c = omega arith in
+                let d : n ≡ c + (n - c) = omega arith in
+                ap (λ (k : ℕ). entriesBelow k (window f n xs)) z ∙ ap (λ (k : ℕ). entriesBelow (f + c) (window f k xs)) d ∙ below-cut f c (n - c) xs)
+          ]
+    ]
+
+pub below-window : (s f n : ℕ) (xs : List ℕ) → entriesBelow s (window f n xs) ≡ window f (min (s - f) n) xs
+below-window s f n xs = below-by s f n (min (s - f) n) xs refl
+
+from-by : (s f n c : ℕ) (xs : List ℕ) → c ≡ min (s - f) n → entriesFrom s (window f n xs) ≡ window (f + c) (n - c) (drop (c * 8) xs)
+unfolding window
+from-by s f n c xs e =
+    elim (decLe s f) [
+      | yes l ↦ (let z : c ≡ 0 = omega arith in rw (z, add-zero f, sub-zero n) (from-all s f n xs l))
+      | no l ↦
+          elim (decLe (f + n) s) [
+            | yes g ↦ (let z : n - c ≡ 0 = omega arith in rw z (from-none s f n xs g))
+            | no g ↦
+                (let z : s ≡ f + c = omega arith in
+                let d : n ≡ c + (n - c) = omega arith in
+                ap (λ (k : ℕ). entriesFrom k (window f n xs)) z ∙ ap (λ (k : ℕ). entriesFrom (f + c) (window f k xs)) d ∙ from-cut f c (n - c) xs)
+          ]
+    ]
+
+pub from-window : (s f n : ℕ) (xs : List ℕ)
+    → entriesFrom s (window f n xs) ≡ window (f + min (s - f) n) (n - min (s - f) n) (drop (min (s - f) n * 8) xs)
+from-window s f n xs = from-by s f n (min (s - f) n) xs refl

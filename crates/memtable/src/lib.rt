@@ -1,5 +1,8 @@
 // One group's table over its part of the lent area (src/memtable.rs, `MemTable`): the entries. The head goes in by value
 // and comes back changed; the entries are rows of eight numbers in the group's part.
+mod compact;
+mod numbers;
+mod spans;
 
 // The files of a finished atomic group: document 01's span.
 pub enum AtomicGroup {
@@ -14,4 +17,16 @@ pub struct Head {
     pub len: usize,
     pub rewrite_count: usize,
     pub atomic_group: AtomicGroup,
+}
+
+// What setting a span answers: the head with it, or document 01's 8.
+pub enum Spanned {
+    Done(Head),
+    FilesGoBack,
+}
+
+// What a compaction answers: the head, and the number of dropped entries.
+pub struct Compacted {
+    pub head: Head,
+    pub count: u64,
 }

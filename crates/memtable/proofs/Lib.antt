@@ -1,0 +1,2 @@
+pub mod SpanWays
+pub mod CompactWays
