@@ -1,2 +1,3 @@
 pub mod SpanWays
 pub mod CompactWays
+pub mod AppendWays

@@ -5,3 +5,5 @@ pub mod WindowLaws
 pub mod RowLaws
 pub mod Spans
 pub mod Compaction
+pub mod Appends
+pub mod Preparing

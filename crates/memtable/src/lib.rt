@@ -1,5 +1,6 @@
 // One group's table over its part of the lent area (src/memtable.rs, `MemTable`): the entries. The head goes in by value
 // and comes back changed; the entries are rows of eight numbers in the group's part.
+mod append;
 mod compact;
 mod numbers;
 mod spans;
@@ -29,4 +30,13 @@ pub enum Spanned {
 pub struct Compacted {
     pub head: Head,
     pub count: u64,
+}
+
+// What laying rows over a group's entries answers: the head after it, document 01's 13 or 14, or that the part has no
+// room for the rows.
+pub enum Appended {
+    Done(Head),
+    BelowFirst,
+    AboveLast,
+    Full,
 }
