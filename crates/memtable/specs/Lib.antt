@@ -7,3 +7,4 @@ pub mod Spans
 pub mod Compaction
 pub mod Appends
 pub mod Preparing
+pub mod RunLaws

@@ -14,7 +14,7 @@ use lib.ListN.{length, getD, take, drop, getElem?, List·getD-append}
 use lib.Seq.{getD-drop, drop-drop}
 use Rattle.cells.specs.Part.{part, put}
 use Rattle.cells.specs.PartLaws.{from-put, getD-put-before}
-use borrow.Author.Tests.{lt-ltb, le-ltb, le-leb, lt-leb}
+use borrow.Author.Tests.{lt-ltb, le-ltb, le-leb, lt-leb, eq-eqb, ne-eqb}
 use Rattle.maps.specs.Lists.{select, first, last, mapOption, orElse}
 use Rattle.pipe_log.specs.Rows.{isRecord, blockAt, entryOf, withIndex, window}
 use Rattle.rules.specs.Items.{EntryIndex}
@@ -199,3 +199,31 @@ from-by s f n c xs e =
 pub from-window : (s f n : ℕ) (xs : List ℕ)
     → entriesFrom s (window f n xs) ≡ window (f + min (s - f) n) (n - min (s - f) n) (drop (min (s - f) n * 8) xs)
 from-window s f n xs = from-by s f n (min (s - f) n) xs refl
+
+-- row i of what follows the first k rows
+pub rowAt-drop : (f k : ℕ) (xs : List ℕ) (i : ℕ) → rowAt (f + k) (drop (k * 8) xs) i ≡ rowAt f xs (k + i)
+unfolding rowAt
+rowAt-drop f k xs i =
+    let e : k * 8 + i * 8 ≡ (k + i) * 8 = omega arith in
+    let d : f + k + i ≡ f + (k + i) = omega arith in
+    rw (drop-drop (i * 8) (k * 8) xs, e, d)
+
+-- a window cut at k
+pub window-cut : (f n k : ℕ) (xs : List ℕ) → k ≤ n → window f n xs ≡ window f k xs ++ window (f + k) (n - k) (drop (k * 8) xs)
+window-cut f n k xs h =
+    let e : n ≡ k + (n - k) = omega arith in
+    ap (λ (m : ℕ). window f m xs) e ∙ window-append f k (n - k) xs
+
+-- ---- the record at an index
+
+pub entry-at : (f n : ℕ) (xs : List ℕ) (k i : ℕ) → k < n → i ≡ f + k → first (select (λ (e : EntryIndex). eqb (e .index) i) (window f n xs)) ≡ some (rowAt f xs k)
+unfolding window select first withIndex
+entry-at f zero xs k i h e = absurd (omega arith)
+entry-at f (suc n) xs zero i h e = rw (eq-eqb f i (omega arith), rowAt-zero f xs)
+entry-at f (suc n) xs (suc k) i h e =
+    rw (ne-eqb f i (λ z. omega arith)) (entry-at (suc f) n (drop 8 xs) k i (omega arith) (omega arith) ∙ rw (rowAt-suc f xs k))
+
+pub entry-absent : (f n : ℕ) (xs : List ℕ) (i : ℕ) → ((k : ℕ) → k < n → f + k ≡ i → ⊥) → first (select (λ (e : EntryIndex). eqb (e .index) i) (window f n xs)) ≡ option.none
+unfolding rowAt withIndex first
+entry-absent f n xs i h =
+    rw (select-none (λ (e : EntryIndex). eqb (e .index) i) (window-all (λ (e : EntryIndex). eqb (e .index) i) false f n xs (λ k l. ne-eqb (f + k) i (h k l))))
