@@ -1,3 +1,4 @@
 pub mod SpanWays
 pub mod CompactWays
 pub mod AppendWays
+pub mod QueryWays

@@ -8,3 +8,4 @@ pub mod Compaction
 pub mod Appends
 pub mod Preparing
 pub mod RunLaws
+pub mod Queries

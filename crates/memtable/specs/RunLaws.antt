@@ -37,8 +37,8 @@ module _ (h : Head) (xs : List ℕ) (w : Wf h xs) where
   on-appends p b e =
       window-all p b (h .«first_index» + h .«rewrite_count») (h .len - h .«rewrite_count») (drop (h .«rewrite_count» * 8) xs)
       (λ i l.
-        rw (rowAt-drop (h .«first_index») (h .«rewrite_count») xs i)
-        (e (h .«rewrite_count» + i) (w .appended (h .«rewrite_count» + i) (omega arith) (omega arith))))
+      rw (rowAt-drop (h .«first_index») (h .«rewrite_count») xs i)
+      (e (h .«rewrite_count» + i) (w .appended (h .«rewrite_count» + i) (omega arith) (omega arith))))
 
   pub run-rewrite : runOf Rewrite entries ≡ rewrites
   unfolding runOf

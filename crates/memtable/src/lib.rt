@@ -3,7 +3,12 @@
 mod append;
 mod compact;
 mod numbers;
+mod queries;
+mod rows;
+mod seqs;
 mod spans;
+
+use pipe_log::EntryIndex;
 
 // The files of a finished atomic group: document 01's span.
 pub enum AtomicGroup {
@@ -39,4 +44,22 @@ pub enum Appended {
     BelowFirst,
     AboveLast,
     Full,
+}
+
+// An index or a sequence number, or that there is none.
+pub enum Found {
+    Absent,
+    At(u64),
+}
+
+// An entry record, or that it is not held.
+pub enum FoundEntry {
+    Absent,
+    At(EntryIndex),
+}
+
+// What `has_at_least_some_entries_before` answers, or document 01's 10.
+pub enum SomeBefore {
+    BadRange,
+    Is(bool),
 }
