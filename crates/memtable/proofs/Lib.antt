@@ -2,3 +2,4 @@ pub mod SpanWays
 pub mod CompactWays
 pub mod AppendWays
 pub mod QueryWays
+pub mod ColumnWays

@@ -5,7 +5,6 @@ use mathlib.Core.Option.{Option, none, some}
 use mathlib.Core.Path.{_≡_, refl, sym, ap, _∙_}
 use Prim.Native.Nat.{ℕ, _+_, _-_, _*_, _≤_, _<_, _^_, min}
 use native.Mathlib.Nat.{add-zero}
-use native.Mathlib.Decide.{decLt}
 use native.Mathlib.Omega.{arith}
 use lib.Dec.{leb}
 use lib.ListN.{length, getD, drop}
@@ -24,9 +23,9 @@ use Rattle.memtable.specs.declared.Head.{Head}
 use Rattle.memtable.specs.declared.Found.{Found, the-variants.Absent, the-variants.At}
 use Rattle.memtable.specs.declared.FoundEntry.the-variants as entry
 use Rattle.memtable.specs.declared.SomeBefore.{the-variants.BadRange, the-variants.Is}
-use Rattle.memtable.specs.Views.{spanOf, tableOf, rowAt, Row, Wf}
-use Rattle.memtable.specs.Queries.{foundOf, AnyRow, EntryAnswer, SomeBeforeAnswer, FirstAnswer, LastAnswer, RewriteCountAnswer, frontSeq, minSeq, entryCount}
-use Rattle.memtable.specs.RowLaws.{rowAt-seq}
+use Rattle.memtable.specs.Views.{spanOf, tableOf, rowAt, AnyRow, Wf}
+use Rattle.memtable.specs.Queries.{foundOf, EntryAnswer, SomeBeforeAnswer, FirstAnswer, LastAnswer, RewriteCountAnswer, frontSeq, minSeq, entryCount}
+use Rattle.memtable.specs.RowLaws.{row-seq, held-row}
 use Rattle.memtable.specs.RunLaws.{rewrites, appends, run-rewrite, run-append, count-rewrite, count-append}
 use Rattle.memtable.specs.WindowLaws.{length-window, entry-at, entry-absent, first-window, firstIndex-window, lastIndex-window, getElem-window, getElem-window-none, rowAt-drop}
 
@@ -59,30 +58,9 @@ entry-is xs i index q k r e d =
       d,
     )
 
-any-row : {q : ℕ} (xs : List ℕ) (i : ℕ) → q < 2 → i * 8 + 8 ≤ length xs → Row q xs i → AnyRow xs i
-any-row xs i l b r =
-    record {
-      whole = b;
-      queue = rw (r .queue) l;
-      compression = r .compression;
-      offset = r .offset;
-      len = omega (arith, r .len);
-    }
-
 module _ (h : Head) (xs : List ℕ) (w : Wf h xs) where
-  pub held-row : (i : ℕ) → i < h .len → AnyRow xs i
-  held-row i l =
-      elim (decLt i (h .«rewrite_count»)) [
-        | yes u ↦ any-row xs i (omega arith) (omega (arith, w .room)) (w .rewritten i (omega arith) u)
-        | no u ↦ any-row xs i (omega arith) (omega (arith, w .room)) (w .appended i (omega arith) l)
-      ]
-
   held-seq : (i : ℕ) → i < h .len → fileOf (rowAt (h .«first_index») xs i) .seq ≡ getD xs (i * 8 + 2) 0
-  held-seq i l =
-      elim (decLt i (h .«rewrite_count»)) [
-        | yes u ↦ rowAt-seq (h .«first_index») xs i (omega arith) (w .rewritten i (omega arith) u)
-        | no u ↦ rowAt-seq (h .«first_index») xs i (omega arith) (w .appended i (omega arith) l)
-      ]
+  held-seq i l = row-seq (h .«first_index») xs i (held-row h xs w i l)
 
   -- ---- `get_entry`
 

@@ -9,3 +9,5 @@ pub mod Appends
 pub mod Preparing
 pub mod RunLaws
 pub mod Queries
+pub mod Columns
+pub mod ColumnLaws

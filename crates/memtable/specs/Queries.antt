@@ -3,8 +3,8 @@ use mathlib.Core.Bool.{Bool}
 use mathlib.Core.List.{List}
 use mathlib.Core.Option.{Option, none, some}
 use mathlib.Core.Path.{_≡_}
-use Prim.Native.Nat.{ℕ, _*_, _+_, _≤_, _<_, _^_}
-use lib.ListN.{length, getD}
+use Prim.Native.Nat.{ℕ}
+use lib.ListN.{length}
 use Rattle.maps.specs.Lists.{first, least, mapOption, select}
 use Rattle.maps.specs.Maps.{Map}
 use Rattle.pipe_log.specs.Rows.{window}
@@ -32,14 +32,6 @@ entryFound (entry.At e) = some e
 abbrev pub someBeforeOf : SomeBefore → Result Bool
 someBeforeOf BadRange = refuse badRange
 someBeforeOf (Is b) = ok b
-
--- row i is a record
-pub record AnyRow (xs : List ℕ) (i : ℕ) : Type 0 where
-  pub whole : i * 8 + 8 ≤ length xs
-  pub queue : getD xs (i * 8 + 1) 0 < 2
-  pub compression : getD xs (i * 8 + 5) 0 < 2
-  pub offset : getD xs (i * 8 + 6) 0 < 2 ^ 32
-  pub len : getD xs (i * 8 + 7) 0 < 2 ^ 32
 
 abbrev pub EntryAnswer : Head → List ℕ → ℕ → FoundEntry → Type 0
 EntryAnswer h xs i r = (keys : Map (List ℕ) Held) (counted : Bool) → entryFound r ≡ getEntry i (tableOf h xs keys counted)

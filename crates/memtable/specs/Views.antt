@@ -34,7 +34,14 @@ pub record Row (q : ℕ) (xs : List ℕ) (i : ℕ) : Type 0 where
   pub offset : getD xs (i * 8 + 6) 0 < 2 ^ 32
   pub len : getD xs (i * 8 + 7) 0 ≤ maxEntryLen
 
--- the rows from a to below b are such
+-- row i is a record of either queue
+pub record AnyRow (xs : List ℕ) (i : ℕ) : Type 0 where
+  pub queue : getD xs (i * 8 + 1) 0 < 2
+  pub compression : getD xs (i * 8 + 5) 0 < 2
+  pub offset : getD xs (i * 8 + 6) 0 < 2 ^ 32
+  pub len : getD xs (i * 8 + 7) 0 ≤ maxEntryLen
+
+-- the rows from a to below b are records of queue q
 abbrev pub Rows : ℕ → ℕ → ℕ → List ℕ → Type 0
 Rows q a b xs = (i : ℕ) → a ≤ i → i < b → Row q xs i
 

@@ -1,6 +1,7 @@
 // One group's table over its part of the lent area (src/memtable.rs, `MemTable`): the entries. The head goes in by value
 // and comes back changed; the entries are rows of eight numbers in the group's part.
 mod append;
+mod columns;
 mod compact;
 mod numbers;
 mod queries;
@@ -62,4 +63,12 @@ pub enum FoundEntry {
 pub enum SomeBefore {
     BadRange,
     Is(bool),
+}
+
+// What fetching records into lent slices answers: their number, or document 01's 11, 12 or 19.
+pub enum Fetched {
+    Done(usize),
+    EntryCompacted,
+    EntryNotFound,
+    ListTooShort,
 }

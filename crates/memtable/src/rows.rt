@@ -1,9 +1,9 @@
 // The record that a row of eight numbers stands for.
 ghost use mathlib.Core.Path.{_≡_};
-ghost use Prim.Native.Nat.{_*_};
-ghost use lib.ListN.{drop};
+ghost use Prim.Native.Nat.{_+_, _*_, _≤_};
+ghost use lib.ListN.{length, drop};
 ghost use Rattle.pipe_log.specs.Rows.{queueAt, compressionAt, entryOf, withIndex};
-ghost use Rattle.memtable.specs.Queries.{AnyRow};
+ghost use Rattle.memtable.specs.Views.{AnyRow};
 use pipe_log::CompressionType;
 use pipe_log::EntryBlock;
 use pipe_log::EntryIndex;
@@ -31,6 +31,7 @@ fn compression_at(n: u64) -> CompressionType
 
 // The record of row `i`, at an index of its own.
 pub fn entry_at(part: &[u64], i: usize, index: u64) -> EntryIndex
+    requires { ⌜ i * 8 + 8 ≤ length (now part) ⌝ }
     requires { ⌜ AnyRow (now part) i ⌝ }
     ensures { λ r. ⌜ r ≡ withIndex index (entryOf (drop (i * 8) (now (part .entry)))) ⌝ }
 {

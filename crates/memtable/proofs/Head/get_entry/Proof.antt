@@ -1,4 +1,6 @@
-use Rattle.memtable.proofs.QueryWays.{get-below, get-above, get-at, held-row}
+use borrow.Author.Needs.{needs}
+use Rattle.memtable.specs.RowLaws.{held-row}
+use Rattle.memtable.proofs.QueryWays.{get-below, get-above, get-at}
 use Rattle.memtable.proofs.Head.get_entry.Statement.{statement}
 use Rattle.memtable.proofs.Head.get_entry.Tie as tie
 use Rattle.memtable.proofs.Head.get_entry.Reads as reads
@@ -15,7 +17,7 @@ returns-2 c = get-above _ _ (c .before .before .before .before .pre) _ (c .befor
 
 -- src/queries.rt:28:24
 entry-at-requires : tie.Need-entry-at-requires
-entry-at-requires c κs = held-row _ _ (c .before .before .before .before .pre) _ (c .if2 .left)
+entry-at-requires c κs = (search needs, held-row _ _ (c .before .before .before .before .pre) _ (c .if2 .left))
 
 -- src/queries.rt:16:5
 returns-3 : tie.Need-returns-3

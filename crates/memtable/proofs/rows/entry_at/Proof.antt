@@ -113,7 +113,7 @@ cast-t25 c = search needs
 
 -- src/rows.rt:33:1
 returns : tie.Need-returns
-returns c = entry-is _ _ _ _ _ (c .before .before .before .before .before .before .before .before .before .before .pre) (c .before .before .before .before .before .before .before .queue-at .ensures) (c .before .before .compression-at .ensures)
+returns c = entry-is _ _ _ _ _ (c .before .before .before .before .before .before .before .before .before .before .pre .1) (c .before .before .before .before .before .before .before .queue-at .ensures) (c .before .before .compression-at .ensures)
 
 pub entry-at-spec : {M : Type 1} → statement M
 entry-at-spec =
