@@ -102,3 +102,10 @@ held-row h xs w i l =
       | yes u ↦ row-any xs i (omega arith) (w .rewritten i (omega arith) u)
       | no u ↦ row-any xs i (omega arith) (w .appended i (omega arith) l)
     ]
+
+-- a row of what follows the first k rows
+pub any-drop : (xs : List ℕ) (k i : ℕ) → AnyRow xs (k + i) → AnyRow (drop (k * 8) xs) i
+any-drop xs k i r =
+    let e : (j : ℕ) → getD (drop (k * 8) xs) (i * 8 + j) 0 ≡ getD xs ((k + i) * 8 + j) 0 =
+    λ j. (let z : k * 8 + (i * 8 + j) ≡ (k + i) * 8 + j = omega arith in rw (getD-drop (k * 8) xs (i * 8 + j) 0, z)) in
+    record { queue = rw (e 1) (r .queue); compression = rw (e 5) (r .compression); offset = rw (e 6) (r .offset); len = rw (e 7) (r .len) }

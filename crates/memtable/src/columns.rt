@@ -3,7 +3,12 @@ ghost use mathlib.Core.Path.{_≡_};
 ghost use Prim.Native.Nat.{ℕ, _+_, _*_, _≤_, _<_, _^_};
 ghost use lib.ListN.{length, drop};
 ghost use Rattle.cells.specs.Part.{put};
-ghost use Rattle.memtable.specs.Columns.{column, upFrom};
+ghost use Rattle.pipe_log.specs.Rows.{window};
+ghost use Rattle.rules.specs.Causes.{ok};
+ghost use Rattle.memtable.specs.Views.{Wf};
+ghost use Rattle.memtable.specs.Columns.{columns, SameLength, Answered, column, upFrom};
+use crate::Fetched;
+use crate::Head;
 
 // Copies cell `cell` of `count` rows from row `from` on.
 fn copy_column(part: &[u64], from: usize, cell: usize, count: usize, out: &mut [u64])
@@ -66,4 +71,35 @@ fn copy_right(
     copy_column(part, from, 5, count, compression);
     copy_column(part, from, 6, count, entry_offset);
     copy_column(part, from, 7, count, entry_len);
+}
+
+impl Head {
+    // Answers `count` entries from place `from` on in the lent slices, if they have room.
+    pub fn answer_rows(
+        self,
+        part: &[u64],
+        from: usize,
+        count: usize,
+        index: &mut [u64],
+        queue: &mut [u64],
+        seq: &mut [u64],
+        offset: &mut [u64],
+        len: &mut [u64],
+        compression: &mut [u64],
+        entry_offset: &mut [u64],
+        entry_len: &mut [u64],
+    ) -> Fetched
+        requires { ⌜ Wf self (now part) ⌝ }
+        requires { ⌜ from + count ≤ self .len ⌝ }
+        requires { ⌜ SameLength (columns (now index) (now queue) (now seq) (now offset) (now len) (now compression) (now «entry_offset») (now «entry_len»)) ⌝ }
+        ensures { λ r. ⌜ Answered (ok (window (self .«first_index» + from) count (drop (from * 8) (now (part .entry))))) (columns (now (index .entry)) (now (queue .entry)) (now (seq .entry)) (now (offset .entry)) (now (len .entry)) (now (compression .entry)) (now («entry_offset» .entry)) (now («entry_len» .entry))) r (columns (now (index .exit)) (now (queue .exit)) (now (seq .exit)) (now (offset .exit)) (now (len .exit)) (now (compression .exit)) (now («entry_offset» .exit)) (now («entry_len» .exit))) ⌝ }
+    {
+        if index.len() < count {
+            return Fetched::ListTooShort;
+        }
+        let first = self.first_index + from as u64;
+        copy_left(part, from, first, count, index, queue, seq, offset);
+        copy_right(part, from, count, len, compression, entry_offset, entry_len);
+        Fetched::Done(count)
+    }
 }
