@@ -1,41 +1,30 @@
-use Rattle.memtable.proofs.RewriteWays.{run-ungated, met-gated, run-gated}
+-- `memtable::Head::replacing` meets its contract. Assumes nothing.
 use borrow.Author.Needs.{needs}
+use Rattle.memtable.proofs.RewriteWays.{run-ungated, met-gated, run-gated}
 use Rattle.memtable.proofs.Head.replacing.Statement.{statement}
 use Rattle.memtable.proofs.Head.replacing.Tie as tie
-use Rattle.memtable.proofs.Head.replacing.Reads as reads
-use Rattle.memtable.proofs.Head.replacing.Lts as lts
-use Rattle.memtable.proofs.numbers.lesser.Reads as lesser-reads
-use Rattle.memtable.proofs.scans.count_before.Reads as count-before-reads
 
--- src/rewrite.rt:30:23
 enum-known-gate : tie.Need-enum-known-gate
 enum-known-gate c = search needs
 
--- src/rewrite.rt:31:49
 enum-told : tie.Need-enum-told
 enum-told c = search needs
 
--- src/rewrite.rt:31:49
 sub-lesser : tie.Need-sub-lesser
 sub-lesser c = search needs
 
--- src/rewrite.rt:31:36
 lesser-requires : tie.Need-lesser-requires
 lesser-requires c κs = search needs
 
--- src/rewrite.rt:31:13
 returns : tie.Need-returns
 returns c = rw (c .before .enum-told .given .1) (run-ungated _ _ (c .before .before .before .before .pre .0) _ _ (c .before .before .before .before .pre .1 .1) _ (c .lesser .ensures))
 
--- src/rewrite.rt:34:13
 returns-2 : tie.Need-returns-2
 returns-2 c = rw (c .before .before .gate .given .1) (met-gated _ _ (c .before .before .before .before .before .pre .0) _ _ (c .before .before .before .before .before .pre .1 .1) _ (c .if1 .taken))
 
--- src/rewrite.rt:36:25
 count-before-requires : tie.Need-count-before-requires
 count-before-requires c κs = search needs
 
--- src/rewrite.rt:24:5
 returns-3 : tie.Need-returns-3
 returns-3 c = rw (c .before .before .before .gate .given .1) (run-gated _ _ (c .before .before .before .before .before .before .pre .0) _ _ (c .before .before .before .before .before .before .pre .1 .1) _ _ (c .before .if1 .left) (c .count-before .ensures .0) (c .count-before .ensures .1))
 

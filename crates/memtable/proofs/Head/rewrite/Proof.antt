@@ -1,42 +1,31 @@
-use Rattle.memtable.proofs.RewriteWays.{rewrite-above, rewrite-below, rewrite-left}
+-- `memtable::Head::rewrite` meets its contract. Assumes nothing.
 use native.Mathlib.Omega.{arith}
 use borrow.Author.Needs.{needs}
+use Rattle.memtable.proofs.RewriteWays.{rewrite-above, rewrite-below, rewrite-left}
 use Rattle.memtable.proofs.Head.rewrite.Statement.{statement}
 use Rattle.memtable.proofs.Head.rewrite.Tie as tie
-use Rattle.memtable.proofs.Head.rewrite.Reads as reads
-use Rattle.memtable.proofs.Head.rewrite.Lts as lts
-use Rattle.memtable.proofs.Head.replace.Reads as replace-reads
-use Rattle.memtable.proofs.numbers.beyond.Reads as beyond-reads
 
--- src/rewrite.rt:70:13
 beyond-requires : tie.Need-beyond-requires
 beyond-requires c κs = search needs
 
--- src/rewrite.rt:72:13
 returns : tie.Need-returns
 returns c = let e = c .before .before .beyond .ensures in rewrite-above _ _ _ _ _ (c .before .before .before .before .before .pre .0) (omega arith)
 
--- src/rewrite.rt:74:30
 beyond-requires-2 : tie.Need-beyond-requires-2
 beyond-requires-2 c κs = search needs
 
--- src/rewrite.rt:75:13
 returns-2 : tie.Need-returns-2
 returns-2 c = let e = c .before .beyond2 .ensures in rewrite-below _ _ _ _ _ (c .before .before .before .before .before .before .before .pre .0) (omega arith)
 
--- src/rewrite.rt:78:13
 returns-3 : tie.Need-returns-3
 returns-3 c = let e = c .before .before .before .before .before .before .beyond .ensures in let d = c .before .before .before .beyond2 .ensures in rewrite-left _ _ _ _ _ (c .before .before .before .before .before .before .before .before .before .pre .0) (omega arith) (omega arith) (omega arith)
 
--- src/rewrite.rt:80:9
 replace-requires : tie.Need-replace-requires
 replace-requires c κs = let e = c .before .before .before .before .before .before .before .beyond .ensures in let d = c .before .before .before .before .beyond2 .ensures in (c .before .before .before .before .before .before .before .before .before .before .pre .0, (c .before .before .before .before .before .before .before .before .before .before .pre .1, (e, omega arith, omega arith, omega arith)))
 
--- src/rewrite.rt:65:5
 same-length : tie.Need-same-length
 same-length c = search needs
 
--- src/rewrite.rt:65:5
 returns-4 : tie.Need-returns-4
 returns-4 c = search needs
 
