@@ -1,0 +1,74 @@
+-- `memtable::Head::fetch_entries_to` meets its contract. Assumes nothing.
+use borrow.Author.Needs.{needs}
+use Rattle.memtable.proofs.FetchWays.{answered-by, compacted-answer, not-found-answer}
+use Rattle.memtable.proofs.Head.fetch_entries_to.Statement.{statement}
+use Rattle.memtable.proofs.Head.fetch_entries_to.Tie as tie
+
+fetch-range-requires : tie.Need-fetch-range-requires
+fetch-range-requires c κs = search needs
+
+enum-known-range : tie.Need-enum-known-range
+enum-known-range c = search needs
+
+answer-rows-requires : tie.Need-answer-rows-requires
+answer-rows-requires c κs = (c .before .before .before .before .before .before .before .before .before .before .before .before .before .before .before .before .before .before .before .before .before .pre .0, ((rw (c .before .before .before .before .before .before .before .before .before .range .given .1) at (c .before .before .before .before .before .before .before .before .before .before .before .fetch-range .ensures)) .within, c .before .before .before .before .before .before .before .before .before .before .before .before .before .before .before .before .before .before .before .before .before .pre .1))
+
+enum-told : tie.Need-enum-told
+enum-told c = search needs
+
+enum-told-2 : tie.Need-enum-told-2
+enum-told-2 c = search needs
+
+same-length : tie.Need-same-length
+same-length c = search needs
+
+same-length-2 : tie.Need-same-length-2
+same-length-2 c = search needs
+
+same-length-3 : tie.Need-same-length-3
+same-length-3 c = search needs
+
+same-length-4 : tie.Need-same-length-4
+same-length-4 c = search needs
+
+same-length-5 : tie.Need-same-length-5
+same-length-5 c = search needs
+
+same-length-6 : tie.Need-same-length-6
+same-length-6 c = search needs
+
+same-length-7 : tie.Need-same-length-7
+same-length-7 c = search needs
+
+same-length-8 : tie.Need-same-length-8
+same-length-8 c = search needs
+
+returns : tie.Need-returns
+returns c = λ keys counted. answered-by ((rw (c .before .before .before .before .before .before .before .before .before .before .before .before .before .before .before .before .before .before .before .before .before .before .before .before .before .before .range .given .1) at (c .before .before .before .before .before .before .before .before .before .before .before .before .before .before .before .before .before .before .before .before .before .before .before .before .before .before .before .before .fetch-range .ensures)) .rule keys counted) (c .before .before .before .before .before .before .before .before .before .before .before .before .before .before .before .before .answer-rows .ensures)
+
+returns-2 : tie.Need-returns-2
+returns-2 c = λ keys counted. answered-by ((rw (c .enum-told .given .1) at (c .before .before .fetch-range .ensures)) .rule keys counted) (compacted-answer _)
+
+returns-3 : tie.Need-returns-3
+returns-3 c = λ keys counted. answered-by ((rw (c .enum-told2 .given .1) at (c .before .before .fetch-range .ensures)) .rule keys counted) (not-found-answer _)
+
+pub fetch-entries-to-spec : {M : Type 1} → statement M
+fetch-entries-to-spec =
+    tie.close
+    (tie.spec
+    fetch-range-requires
+    enum-known-range
+    answer-rows-requires
+    enum-told
+    enum-told-2
+    same-length
+    same-length-2
+    same-length-3
+    same-length-4
+    same-length-5
+    same-length-6
+    same-length-7
+    same-length-8
+    returns
+    returns-2
+    returns-3)

@@ -1,0 +1,17 @@
+-- `memtable::Head::merge_append_table` meets its contract. Assumes nothing.
+use borrow.Author.Needs.{needs}
+use Rattle.memtable.proofs.AppendWays.{laying-by, by-replay}
+use Rattle.memtable.proofs.Head.merge_append_table.Statement.{statement}
+use Rattle.memtable.proofs.Head.merge_append_table.Tie as tie
+
+lay-requires : tie.Need-lay-requires
+lay-requires c κs = search needs
+
+same-length : tie.Need-same-length
+same-length c = search needs
+
+returns : tie.Need-returns
+returns c = laying-by (λ keys counted. by-replay _ _) (c .before .before .lay .ensures)
+
+pub merge-append-table-spec : {M : Type 1} → statement M
+merge-append-table-spec = tie.close (tie.spec lay-requires same-length returns)

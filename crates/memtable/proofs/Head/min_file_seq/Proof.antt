@@ -1,0 +1,38 @@
+-- `memtable::Head::min_file_seq` meets its contract. Assumes nothing.
+use borrow.Author.Needs.{needs}
+use Rattle.memtable.proofs.QueryWays.{min-none, min-some}
+use Rattle.memtable.proofs.Head.min_file_seq.Statement.{statement}
+use Rattle.memtable.proofs.Head.min_file_seq.Tie as tie
+
+min-entry-seq-requires : tie.Need-min-entry-seq-requires
+min-entry-seq-requires c κs = search needs
+
+lesser-of-requires : tie.Need-lesser-of-requires
+lesser-of-requires c κs = search needs
+
+enum-known-both : tie.Need-enum-known-both
+enum-known-both c = search needs
+
+enum-told : tie.Need-enum-told
+enum-told c = search needs
+
+returns : tie.Need-returns
+returns c = min-none _ _ _ (c .before .before .before .before .before .args .keys) (c .before .before .before .min-entry-seq .result) _ (c .before .before .before .min-entry-seq .ensures) (c .before .before .lesser-of .ensures) (c .enum-told .given .1)
+
+by-span-requires : tie.Need-by-span-requires
+by-span-requires c κs = search needs
+
+returns-2 : tie.Need-returns-2
+returns-2 c = min-some _ _ _ (c .before .before .before .before .before .before .before .args .keys) (c .before .before .before .before .before .min-entry-seq .result) _ (c .before .before .before .before .before .min-entry-seq .ensures) (c .before .before .before .before .lesser-of .ensures) _ _ (c .before .before .both .given .1) (c .by-span .ensures)
+
+pub min-file-seq-spec : {M : Type 1} → statement M
+min-file-seq-spec =
+    tie.close
+    (tie.spec
+    min-entry-seq-requires
+    lesser-of-requires
+    enum-known-both
+    enum-told
+    returns
+    by-span-requires
+    returns-2)
