@@ -5,3 +5,5 @@ pub mod RowIn
 pub mod Writes
 pub mod Orders
 pub mod Places
+pub mod PlaceLaws
+pub mod Calls

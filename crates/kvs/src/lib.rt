@@ -14,6 +14,12 @@ pub enum Place {
     Before(usize),
 }
 
+// How a call that adds keys ends: with so many keys, or refused for want of room.
+pub enum Outcome {
+    Done(usize),
+    Full,
+}
+
 // Looks for a key of any length.
 pub fn find(n: usize, rows: &[u64], bytes: &[u8], key: &[u8]) -> Place
     requires { ⌜ Wf n (now rows) (now bytes) ⌝ }
