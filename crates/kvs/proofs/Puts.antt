@@ -67,12 +67,12 @@ module _ (n : ℕ) (rows bs k : List ℕ) (h : Held) (w : Wf n rows bs) where
       let is : map pairOf S ≡ insert bytes k h (map pairOf R) = keys-with i j R S (rowAt i rows′ bs′) (pair k h) g e ∙ sym f in
       record {
         wf =
-          record {
-            rows-fit = u;
-            bytes-fit = v;
-            ok = ok-with i j R S (rowAt i rows′ bs′) g o (w .ok);
-            ascending = rw is (ascending-insert bytes bytesLawful k h (map pairOf R) (w .ascending));
-          };
+            record {
+              rows-fit = u;
+              bytes-fit = v;
+              ok = ok-with i j R S (rowAt i rows′ bs′) g o (w .ok);
+              ascending = rw is (ascending-insert bytes bytesLawful k h (map pairOf R) (w .ascending));
+            };
         is = is;
       }
 
@@ -90,14 +90,14 @@ module _ (n : ℕ) (rows bs k : List ℕ) (h : Held) (w : Wf n rows bs) where
         let lr = length-written-rows i k h rows bs p in
         let lb = length-written-bytes i k h rows bs u v p q in
         let holds : Holds (i + suc (n - suc i)) (writtenRows i k h rows) (writtenBytes i k h bs) (insert bytes k h K) =
-            put-holds i (suc i) (writtenRows i k h rows) (writtenBytes i k h bs) (omega arith) b
-            (before-written i k h rows bs u v p q)
-            (after-written i k h rows bs u v p q (n - suc i))
-            (pair-written i k h rows bs u v p q)
-            (ok-written i k h rows bs u v p q)
-            (rw (m, lr) (w .rows-fit))
-            (rw (m, lb) (w .bytes-fit))
-            f in
+        put-holds i (suc i) (writtenRows i k h rows) (writtenBytes i k h bs) (omega arith) b
+        (before-written i k h rows bs u v p q)
+        (after-written i k h rows bs u v p q (n - suc i))
+        (pair-written i k h rows bs u v p q)
+        (ok-written i k h rows bs u v p q)
+        (rw (m, lr) (w .rows-fit))
+        (rw (m, lb) (w .bytes-fit))
+        f in
         let holds′ : Holds n (writtenRows i k h rows) (writtenBytes i k h bs) (insert bytes k h K) = rw m at holds in
         let l : length (insert bytes k h K) ≡ n = sym (ap length (holds′ .is)) ∙ length-keys n _ _ in
         record {
@@ -125,14 +125,14 @@ module _ (n : ℕ) (rows bs k : List ℕ) (h : Held) (w : Wf n rows bs) where
         let lr = length-written-rows i k h X Y p in
         let lb = length-written-bytes i k h X Y u v p q in
         let holds : Holds (i + suc (n - i)) (writtenRows i k h X) (writtenBytes i k h Y) (insert bytes k h K) =
-            put-holds i i (writtenRows i k h X) (writtenBytes i k h Y) b b
-            (same-trans 0 0 0 i (before-written i k h X Y u v p q) (before-opened n i rows bs b x y))
-            (same-trans (suc i) (suc i) i (n - i) (after-written i k h X Y u v p q (n - i)) (after-opened n i rows bs b x y))
-            (pair-written i k h X Y u v p q)
-            (ok-written i k h X Y u v p q)
-            (rw (m, lr) (omega arith))
-            (rw (m, lb) (omega arith))
-            f in
+        put-holds i i (writtenRows i k h X) (writtenBytes i k h Y) b b
+        (same-trans 0 0 0 i (before-written i k h X Y u v p q) (before-opened n i rows bs b x y))
+        (same-trans (suc i) (suc i) i (n - i) (after-written i k h X Y u v p q (n - i)) (after-opened n i rows bs b x y))
+        (pair-written i k h X Y u v p q)
+        (ok-written i k h X Y u v p q)
+        (rw (m, lr) (omega arith))
+        (rw (m, lb) (omega arith))
+        f in
         let holds′ : Holds (n + 1) (writtenRows i k h X) (writtenBytes i k h Y) (insert bytes k h K) = rw m at holds in
         let l : length (insert bytes k h K) ≡ n + 1 = sym (ap length (holds′ .is)) ∙ length-keys (n + 1) _ _ in
         record {
@@ -150,7 +150,7 @@ module _ (n : ℕ) (rows bs k : List ℕ) (h : Held) (w : Wf n rows bs) where
       let b : i ≤ n = rw length-keys at (rw e at (place-within k K)) in
       let f : insert bytes k h K ≡ take i K ++ (pair k h ∷ drop i K) = insert-place k h K ∙ rw e in
       let l : length (insert bytes k h K) ≡ n + 1 =
-          rw (f, length-append, length-take i K, length-drop i K, length-keys n rows bs) (omega arith) in
+      rw (f, length-append, length-take i K, length-drop i K, length-keys n rows bs) (omega arith) in
       record { answer = rw (l, x); rows-are = refl; bytes-are = refl; stands = tt }
 
 -- ---- what is deleted
@@ -168,24 +168,24 @@ module _ (n : ℕ) (rows bs k : List ℕ) (w : Wf n rows bs) where
       let lr : length rows′ ≡ length rows = length-closed-rows n i rows bs b (w .rows-fit) (w .bytes-fit) in
       let lb : length bs′ ≡ length bs = length-closed-bytes n i rows bs b (w .rows-fit) (w .bytes-fit) in
       let g : rowsFrom 0 (n - 1) rows′ bs′ ≡ take i R ++ drop (suc i) R =
-          rw m at (without-row rows bs rows′ bs′ n i b (before-closed n i rows bs b (w .rows-fit) (w .bytes-fit)) (after-closed n i rows bs b (w .rows-fit) (w .bytes-fit))) in
+      rw m at (without-row rows bs rows′ bs′ n i b (before-closed n i rows bs b (w .rows-fit) (w .bytes-fit)) (after-closed n i rows bs b (w .rows-fit) (w .bytes-fit))) in
       let is : keysIn (n - 1) rows′ bs′ ≡ remove bytes k K =
-          rw (g, map-append pairOf (take i R) (drop (suc i) R), map-take pairOf i R, map-drop pairOf (suc i) R) (sym (remove-place k K (w .ascending) ∙ rw e)) in
+      rw (g, map-append pairOf (take i R) (drop (suc i) R), map-take pairOf i R, map-drop pairOf (suc i) R) (sym (remove-place k K (w .ascending) ∙ rw e)) in
       record {
         answer = sym (sym (ap length is) ∙ length-keys (n - 1) rows′ bs′);
         rows-are = rw e;
         bytes-are = rw e;
         holds =
-          record {
-            wf =
-              record {
-                rows-fit = omega (arith, w .rows-fit);
-                bytes-fit = omega (arith, w .bytes-fit);
-                ok = rw g (ok-append (take i R) (drop (suc i) R) (ok-take i R (w .ok)) (ok-drop (suc i) R (w .ok)));
-                ascending = rw is (ascending-remove bytes bytesLawful k K (w .ascending));
-              };
-            is = is;
-          };
+            record {
+              wf =
+                  record {
+                    rows-fit = omega (arith, w .rows-fit);
+                    bytes-fit = omega (arith, w .bytes-fit);
+                    ok = rw g (ok-append (take i R) (drop (suc i) R) (ok-take i R (w .ok)) (ok-drop (suc i) R (w .ok)));
+                    ascending = rw is (ascending-remove bytes bytesLawful k K (w .ascending));
+                  };
+              is = is;
+            };
       }
 
   pub delete-absent : (i : ℕ) → placeOf k (keysIn n rows bs) ≡ Before i → DeleteKey n rows bs k n rows bs

@@ -11,7 +11,8 @@ use Rattle.cells.specs.Bytes.{byteOrder}
 use Rattle.kvs.specs.Rows.{rowAt, keyOf, pairOf, keysIn}
 use Rattle.kvs.specs.RowLaws.{length-keys, keys-from}
 use Rattle.kvs.specs.Orders.{below-by-order, same-by-order}
-use Rattle.kvs.specs.Places.{placeFrom}
+use Rattle.kvs.specs.Places.{placeFrom, placeOf, Within}
+use Rattle.kvs.specs.PlaceLaws.{place-within}
 use Rattle.kvs.specs.declared.Place.the-variants.{At, Before}
 
 module _ (n : ℕ) (rows bs key : List ℕ) (i : ℕ) where
@@ -40,3 +41,14 @@ module _ (n : ℕ) (rows bs key : List ℕ) (i : ℕ) where
     place-greater g =
         let x = keyOf (rowAt i rows bs) in
         rw (add-one i, keys-from n i rows bs h, same-by-order key x, below-by-order key x, ← order, g)
+
+-- ---- what a place says
+
+module _ (n : ℕ) (rows bs key : List ℕ) (i : ℕ) where
+  pub at-below : placeOf key (keysIn n rows bs) ≡ At i → i < n
+  unfolding Within
+  at-below e = rw length-keys at (rw e at (place-within key (keysIn n rows bs)))
+
+  pub before-below : placeOf key (keysIn n rows bs) ≡ Before i → i ≤ n
+  unfolding Within
+  before-below e = rw length-keys at (rw e at (place-within key (keysIn n rows bs)))

@@ -105,11 +105,11 @@ module _ (i : ℕ) (k : List ℕ) (h : Held) (rows bs : List ℕ) where
         record {
           numbers = rw zero-mul (part-put-before 0 (i * 4) rows (i * 4) (numbersOf k h) (omega arith) (omega arith));
           bytes =
-            rw (
-              zero-mul,
-              part-put-before 0 (i * 64) (put bs (i * 64) k) (i * 64 + 32) (h .value) (omega arith) (rw (length-key u v p q) (omega arith)),
-            )
-            (part-put-before 0 (i * 64) bs (i * 64) k (omega arith) (omega arith));
+              rw (
+                zero-mul,
+                part-put-before 0 (i * 64) (put bs (i * 64) k) (i * 64 + 32) (h .value) (omega arith) (rw (length-key u v p q) (omega arith)),
+              )
+              (part-put-before 0 (i * 64) bs (i * 64) k (omega arith) (omega arith));
         }
 
     pub after-written : (m : ℕ) → Same (suc i) (suc i) m (writtenRows i k h rows) (writtenBytes i k h bs) rows bs
@@ -118,8 +118,8 @@ module _ (i : ℕ) (k : List ℕ) (h : Held) (rows bs : List ℕ) where
         record {
           numbers = part-put-after (suc i * 4) (m * 4) rows (i * 4) _ (omega arith) (omega arith);
           bytes =
-            rw (part-put-after (suc i * 64) (m * 64) (put bs (i * 64) k) (i * 64 + 32) (h .value) (omega arith) (rw (length-key u v p q) (omega arith)))
-            (part-put-after (suc i * 64) (m * 64) bs (i * 64) k (omega arith) (omega arith));
+              rw (part-put-after (suc i * 64) (m * 64) (put bs (i * 64) k) (i * 64 + 32) (h .value) (omega arith) (rw (length-key u v p q) (omega arith)))
+              (part-put-after (suc i * 64) (m * 64) bs (i * 64) k (omega arith) (omega arith));
         }
 
 -- ---- rows moved up and down

@@ -55,8 +55,8 @@ place-within k (x ∷ xs) =
     split (sameBytes k (x .key))
     (λ e. rw e (suc-le-suc zero-le))
     (λ e. split (bytesBelow k (x .key))
-      (λ b. rw (e, b) zero-le)
-      (λ b. rw (e, b, place-up 0 k xs) (within-up (length xs) (placeFrom 0 k xs) (place-within k xs))))
+    (λ b. rw (e, b) zero-le)
+    (λ b. rw (e, b, place-up 0 k xs) (within-up (length xs) (placeFrom 0 k xs) (place-within k xs))))
 
 pub insert-place : (k : List ℕ) (h : Held) (m : Map (List ℕ) Held) → insert bytes k h m ≡ laidAt (placeOf k m) (pair k h) m
 unfolding insert placeOf placeFrom laidAt
@@ -65,8 +65,8 @@ insert-place k h (x ∷ xs) =
     split (sameBytes k (x .key))
     (λ e. rw e)
     (λ e. split (bytesBelow k (x .key))
-      (λ b. rw (e, b))
-      (λ b. rw (e, b, place-up 0 k xs, laid-up (placeFrom 0 k xs) (pair k h) x xs) (ap (λ l. x ∷ l) (insert-place k h xs))))
+    (λ b. rw (e, b))
+    (λ b. rw (e, b, place-up 0 k xs, laid-up (placeFrom 0 k xs) (pair k h) x xs) (ap (λ l. x ∷ l) (insert-place k h xs))))
 
 module _ (k : List ℕ) where
   -- a key below the first of ascending keys is absent
@@ -83,8 +83,8 @@ module _ (k : List ℕ) where
       split (sameBytes k (x .key))
       (λ e. rw e)
       (λ e. split (bytesBelow k (x .key))
-        (λ b. rw (e, b) (rw e at (absent-below x xs a b)))
-        (λ b. rw (e, b, place-up 0 k xs, found-up (placeFrom 0 k xs) x xs) (lookup-place xs (ascending-tail bytes x xs a))))
+      (λ b. rw (e, b) (rw e at (absent-below x xs a b)))
+      (λ b. rw (e, b, place-up 0 k xs, found-up (placeFrom 0 k xs) x xs) (lookup-place xs (ascending-tail bytes x xs a))))
 
   pub remove-place : (m : Map (List ℕ) Held) → Ascending bytes m → remove bytes k m ≡ takenAt (placeOf k m) m
   unfolding remove placeOf placeFrom takenAt
@@ -93,6 +93,5 @@ module _ (k : List ℕ) where
       split (sameBytes k (x .key))
       (λ e. rw e)
       (λ e. split (bytesBelow k (x .key))
-        (λ b. rw (e, b) (rw e at (remove-absent bytes bytesLawful k (x ∷ xs) (absent-below x xs a b))))
-        (λ b. rw (e, b, place-up 0 k xs, taken-up (placeFrom 0 k xs) x xs) (ap (λ l. x ∷ l) (remove-place xs (ascending-tail bytes x xs a)))))
-
+      (λ b. rw (e, b) (rw e at (remove-absent bytes bytesLawful k (x ∷ xs) (absent-below x xs a b))))
+      (λ b. rw (e, b, place-up 0 k xs, taken-up (placeFrom 0 k xs) x xs) (ap (λ l. x ∷ l) (remove-place xs (ascending-tail bytes x xs a)))))

@@ -3,10 +3,17 @@
 pub mod rows;
 
 use cells::Order;
+use pipe_log::LogQueue;
+use rows::close_row;
+use rows::insert_row;
 use rows::key_at;
+use rows::write_row;
 ghost use mathlib.Core.Path.{_≡_};
 ghost use Rattle.kvs.specs.Rows.{keysIn, Wf};
 ghost use Rattle.kvs.specs.Places.{placeOf};
+ghost use Rattle.kvs.specs.Calls.{heldBy, PutKey, DeleteKey};
+ghost use Prim.Native.Nat.{_≤_};
+ghost use lib.ListN.{length};
 
 // Where a key stands: at a row, or before one and absent. Either way so many keys are below it.
 pub enum Place {
@@ -35,4 +42,48 @@ pub fn find(n: usize, rows: &[u64], bytes: &[u8], key: &[u8]) -> Place
         }
     }
     Place::Before(n)
+}
+
+// Puts a key of at most 32 bytes with a value of at most 32 bytes and its file.
+pub fn put(
+    n: usize,
+    rows: &mut [u64],
+    bytes: &mut [u8],
+    key: &[u8],
+    value: &[u8],
+    queue: LogQueue,
+    seq: u64,
+) -> Outcome
+    requires { ⌜ Wf n (now rows) (now bytes) ⌝ }
+    requires { ⌜ (length (now key) ≤ 32) × (length (now value) ≤ 32) ⌝ }
+    ensures { λ r. ⌜ PutKey n (now (rows .entry)) (now (bytes .entry)) (now (key .entry)) (heldBy (now (value .entry)) queue seq) r (now (rows .exit)) (now (bytes .exit)) ⌝ }
+{
+    match find(n, rows, bytes, key) {
+        Place::At(i) => {
+            write_row(rows, bytes, i, key, value, queue, seq);
+            Outcome::Done(n)
+        }
+        Place::Before(i) => {
+            if rows.len() - n * 4 < 4 {
+                return Outcome::Full;
+            }
+            if bytes.len() - n * 64 < 64 {
+                return Outcome::Full;
+            }
+            insert_row(n, rows, bytes, i, key, value, queue, seq);
+            Outcome::Done(n + 1)
+        }
+    }
+}
+
+// Deletes a key of any length; an absent one stays absent.
+pub fn delete(n: usize, rows: &mut [u64], bytes: &mut [u8], key: &[u8]) -> usize
+    requires { ⌜ Wf n (now rows) (now bytes) ⌝ }
+    ensures { λ r. ⌜ DeleteKey n (now (rows .entry)) (now (bytes .entry)) (now (key .entry)) r (now (rows .exit)) (now (bytes .exit)) ⌝ }
+{
+    let Place::At(i) = find(n, rows, bytes, key) else {
+        return n;
+    };
+    close_row(n, rows, bytes, i);
+    n - 1
 }

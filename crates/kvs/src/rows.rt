@@ -6,7 +6,6 @@ ghost use Rattle.kvs.specs.Rows.{rowAt, keyOf, valueOf};
 ghost use Rattle.kvs.specs.RowIn.{RowIn};
 ghost use Rattle.kvs.specs.Writes.{writtenRows, writtenBytes, opened, closed};
 ghost use Rattle.kvs.specs.Calls.{heldBy};
-
 use pipe_log::LogQueue;
 
 // The key of row `i`, as the part of the area that holds it.
@@ -30,7 +29,15 @@ pub fn value_at<'a>(rows: &[u64], bytes: &'a [u8], i: usize) -> &'a [u8]
 }
 
 // Writes row `i`: its numbers, and as many of its bytes as the key and the value have.
-pub fn write_row(rows: &mut [u64], bytes: &mut [u8], i: usize, key: &[u8], value: &[u8], queue: LogQueue, seq: u64)
+pub fn write_row(
+    rows: &mut [u64],
+    bytes: &mut [u8],
+    i: usize,
+    key: &[u8],
+    value: &[u8],
+    queue: LogQueue,
+    seq: u64,
+)
     requires { ⌜ (i * 4 + 4 ≤ length (now rows)) × (i * 64 + 64 ≤ length (now bytes)) ⌝ }
     requires { ⌜ (length (now key) ≤ 32) × (length (now value) ≤ 32) ⌝ }
     ensures { λ _. ⌜ now (rows .exit) ≡ writtenRows i (now (key .entry)) (heldBy (now (value .entry)) queue seq) (now (rows .entry)) ⌝ }
@@ -66,4 +73,25 @@ pub fn close_row(n: usize, rows: &mut [u64], bytes: &mut [u8], i: usize)
     let left = n - (i + 1);
     cells::shift_down_u64(rows, i * 4 + 4, i * 4, left * 4);
     cells::shift_down_u8(bytes, i * 64 + 64, i * 64, left * 64);
+}
+
+// Puts a new row in before row `i` of `n`.
+pub fn insert_row(
+    n: usize,
+    rows: &mut [u64],
+    bytes: &mut [u8],
+    i: usize,
+    key: &[u8],
+    value: &[u8],
+    queue: LogQueue,
+    seq: u64,
+)
+    requires { ⌜ i ≤ n ⌝ }
+    requires { ⌜ (n * 4 + 4 ≤ length (now rows)) × (n * 64 + 64 ≤ length (now bytes)) ⌝ }
+    requires { ⌜ (length (now key) ≤ 32) × (length (now value) ≤ 32) ⌝ }
+    ensures { λ _. ⌜ now (rows .exit) ≡ writtenRows i (now (key .entry)) (heldBy (now (value .entry)) queue seq) (opened 4 n i (now (rows .entry))) ⌝ }
+    ensures { λ _. ⌜ now (bytes .exit) ≡ writtenBytes i (now (key .entry)) (heldBy (now (value .entry)) queue seq) (opened 64 n i (now (bytes .entry))) ⌝ }
+{
+    open_row(n, rows, bytes, i);
+    write_row(rows, bytes, i, key, value, queue, seq);
 }

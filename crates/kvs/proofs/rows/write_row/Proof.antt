@@ -93,9 +93,10 @@ same-length-2 c = search needs
 
 -- src/rows.rt:33:1
 returns : tie.Need-returns
-returns c = 
-    (rows-written (c .before .before .before .before .before .before .before .before .before .before .before .before .before .args .i) (c .before .before .before .before .before .before .before .before .to-u64 .result) (c .before .before .before .before .before .before .before .before .before .before .before .before .before .args .key .now) (heldBy (c .before .before .before .before .before .before .before .before .before .before .before .before .before .args .value .now) (c .before .before .before .before .before .before .before .before .before .before .before .before .before .args .queue) (c .before .before .before .before .before .before .before .before .before .before .before .before .before .args .seq)) (c .before .before .before .before .before .before .before .before .before .before .before .before .before .args .rows .now) (c .before .before .before .before .before .before .before .before .to-u64 .ensures) (omega (arith, c .before .before .before .before .before .before .before .before .before .before .before .before .before .pre)),
-      bytes-written (c .before .before .before .before .before .before .before .before .before .before .before .before .before .args .i) (c .before .before .before .before .before .before .before .before .before .before .before .before .before .args .key .now) (heldBy (c .before .before .before .before .before .before .before .before .before .before .before .before .before .args .value .now) (c .before .before .before .before .before .before .before .before .before .before .before .before .before .args .queue) (c .before .before .before .before .before .before .before .before .before .before .before .before .before .args .seq)) (c .before .before .before .before .before .before .before .before .before .before .before .before .before .args .bytes .now) _ _ (c .before .before .before .before .before .before .copy-in-u8 .ensures) (c .before .before .copy-in-u82 .ensures))
+returns c = (
+  rows-written (c .before .before .before .before .before .before .before .before .before .before .before .before .before .args .i) (c .before .before .before .before .before .before .before .before .to-u64 .result) (c .before .before .before .before .before .before .before .before .before .before .before .before .before .args .key .now) (heldBy (c .before .before .before .before .before .before .before .before .before .before .before .before .before .args .value .now) (c .before .before .before .before .before .before .before .before .before .before .before .before .before .args .queue) (c .before .before .before .before .before .before .before .before .before .before .before .before .before .args .seq)) (c .before .before .before .before .before .before .before .before .before .before .before .before .before .args .rows .now) (c .before .before .before .before .before .before .before .before .to-u64 .ensures) (omega (arith, c .before .before .before .before .before .before .before .before .before .before .before .before .before .pre)),
+  bytes-written (c .before .before .before .before .before .before .before .before .before .before .before .before .before .args .i) (c .before .before .before .before .before .before .before .before .before .before .before .before .before .args .key .now) (heldBy (c .before .before .before .before .before .before .before .before .before .before .before .before .before .args .value .now) (c .before .before .before .before .before .before .before .before .before .before .before .before .before .args .queue) (c .before .before .before .before .before .before .before .before .before .before .before .before .before .args .seq)) (c .before .before .before .before .before .before .before .before .before .before .before .before .before .args .bytes .now) _ _ (c .before .before .before .before .before .before .copy-in-u8 .ensures) (c .before .before .copy-in-u82 .ensures),
+)
 
 pub write-row-spec : {M : Type 1} → statement M
 write-row-spec =
