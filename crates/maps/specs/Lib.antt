@@ -3,3 +3,4 @@ pub mod Lists
 pub mod Maps
 pub mod OrderLaws
 pub mod MapLaws
+pub mod ListLaws

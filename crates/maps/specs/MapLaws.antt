@@ -1,16 +1,15 @@
 -- The laws of maps over a lawful order of the keys. Keys, values and maps are written out, and what is known of them comes last.
 -- Assumes nothing.
-use mathlib.Core.Bool.{Bool, true, false, cond, _&&_, true≢false, false≢true}
-use mathlib.Core.List.{List, [], _∷_, map}
+use mathlib.Core.Bool.{Bool, true, false, cond}
+use mathlib.Core.List.{[], _∷_, _++_, map}
 use mathlib.Core.Option.{Option, none, some, Option·some-injective, Option·none-ne-some, Option·some-ne-none}
 use mathlib.Core.Path.{_≡_, refl, sym, ap, _∙_}
-use Prim.Native.Nat.{ℕ, suc, _+_, _≤_}
-use native.Mathlib.Nat.{zero-add, add-zero}
+use Prim.Native.Nat.{ℕ, zero, suc, _+_, _≤_, _<_}
 use native.Mathlib.Omega.{arith}
-use lib.ListN.{length}
+use lib.ListN.{length, getD}
 use Rattle.maps.specs.Lists.{select, every, sum, mapOption, orElse}
 use Rattle.maps.specs.Maps.{Order, Pair, Map, lookup, insert, remove, store, mergeWith}
-use Rattle.maps.specs.OrderLaws.{Lawful, split, three, below-differs, above-differs, same-sym}
+use Rattle.maps.specs.OrderLaws.{Lawful, split, and-both, three, below-differs, above-differs, below-not-back}
 
 -- a key with its value
 abbrev pub pair : {K A : Type 0} → K → A → Pair K A
@@ -53,10 +52,6 @@ module _ {A : Type 0} where
   unfoldable pub kept : (A → Bool) → Option A → Option A
   kept p none = none
   kept p (some a) = cond (p a) (some a) none
-
-and-both : {P : Type 0} (a b : Bool) → (a && b) ≡ true → (a ≡ true → b ≡ true → P) → P
-and-both true b e f = f refl e
-and-both false b e f = absurd (false≢true e)
 
 module _ {K A : Type 0} (o : Order K) (law : Lawful o) where
   -- ---- what is below all
@@ -392,6 +387,89 @@ module _ {K A : Type 0} (o : Order K) (law : Lawful o) where
       let n : lookup o k (select P xs) ≡ none = rw p (lookup-below (x .key) (select P xs) (below-select (x .key) P xs (h .0))) in
       split (P x) (λ e. rw (e, s, p, e)) (λ e. rw (e, s, n, p, e)))
       (λ s. split (P x) (λ e. rw (e, s) (lookup-select P k xs (h .1))) (λ e. rw (e, s) (lookup-select P k xs (h .1))))
+
+  -- ---- places: what lies before k, and at k
+
+  -- past the pairs whose keys lie below k
+  pub lookup-past : (k : K) (xs ys : Map K A) → every (λ p. o .below (p .key) k) xs ≡ true → lookup o k (xs ++ ys) ≡ lookup o k ys
+  unfolding lookup every
+  lookup-past k [] ys h = refl
+  lookup-past k (x ∷ xs) ys h =
+      and-both (o .below (x .key) k) _ h (λ p q. rw (above-differs o law (x .key) k p) (lookup-past k xs ys q))
+
+  pub remove-past : (k : K) (xs ys : Map K A) → every (λ p. o .below (p .key) k) xs ≡ true → remove o k (xs ++ ys) ≡ xs ++ remove o k ys
+  unfolding remove every
+  remove-past k [] ys h = refl
+  remove-past k (x ∷ xs) ys h =
+      and-both (o .below (x .key) k) _ h (λ p q. rw (above-differs o law (x .key) k p) (ap (λ z. x ∷ z) (remove-past k xs ys q)))
+
+  pub insert-past : (k : K) (a : A) (xs ys : Map K A) → every (λ p. o .below (p .key) k) xs ≡ true → insert o k a (xs ++ ys) ≡ xs ++ insert o k a ys
+  unfolding insert every
+  insert-past k a [] ys h = refl
+  insert-past k a (x ∷ xs) ys h =
+      and-both (o .below (x .key) k) _ h
+      (λ p q. rw (above-differs o law (x .key) k p, below-not-back o law (x .key) k p) (ap (λ z. x ∷ z) (insert-past k a xs ys q)))
+
+  -- at the first pair: k itself, or a later key
+  pub lookup-here : (k : K) (x : Pair K A) (xs : Map K A) → o .same k (x .key) ≡ true → lookup o k (x ∷ xs) ≡ some (x .val)
+  unfolding lookup
+  lookup-here k x xs e = rw e
+
+  pub insert-here : (k : K) (a : A) (x : Pair K A) (xs : Map K A) → o .same k (x .key) ≡ true → insert o k a (x ∷ xs) ≡ pair k a ∷ xs
+  unfolding insert
+  insert-here k a x xs e = rw e
+
+  pub remove-here : (k : K) (x : Pair K A) (xs : Map K A) → o .same k (x .key) ≡ true → remove o k (x ∷ xs) ≡ xs
+  unfolding remove
+  remove-here k x xs e = rw e
+
+  pub insert-below : (k : K) (a : A) (m : Map K A) → AllBelow o k m → insert o k a m ≡ pair k a ∷ m
+  unfolding insert AllBelow
+  insert-below k a [] h = refl
+  insert-below k a (x ∷ xs) h = rw (below-differs o law k (x .key) (h .0), h .0)
+
+  -- a key below the first pair's is below all
+  pub below-first : (k : K) (x : Pair K A) (xs : Map K A) → Ascending o (x ∷ xs) → o .below k (x .key) ≡ true → AllBelow o k (x ∷ xs)
+  unfolding AllBelow Ascending
+  below-first k x xs h b = (b, below-all k (x .key) xs b (h .0))
+
+  below-getD : (k : K) (m : Map K A) (i : ℕ) (z : Pair K A) → AllBelow o k m → i < length m → o .below k (getD m i z .key) ≡ true
+  unfolding AllBelow
+  below-getD k [] i z h l = absurd (omega arith)
+  below-getD k (x ∷ xs) zero z h l = h .0
+  below-getD k (x ∷ xs) (suc i) z h l = below-getD k xs i z (h .1) (omega arith)
+
+  pub ascending-getD : (m : Map K A) (i j : ℕ) (z : Pair K A) → Ascending o m → i < j → j < length m → o .below (getD m i z .key) (getD m j z .key) ≡ true
+  unfolding Ascending
+  ascending-getD [] i j z h l b = absurd (omega arith)
+  ascending-getD (x ∷ xs) i zero z h l b = absurd (omega arith)
+  ascending-getD (x ∷ xs) zero (suc j) z h l b = below-getD (x .key) xs j z (h .0) (omega arith)
+  ascending-getD (x ∷ xs) (suc i) (suc j) z h l b = ascending-getD xs i j z (h .1) (omega arith) (omega arith)
+
+  -- neighbours in order are enough
+  pub ascending-if : (m : Map K A) (z : Pair K A) → ((i : ℕ) → suc i < length m → o .below (getD m i z .key) (getD m (suc i) z .key) ≡ true) → Ascending o m
+  unfolding Ascending AllBelow
+  ascending-if [] z f = tt
+  ascending-if (x ∷ []) z f = (tt, tt)
+  ascending-if (x ∷ (y ∷ ys)) z f =
+      let t = ascending-if (y ∷ ys) z (λ i l. f (suc i) (omega arith)) in
+      (below-first (x .key) y ys t (f 0 (omega arith)), t)
+
+  pub lookup-getD : (m : Map K A) (i : ℕ) (z : Pair K A) → Ascending o m → i < length m → lookup o (getD m i z .key) m ≡ some (getD m i z .val)
+  unfolding lookup Ascending
+  lookup-getD [] i z h l = absurd (omega arith)
+  lookup-getD (x ∷ xs) zero z h l = lookup-head x xs
+  lookup-getD (x ∷ xs) (suc i) z h l =
+      rw (above-differs o law (x .key) (getD xs i z .key) (below-getD (x .key) xs i z (h .0) (omega arith))) (lookup-getD xs i z (h .1) (omega arith))
+
+  -- what is found has a place
+  pub lookup-place : (k : K) (a : A) (m : Map K A) (z : Pair K A) → lookup o k m ≡ some a → (i : ℕ) × (i < length m) × (getD m i z ≡ pair k a)
+  unfolding lookup
+  lookup-place k a [] z e = absurd (Option·none-ne-some _ e)
+  lookup-place k a (x ∷ xs) z e =
+      split (o .same k (x .key))
+      (λ s. (0, omega arith, λ i. pair (sym (law .same-eq k (x .key) s) i) (Option·some-injective _ _ (rw s at e) i)))
+      (λ s. let r = lookup-place k a xs z (rw s at e) in (suc (r .0), omega (arith, r .1), r .2))
 
 module _ {K A B : Type 0} (o : Order K) (law : Lawful o) where
   -- no longer than a map that has all its keys

@@ -2,17 +2,22 @@
 -- Assumes nothing.
 use mathlib.Core.Bool.{Bool, true, false, _&&_, _||_, true≢false, false≢true}
 use mathlib.Core.List.{List, [], _∷_}
-use mathlib.Core.Path.{_≡_, refl, sym, ap, _∙_}
-use Prim.Native.Nat.{ℕ, _≤_, _<_}
+use mathlib.Core.Path.{_≡_, refl, sym, _∙_}
+use Prim.Native.Nat.{ℕ, _<_}
 use native.Mathlib.Omega.{arith}
 use lib.Dec.{ltb, eqb}
-use borrow.Author.Tests.{ltb-true, ltb-false, eqb-true, eqb-false, lt-ltb, le-ltb, eq-eqb, ne-eqb}
+use borrow.Author.Tests.{ltb-true, ltb-false, eqb-true, eqb-false, lt-ltb, le-ltb, eq-eqb}
 use Rattle.maps.specs.Maps.{Order, numbers, bytes, sameBytes, bytesBelow}
 
 -- by the two values of a test
 pub split : {P : Type 0} (b : Bool) → (b ≡ true → P) → (b ≡ false → P) → P
 split true f g = f refl
 split false f g = g refl
+
+-- the parts of two tests that pass together
+pub and-both : {P : Type 0} (a b : Bool) → (a && b) ≡ true → (a ≡ true → b ≡ true → P) → P
+and-both true b e f = f refl e
+and-both false b e f = absurd (false≢true e)
 
 -- equal keys are one key, and the keys stand in a row
 pub record Lawful {K : Type 0} (o : Order K) : Type 0 where
@@ -39,6 +44,10 @@ module _ {K : Type 0} (o : Order K) (law : Lawful o) where
   pub above-differs : (k j : K) → o .below k j ≡ true → o .same j k ≡ false
   above-differs k j b = same-sym k j (below-differs k j b)
 
+  pub below-not-back : (k j : K) → o .below k j ≡ true → o .below j k ≡ false
+  below-not-back k j b =
+      split (o .below j k) (λ e. absurd (true≢false (sym (law .below-trans k j k b e) ∙ law .below-not k))) (λ e. e)
+
 pub numbersLawful : Lawful numbers
 numbersLawful =
     record {
@@ -60,16 +69,12 @@ neither true b c e f g = absurd (true≢false e)
 neither false true c e f g = g refl e
 neither false false c e f g = f refl refl
 
-both : {P : Type 0} (a b : Bool) → (a && b) ≡ true → (a ≡ true → b ≡ true → P) → P
-both true b e f = f refl e
-both false b e f = absurd (false≢true e)
-
 sameBytes-eq : (k j : List ℕ) → sameBytes k j ≡ true → k ≡ j
 unfolding sameBytes
 sameBytes-eq [] [] e = refl
 sameBytes-eq [] (y ∷ ys) e = absurd (false≢true e)
 sameBytes-eq (x ∷ xs) [] e = absurd (false≢true e)
-sameBytes-eq (x ∷ xs) (y ∷ ys) e = both (eqb x y) (sameBytes xs ys) e (λ p q. λ i. eqb-true x y p i ∷ sameBytes-eq xs ys q i)
+sameBytes-eq (x ∷ xs) (y ∷ ys) e = and-both (eqb x y) (sameBytes xs ys) e (λ p q. λ i. eqb-true x y p i ∷ sameBytes-eq xs ys q i)
 
 sameBytes-refl : (k : List ℕ) → sameBytes k k ≡ true
 unfolding sameBytes
