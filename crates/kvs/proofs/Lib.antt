@@ -1,3 +1,5 @@
 pub mod Search
 pub mod Written
 pub mod Puts
+pub mod Found
+pub mod Rewrites

@@ -54,7 +54,7 @@ ok-with i j R S r e o a = rw e (ok-append (take i R) (r ∷ drop j R) (ok-take i
 
 module _ (n : ℕ) (rows bs k : List ℕ) (h : Held) (w : Wf n rows bs) where
   -- parts in which the key's row stands in place of those from row i up to row j stand for the map with the key
-  put-holds : (i j : ℕ) (rows′ bs′ : List ℕ) → i ≤ n → j ≤ n → Same 0 0 i rows′ bs′ rows bs → Same (suc i) j (n - j) rows′ bs′ rows bs
+  pub put-holds : (i j : ℕ) (rows′ bs′ : List ℕ) → i ≤ n → j ≤ n → Same 0 0 i rows′ bs′ rows bs → Same (suc i) j (n - j) rows′ bs′ rows bs
       → pairOf (rowAt i rows′ bs′) ≡ pair k h → RowOk (rowAt i rows′ bs′)
       → (i + suc (n - j)) * 4 ≤ length rows′ → (i + suc (n - j)) * 64 ≤ length bs′
       → insert bytes k h (keysIn n rows bs) ≡ take i (keysIn n rows bs) ++ (pair k h ∷ drop j (keysIn n rows bs))

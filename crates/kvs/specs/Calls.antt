@@ -1,18 +1,28 @@
 -- What the calls on a group's keys answer, and what the parts are and stand for at exit.
-use mathlib.Core.Bool.{cond}
-use mathlib.Core.List.{List}
+use mathlib.Core.Bool.{Bool, true, false, cond}
+use mathlib.Core.List.{List, [], _∷_}
+use mathlib.Core.Option.{Option, none, some}
 use mathlib.Core.Path.{_≡_}
-use Prim.Native.Nat.{ℕ}
+use Prim.Native.Nat.{ℕ, _+_, _*_}
+use lib.Dec.{leb}
 use lib.ListN.{length}
-use Rattle.maps.specs.Maps.{Map, insert, remove, bytes}
-use Rattle.rules.specs.Items.{LogQueue}
-use Rattle.rules.specs.Table.{Held}
+use Rattle.cells.specs.Part.{put}
+use Rattle.maps.specs.Lists.{orElse}
+use Rattle.maps.specs.Maps.{Map, lookup, insert, remove, bytes}
+use Rattle.rules.specs.Causes.{Result, ok, refuse, keyGoesBack}
+use Rattle.rules.specs.Items.{LogQueue, Append, sameQueue}
+use Rattle.rules.specs.Table.{Held, Table, withKeys, rewrittenKey}
+use Rattle.rules.specs.TableQueries.{getKey, keysOf, leastSeq}
 use Rattle.kvs.specs.declared.Place.{Place}
 use Rattle.kvs.specs.declared.Place.the-variants.{At, Before}
 use Rattle.kvs.specs.declared.Outcome.{Outcome}
 use Rattle.kvs.specs.declared.Outcome.the-variants.{Done, Full}
+use Rattle.kvs.specs.declared.Rewritten.{Rewritten}
+use Rattle.kvs.specs.declared.Rewritten.the-variants.{Accepted, GoesBack}
+use Rattle.kvs.specs.declared.Least.{Least}
+use Rattle.kvs.specs.declared.Least.the-variants.{Nothing, Seq}
 use Rattle.kvs.specs.Rows.{keysIn, Wf, fits}
-use Rattle.kvs.specs.Places.{placeOf}
+use Rattle.kvs.specs.Places.{placeOf, belowAt}
 use Rattle.kvs.specs.Writes.{writtenRows, writtenBytes, opened, closed}
 
 -- a value with its file
@@ -64,3 +74,49 @@ pub record DeleteKey (n : ℕ) (rows bs k : List ℕ) (r : ℕ) (rows′ bs′ :
   pub rows-are : rows′ ≡ deleted 4 (placeOf k (keysIn n rows bs)) n rows
   pub bytes-are : bs′ ≡ deleted 64 (placeOf k (keysIn n rows bs)) n bs
   pub holds : Holds r rows′ bs′ (remove bytes k (keysIn n rows bs))
+
+-- ---- `get`
+
+-- what may be absent, as a flag and a value
+unfoldable pub given : {A : Type 0} → Bool → A → Option A
+given b a = cond b (some a) none
+
+-- the value is the part of the area that holds it; of an absent key it is empty
+pub record GetKey (n : ℕ) (rows bs k : List ℕ) (found : Bool) (value : List ℕ) : Type 0 where
+  pub answer : (t : Table) → t .keys ≡ keysIn n rows bs → getKey k t ≡ given found value
+  pub part-is : value ≡ orElse [] (λ (h : Held). h .value) (lookup bytes k (keysIn n rows bs))
+
+-- ---- `rewrite_key`
+
+-- 17, or the table with the key's file moved
+unfoldable pub rewrittenAs : Rewritten → Table → Result Table
+rewrittenAs Accepted t = ok t
+rewrittenAs GoesBack t = refuse keyGoesBack
+
+-- whether the key's file becomes Rewrite file s
+unfoldable pub moves : Option ℕ → ℕ → Held → Bool
+moves gate s h = cond (sameQueue (h .file .queue) Append) (orElse false (leb (h .file .seq)) gate) (leb (h .file .seq) s)
+
+-- the numbers after it: row i's queue and sequence number
+unfoldable pub movedRows : ℕ → ℕ → List ℕ → List ℕ
+movedRows i s rows = put rows (i * 4 + 2) (1 ∷ s ∷ [])
+
+unfoldable pub rewrittenRows : Place → Option Held → Option ℕ → ℕ → List ℕ → List ℕ
+rewrittenRows p h gate s rows = orElse rows (λ h. cond (moves gate s h) (movedRows (belowAt p) s rows) rows) h
+
+pub record RewriteKey (n : ℕ) (rows bs k : List ℕ) (gate : Option ℕ) (s : ℕ) (r : Rewritten) (rows′ : List ℕ) : Type 0 where
+  pub answer : (t : Table) → t .keys ≡ keysIn n rows bs → rewrittenKey k gate s t ≡ rewrittenAs r (withKeys (keysIn n rows′ bs) t)
+  pub rows-are : rows′ ≡ rewrittenRows (placeOf k (keysIn n rows bs)) (lookup bytes k (keysIn n rows bs)) gate s rows
+  pub wf : Wf n rows′ bs
+
+-- ---- `least_seq` and `count_of`, which read the numbers alone
+
+unfoldable pub leastAs : Least → Option ℕ
+leastAs Nothing = none
+leastAs (Seq s) = some s
+
+abbrev pub LeastSeq : ℕ → List ℕ → LogQueue → Least → Type 0
+LeastSeq n rows q r = (t : Table) (bs : List ℕ) → t .keys ≡ keysIn n rows bs → leastSeq (keysOf q t) ≡ leastAs r
+
+abbrev pub CountOf : ℕ → List ℕ → LogQueue → ℕ → Type 0
+CountOf n rows q r = (t : Table) (bs : List ℕ) → t .keys ≡ keysIn n rows bs → length (keysOf q t) ≡ r

@@ -7,11 +7,13 @@ use pipe_log::LogQueue;
 use rows::close_row;
 use rows::insert_row;
 use rows::key_at;
+use rows::move_file;
+use rows::value_at;
 use rows::write_row;
 ghost use mathlib.Core.Path.{_≡_};
 ghost use Rattle.kvs.specs.Rows.{keysIn, Wf};
 ghost use Rattle.kvs.specs.Places.{placeOf};
-ghost use Rattle.kvs.specs.Calls.{heldBy, PutKey, DeleteKey};
+ghost use Rattle.kvs.specs.Calls.{heldBy, given, PutKey, DeleteKey, GetKey, RewriteKey};
 ghost use Prim.Native.Nat.{_≤_};
 ghost use lib.ListN.{length};
 
@@ -25,6 +27,18 @@ pub enum Place {
 pub enum Outcome {
     Done(usize),
     Full,
+}
+
+// How a key's rewrite ends: accepted, or refused because its sequence number would go back.
+pub enum Rewritten {
+    Accepted,
+    GoesBack,
+}
+
+// A sequence number that may be absent.
+pub enum Least {
+    Nothing,
+    Seq(u64),
 }
 
 // Looks for a key of any length.
@@ -86,4 +100,57 @@ pub fn delete(n: usize, rows: &mut [u64], bytes: &mut [u8], key: &[u8]) -> usize
     };
     close_row(n, rows, bytes, i);
     n - 1
+}
+
+// The value of a key of any length, as the part of the area that holds it, with `found` to tell an absent key from an empty value.
+pub fn get<'a>(n: usize, rows: &[u64], bytes: &'a [u8], key: &[u8], found: &mut bool) -> &'a [u8]
+    requires { ⌜ Wf n (now rows) (now bytes) ⌝ }
+    ensures { λ r. ⌜ GetKey n (now (rows .entry)) (now (bytes .entry)) (now (key .entry)) (now (found .exit)) (now r) ⌝ }
+{
+    match find(n, rows, bytes, key) {
+        Place::At(i) => {
+            *found = true;
+            value_at(rows, bytes, i)
+        }
+        Place::Before(_) => {
+            *found = false;
+            let none = 0;
+            &bytes[none..none]
+        }
+    }
+}
+
+// `rewrite_key` of a key of any length to Rewrite file `seq`, under the gate or, where `gated` is false, under none. The bytes stay.
+pub fn rewrite_key(
+    n: usize,
+    rows: &mut [u64],
+    bytes: &[u8],
+    key: &[u8],
+    gated: bool,
+    gate: u64,
+    seq: u64,
+) -> Rewritten
+    requires { ⌜ Wf n (now rows) (now bytes) ⌝ }
+    ensures { λ r. ⌜ RewriteKey n (now (rows .entry)) (now (bytes .entry)) (now (key .entry)) (given gated gate) seq r (now (rows .exit)) ⌝ }
+{
+    let Place::At(i) = find(n, rows, bytes, key) else {
+        return Rewritten::Accepted;
+    };
+    let queue = rows[i * 4 + 2];
+    let held = rows[i * 4 + 3];
+    if queue == 0 {
+        if !gated {
+            return Rewritten::Accepted;
+        }
+        if gate < held {
+            return Rewritten::Accepted;
+        }
+        move_file(rows, i, seq);
+        return Rewritten::Accepted;
+    }
+    if seq < held {
+        return Rewritten::GoesBack;
+    }
+    move_file(rows, i, seq);
+    Rewritten::Accepted
 }

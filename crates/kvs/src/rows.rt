@@ -5,7 +5,7 @@ ghost use lib.ListN.{length};
 ghost use Rattle.kvs.specs.Rows.{rowAt, keyOf, valueOf};
 ghost use Rattle.kvs.specs.RowIn.{RowIn};
 ghost use Rattle.kvs.specs.Writes.{writtenRows, writtenBytes, opened, closed};
-ghost use Rattle.kvs.specs.Calls.{heldBy};
+ghost use Rattle.kvs.specs.Calls.{heldBy, movedRows};
 use pipe_log::LogQueue;
 
 // The key of row `i`, as the part of the area that holds it.
@@ -94,4 +94,14 @@ pub fn insert_row(
 {
     open_row(n, rows, bytes, i);
     write_row(rows, bytes, i, key, value, queue, seq);
+}
+
+// Sets the file of row `i` to Rewrite file `seq`.
+pub fn move_file(rows: &mut [u64], i: usize, seq: u64)
+    requires { ⌜ i * 4 + 4 ≤ length (now rows) ⌝ }
+    ensures { λ _. ⌜ now (rows .exit) ≡ movedRows i seq (now (rows .entry)) ⌝ }
+{
+    let at = i * 4 + 2;
+    rows[at] = 1;
+    rows[at + 1] = seq;
 }
