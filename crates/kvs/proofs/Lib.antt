@@ -3,3 +3,4 @@ pub mod Written
 pub mod Puts
 pub mod Found
 pub mod Rewrites
+pub mod Queues
