@@ -4,3 +4,4 @@ pub mod Puts
 pub mod Found
 pub mod Rewrites
 pub mod Queues
+pub mod Merges

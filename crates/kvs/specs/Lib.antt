@@ -7,3 +7,4 @@ pub mod Orders
 pub mod Places
 pub mod PlaceLaws
 pub mod Calls
+pub mod Merge

@@ -4,7 +4,7 @@ use native.Mathlib.Nat.{add-zero}
 use native.Mathlib.Omega.{arith}
 use mathlib.Core.Path.{_≡_, refl}
 use mathlib.Core.List.{List}
-use lib.ListN.{length, getD, take, drop}
+use lib.ListN.{length, getD, take, drop, length-take}
 use Rattle.cells.specs.PartLaws.{getD-part, part-part, take-part, part-is}
 use Rattle.kvs.specs.Rows.{rowAt, keyOf, valueOf, RowOk, Wf}
 use Rattle.kvs.specs.RowLaws.{ok-at}
@@ -55,3 +55,12 @@ module _ (i : ℕ) (rows bs : List ℕ) where
       let b : l ≤ 32 = value-length r in
       let e : i * 64 + 32 + l - (i * 64 + 32) ≡ l = omega arith in
       rw (number-at 1 (omega arith), part-part 32 32 (i * 64) 64 bs (omega arith), take-part l (i * 64 + 32) 32 bs b, e, part-is (i * 64 + 32) l bs)
+
+  -- they have at most 32 bytes
+  pub length-key : RowIn i rows bs → length (keyOf (rowAt i rows bs)) ≤ 32
+  unfolding keyOf
+  length-key r = simp length-take (omega (arith, r .ok .key-fits))
+
+  pub length-value : RowIn i rows bs → length (valueOf (rowAt i rows bs)) ≤ 32
+  unfolding valueOf
+  length-value r = simp length-take (omega (arith, r .ok .value-fits))

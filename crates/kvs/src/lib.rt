@@ -1,11 +1,13 @@
 // One group's keys over lent parts: the `kvs` map of src/memtable.rs's MemTable. The number of keys goes in by value and comes back;
 // `rows` has 4 numbers a key and `bytes` 64 bytes a key, in byte order of the keys from the front.
 pub mod files;
+pub mod merge;
 pub mod rows;
 
 use cells::Order;
 pub use files::count_of;
 pub use files::least_seq;
+pub use merge::merge_keys;
 use pipe_log::LogQueue;
 use rows::close_row;
 use rows::insert_row;
