@@ -11,6 +11,7 @@ mod rows;
 mod scans;
 mod seqs;
 mod spans;
+pub mod table;
 
 use pipe_log::EntryIndex;
 
