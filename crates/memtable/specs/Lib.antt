@@ -16,3 +16,4 @@ pub mod ScanLaws
 pub mod Fetches
 pub mod Rewrites
 pub mod ReplaceLaws
+pub mod BatchLaws

@@ -26,7 +26,7 @@ row-moved xs ys i j h r =
     }
 
 -- what the record of a row of either queue says
-queue-number : (n : ℕ) → n < 2 → queueNumber (queueAt n) ≡ n
+pub queue-number : (n : ℕ) → n < 2 → queueNumber (queueAt n) ≡ n
 unfolding queueAt
 queue-number zero h = refl
 queue-number (suc zero) h = refl
