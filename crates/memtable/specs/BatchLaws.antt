@@ -1,10 +1,9 @@
 -- Lent rows of a batch that the checks 3 to 5 let pass: their records are a window, and they meet what the writers require.
 -- Assumes nothing.
 use mathlib.Core.Bool.{Bool, true, false, cond, not, _&&_, _||_}
-use mathlib.Core.List.{List, [], _∷_}
+use mathlib.Core.List.{List, _∷_}
 use mathlib.Core.Path.{_≡_, refl, sym, ap, _∙_}
 use Prim.Native.Nat.{ℕ, zero, suc, _+_, _-_, _*_, _/_, _≤_, _<_, _^_}
-use native.Mathlib.Nat.{add-zero}
 use native.Mathlib.Decide.{decLt}
 use native.Mathlib.Omega.{arith}
 use lib.Dec.{ltb, eqb}
@@ -14,35 +13,15 @@ use borrow.Author.Tests.{ltb-true, ltb-false, eqb-true, not-false}
 use Rattle.maps.specs.Lists.{any}
 use Rattle.pipe_log.specs.Numbers.{queueNumber}
 use Rattle.pipe_log.specs.Rows.{queueAt, isRecord, blockAt, entryOf, entriesOf, withIndex, window}
-use Rattle.rules.specs.Items.{LogQueue, Append, Rewrite, EntryIndex, EntryBlock, Absent, At, sameQueue, hasFile, blockFile, fileOf, entries, Call, writes}
+use Rattle.rules.specs.Items.{LogQueue, Append, Rewrite, EntryIndex, Absent, At, sameQueue, hasFile, blockFile, fileOf, entries, Call, writes}
 use Rattle.pipe_log.specs.declared.FileBlockHandle.{FileBlockHandle}
 use Rattle.rules.specs.Limits.{maxIndex, maxEntryLen}
 use Rattle.rules.specs.Checks.{consecutive, isIncomplete, isOutOfRange, isOtherQueue}
-use Rattle.memtable.specs.Views.{rowAt, Row, Rows}
+use Rattle.memtable.specs.BoolLaws.{clash, both-left, both-right, neither-left, neither-right}
+use Rattle.memtable.specs.Views.{rowAt}
 use Rattle.memtable.specs.Appends.{Lent}
 use Rattle.memtable.specs.RowLaws.{queue-number}
 use Rattle.memtable.specs.WindowLaws.{rowAt-zero, rowAt-suc}
-
--- ---- Bools
-
-clash : false ≡ true → ⊥
-clash e = let z : _≡_ {A = ℕ} 0 1 = ap (λ (b : Bool). cond b 1 0) e in omega arith
-
-both-left : (a b : Bool) → (a && b) ≡ true → a ≡ true
-both-left true b e = refl
-both-left false b e = e
-
-both-right : (a b : Bool) → (a && b) ≡ true → b ≡ true
-both-right true b e = e
-both-right false b e = absurd (clash e)
-
-neither-left : (a b : Bool) → (a || b) ≡ false → a ≡ false
-neither-left true b e = e
-neither-left false b e = refl
-
-neither-right : (a b : Bool) → (a || b) ≡ false → b ≡ false
-neither-right true b e = absurd (clash (sym e))
-neither-right false b e = e
 
 -- ---- a checked list is a window
 
