@@ -2,12 +2,10 @@
 use mathlib.Core.Bool.{Bool, true, false, cond, not, _&&_}
 use mathlib.Core.List.{List, [], _∷_, _++_}
 use mathlib.Core.Path.{_≡_, refl, sym, ap, _∙_}
-use Prim.Native.Nat.{ℕ, suc, _+_, _-_, _*_, _/_, _≤_, _<_, _^_, min}
-use native.Mathlib.Nat.{sub-zero}
+use Prim.Native.Nat.{ℕ, suc, _+_, _-_, _*_, _/_, _≤_, _<_, min}
 use native.Mathlib.Decide.{decLt}
 use native.Mathlib.Omega.{arith}
-use lib.Dec.{ltb, leb}
-use lib.ListN.{length, getD, length-append}
+use lib.ListN.{length, length-append}
 use borrow.Author.Tests.{lt-ltb, le-ltb, le-leb, lt-leb}
 use Rattle.cells.specs.Part.{put}
 use Rattle.cells.specs.PartLaws.{length-put, getD-put-before, getD-put-in, put-nil}
@@ -17,19 +15,16 @@ use Rattle.rules.specs.Causes.{Result, ok, andThen}
 use Rattle.rules.specs.Items.{EntryIndex}
 use Rattle.maps.specs.Maps.{Map}
 use Rattle.rules.specs.Table.{Held, Table, withEntries, firstIndex, lastIndex, isBelowFirst, isAboveLast, entriesBelow, over, overGap, appended, replayedRewrite}
+use Rattle.memtable.specs.BoolLaws.{and-false}
 use Rattle.memtable.specs.declared.Head.{Head}
 use Rattle.memtable.specs.declared.Appended.{Appended}
 use Rattle.memtable.specs.declared.Appended.the-variants as answer
 use Rattle.memtable.specs.declared.append.Prepared.{Prepared, the-variants.Kept, the-variants.BelowFirst, the-variants.AboveLast}
 use Rattle.memtable.specs.Views.{tableOf, Row, Rows, Wf}
-use Rattle.memtable.specs.Appends.{queueBit, rewritesBefore, Lent, fitting, Laying, laidBy}
+use Rattle.memtable.specs.Appends.{rewritesBefore, Lent, fitting, Laying, laidBy}
 use Rattle.memtable.specs.Preparing.{behind, preparedOf, Preparing}
 use Rattle.memtable.specs.RowLaws.{row-moved}
 use Rattle.memtable.specs.WindowLaws.{length-window, window-put, below-none, below-window, isBelowFirst-window, isAboveLast-window}
-
-and-false : (b : Bool) → (b && false) ≡ false
-and-false true = refl
-and-false false = refl
 
 -- ---- `prepare_append`
 

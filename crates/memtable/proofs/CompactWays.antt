@@ -2,16 +2,15 @@
 use mathlib.Core.List.{List}
 use mathlib.Core.Path.{_≡_, refl, sym, ap, _∙_}
 use Prim.Native.Nat.{ℕ, _+_, _-_, _*_, _≤_, _<_, min}
-use native.Mathlib.Nat.{zero-add, add-zero, sub-zero}
+use native.Mathlib.Nat.{zero-add, add-zero}
 use native.Mathlib.Omega.{arith}
 use lib.ListN.{length, getD, drop}
 use lib.Seq.{getD-drop}
 use Rattle.cells.specs.Part.{part, put}
 use Rattle.cells.specs.PartLaws.{length-part, getD-part, length-put, getD-put-in, put-part}
-use Rattle.pipe_log.specs.Rows.{window}
-use Rattle.rules.specs.Table.{withEntries, compacted, compactedCount, entriesBelow, entriesFrom}
+use Rattle.rules.specs.Items.{EntryIndex}
+use Rattle.rules.specs.Table.{withEntries, compacted, compactedCount}
 use Rattle.memtable.specs.declared.Head.{Head}
-use Rattle.memtable.specs.declared.Compacted.{Compacted}
 use Rattle.memtable.specs.Views.{tableOf, Row, Wf}
 use Rattle.memtable.specs.Compaction.{Compaction}
 use Rattle.memtable.specs.RowLaws.{row-moved}
@@ -32,7 +31,7 @@ module _ (h : Head) (xs : List ℕ) (i : ℕ) (w : Wf h xs) where
   unfolding compacted compactedCount withEntries tableOf
   compact-none l =
       record {
-        rule = λ keys counted. rw (from-all i (h .«first_index») (h .len) xs l);
+        rule = λ keys counted. ap (λ (es : List EntryIndex). withEntries es (tableOf h xs keys counted)) (sym (from-all i (h .«first_index») (h .len) xs l));
         count = λ keys counted. rw (below-none i (h .«first_index») (h .len) xs l);
         first = sym (add-zero (h .«first_index»));
         rows = sym (put-part 0 (h .len * 8) xs (omega (arith, w .room)));

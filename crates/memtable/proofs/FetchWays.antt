@@ -1,30 +1,30 @@
 -- Each way through the fetches gives what its contract says. Assumes nothing.
-use mathlib.Core.Bool.{Bool, true, false, cond, _&&_}
-use mathlib.Core.List.{List, [], _∷_, _++_, append-nil}
-use mathlib.Core.Option.{Option, none, some}
-use mathlib.Core.Path.{_≡_, refl, sym, ap, _∙_}
+use mathlib.Core.Bool.{Bool, true, false, _&&_}
+use mathlib.Core.List.{List, _++_, append-nil}
+use mathlib.Core.Path.{_≡_, refl, sym, ap}
 use Prim.Native.Nat.{ℕ, _+_, _-_, _*_, _≤_, _<_}
 use native.Mathlib.Nat.{add-zero}
 use native.Mathlib.Omega.{arith}
 use lib.Dec.{ltb, leb}
-use lib.ListN.{length, drop}
+use lib.ListN.{drop}
 use borrow.Author.Tests.{lt-ltb, le-ltb, le-leb, lt-leb}
-use Rattle.maps.specs.Lists.{select, front, first, mapOption, orElse}
+use Rattle.maps.specs.Lists.{first, mapOption, orElse}
 use Rattle.pipe_log.specs.Rows.{withIndex, window}
-use Rattle.rules.specs.Causes.{Result, ok, refused, refuse, andThen, entryCompacted, entryNotFound}
-use Rattle.rules.specs.Items.{EntryIndex, Append, fileOf}
+use Rattle.rules.specs.Causes.{Result, ok, refuse, andThen, entryCompacted, entryNotFound}
+use Rattle.rules.specs.Items.{EntryIndex}
 use Rattle.maps.specs.Maps.{Map}
 use Rattle.rules.specs.Table.{Held, firstIndex}
 use Rattle.rules.specs.TableQueries.{within, sized, fetchEntriesTo, fetchEntryIndexesBefore, fetchRewrittenEntryIndexes}
+use Rattle.memtable.specs.BoolLaws.{and-false}
 use Rattle.memtable.specs.declared.Head.{Head}
 use Rattle.memtable.specs.declared.Fetched.{Fetched}
 use Rattle.memtable.specs.declared.Fetched.the-variants as answer
 use Rattle.memtable.specs.declared.MaxSize.{MaxSize}
 use Rattle.memtable.specs.declared.MaxSize.the-variants as size
-use Rattle.memtable.specs.declared.fetch.Range.{Range, the-variants.Rows, the-variants.EntryCompacted, the-variants.EntryNotFound}
+use Rattle.memtable.specs.declared.fetch.Range.{the-variants.Rows, the-variants.EntryCompacted, the-variants.EntryNotFound}
 use Rattle.memtable.specs.Views.{tableOf, rowAt, AnyRows, Wf}
 use Rattle.memtable.specs.Columns.{Columns, judged, columnsAfter, Answered}
-use Rattle.memtable.specs.Fetches.{sizeOf, entriesAt, rangeOf, RangeAnswer}
+use Rattle.memtable.specs.Fetches.{sizeOf, entriesAt, RangeAnswer}
 use Rattle.memtable.specs.Scans.{countBefore, sizeCount}
 use Rattle.memtable.specs.ListLaws.{select-append, select-all, select-none}
 use Rattle.memtable.specs.RowLaws.{held-row, any-drop}
@@ -36,10 +36,6 @@ use Rattle.memtable.specs.WindowLaws.{window-all, window-cut, firstIndex
 
 inRange : ℕ → ℕ → EntryIndex → Bool
 inRange begin end e = leb begin (e .index) && ltb (e .index) end
-
-and-false : (b : Bool) → (b && false) ≡ false
-and-false true = refl
-and-false false = refl
 
 module _ (f n begin end : ℕ) (xs : List ℕ) (a : f ≤ begin) (b : begin ≤ end) (c : end ≤ f + n) where
   in-range : within begin end (window f n xs) ≡ window (f + (begin - f)) (end - begin) (drop ((begin - f) * 8) xs)

@@ -1,22 +1,22 @@
 -- Each way through the queries of one entry, index or number gives what its contract says. Assumes nothing.
-use mathlib.Core.Bool.{Bool, true, false, cond}
+use mathlib.Core.Bool.{false}
 use mathlib.Core.List.{List}
-use mathlib.Core.Option.{Option, none, some}
-use mathlib.Core.Path.{_≡_, refl, sym, ap, _∙_}
+use mathlib.Core.Option.{none, some}
+use mathlib.Core.Path.{_≡_, refl, sym, _∙_}
 use Prim.Native.Nat.{ℕ, _+_, _-_, _*_, _≤_, _<_, _^_, min}
 use native.Mathlib.Nat.{add-zero}
 use native.Mathlib.Omega.{arith}
 use lib.Dec.{leb}
-use lib.ListN.{length, getD, drop}
+use lib.ListN.{getD, drop}
 use lib.Seq.{getD-drop}
 use borrow.Author.Tests.{lt-ltb, eq-eqb, ne-eqb, le-leb, lt-leb}
 use Rattle.maps.specs.Lists.{first, last, mapOption, orElse, least}
 use Rattle.pipe_log.specs.Rows.{queueAt, compressionAt, isRecord, blockAt, entryOf, withIndex, window}
 use Rattle.pipe_log.specs.declared.CompressionType.{CompressionType}
-use Rattle.rules.specs.Items.{LogQueue, Append, Rewrite, EntryIndex, EntryBlock, fileOf}
+use Rattle.rules.specs.Items.{LogQueue, Append, Rewrite, EntryIndex, fileOf}
 use Rattle.rules.specs.Items as items
 use Rattle.rules.specs.Table.{firstIndex, lastIndex}
-use Rattle.rules.specs.TableQueries.{getEntry, hasAtLeastSomeEntriesBefore, runOf, rewriteCount, bySpan}
+use Rattle.rules.specs.TableQueries.{getEntry, hasAtLeastSomeEntriesBefore, rewriteCount, bySpan}
 use Rattle.memtable.specs.declared.AtomicGroup.{AtomicGroup}
 use Rattle.memtable.specs.declared.AtomicGroup.the-variants as group
 use Rattle.memtable.specs.declared.Head.{Head}
@@ -26,7 +26,7 @@ use Rattle.memtable.specs.declared.SomeBefore.{the-variants.BadRange, th
 use Rattle.memtable.specs.Views.{spanOf, tableOf, rowAt, AnyRow, Wf}
 use Rattle.memtable.specs.Queries.{foundOf, EntryAnswer, SomeBeforeAnswer, FirstAnswer, LastAnswer, RewriteCountAnswer, frontSeq, minSeq, entryCount}
 use Rattle.memtable.specs.RowLaws.{row-seq, held-row}
-use Rattle.memtable.specs.RunLaws.{rewrites, appends, run-rewrite, run-append, count-rewrite, count-append}
+use Rattle.memtable.specs.RunLaws.{run-rewrite, run-append, count-rewrite, count-append}
 use Rattle.memtable.specs.WindowLaws.{length-window, entry-at, entry-absent, first-window, firstIndex-window, lastIndex-window, getElem-window, getElem-window-none, rowAt-drop}
 
 -- ---- the record of a row

@@ -1,13 +1,11 @@
 -- Each way through `rewrite` gives what its contract says. Assumes nothing.
-use mathlib.Core.Bool.{Bool, true, false, cond, not, _&&_}
+use mathlib.Core.Bool.{Bool, true, false, cond, not}
 use mathlib.Core.List.{List, [], _∷_, _++_, append-nil}
 use mathlib.Core.Option.{Option, none, some}
 use mathlib.Core.Path.{_≡_, refl, sym, ap, _∙_}
 use Prim.Native.Nat.{ℕ, zero, suc, _+_, _-_, _*_, _/_, _≤_, _<_, min, max}
-use native.Mathlib.Nat.{add-zero}
 use native.Mathlib.Decide.{decLt}
 use native.Mathlib.Omega.{arith}
-use lib.Dec.{leb}
 use lib.ListN.{length, getD, take, drop}
 use lib.Seq.{getD-drop, take-nil}
 use borrow.Author.Tests.{le-leb, lt-leb}
@@ -16,11 +14,11 @@ use Rattle.cells.specs.PartLaws.{length-part, getD-part, part-none, length-put,
 use Rattle.maps.specs.Lists.{front, first, last, mapOption, orElse}
 use Rattle.maps.specs.Maps.{Map}
 use Rattle.pipe_log.specs.Rows.{window}
-use Rattle.rules.specs.Causes.{Result, ok, refuse, andThen, appendLeft, alreadyRewritten}
+use Rattle.rules.specs.Causes.{ok, refuse, andThen, appendLeft, alreadyRewritten}
 use Rattle.rules.specs.Items.{EntryIndex, isRewrite, fileOf}
-use Rattle.rules.specs.Table.{Held, Table, withEntries, firstIndex, entriesBelow, entriesFrom, replaces, replaced, stopsAt, meetsRewrite, rewriteOverlap, rewritten}
+use Rattle.rules.specs.Table.{Held, withEntries, firstIndex, entriesBelow, entriesFrom, replaces, replaced, stopsAt, meetsRewrite, rewriteOverlap, rewritten}
 use Rattle.memtable.specs.declared.Head.{Head}
-use Rattle.memtable.specs.declared.Rewritten.{Rewritten, the-variants.Done, the-variants.AppendLeft, the-variants.AlreadyRewritten}
+use Rattle.memtable.specs.declared.Rewritten.{the-variants.Done, the-variants.AppendLeft, the-variants.AlreadyRewritten}
 use Rattle.memtable.specs.Views.{tableOf, rowAt, Row, Wf}
 use Rattle.memtable.specs.Appends.{Lent}
 use Rattle.memtable.specs.Rewrites.{moved, replacedPart, Rewriting, Run, Met, counting, Replaced}

@@ -1,11 +1,9 @@
 -- Each way through `apply_rewrite_atomic_group` gives what its contract says. Assumes nothing.
-use mathlib.Core.Bool.{cond}
 use mathlib.Core.List.{List}
 use mathlib.Core.Path.{_≡_, refl}
 use Prim.Native.Nat.{ℕ, _≤_, _<_}
 use borrow.Author.Tests.{lt-ltb, le-ltb}
 use Rattle.rules.specs.Table.{spanned, spanGoesBack, withSpan}
-use Rattle.memtable.specs.declared.AtomicGroup.{AtomicGroup}
 use Rattle.memtable.specs.declared.AtomicGroup.the-variants as group
 use Rattle.memtable.specs.declared.Head.{Head}
 use Rattle.memtable.specs.declared.Spanned.{the-variants.Done, the-variants.FilesGoBack}

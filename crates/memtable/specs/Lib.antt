@@ -1,5 +1,6 @@
 -- What the contracts of `memtable` cite, and the laws of its views.
 pub mod Views
+pub mod BoolLaws
 pub mod ListLaws
 pub mod WindowLaws
 pub mod RowLaws
@@ -17,3 +18,4 @@ pub mod Fetches
 pub mod Rewrites
 pub mod ReplaceLaws
 pub mod Whole
+pub mod BatchLaws

@@ -1,19 +1,19 @@
 -- What `replaced` and `stopsAt` make of two windows, where the first k entries are replaced and no more. Assumes nothing.
-use mathlib.Core.Bool.{Bool, true, false, cond}
+use mathlib.Core.Bool.{true, false}
 use mathlib.Core.List.{List, [], _∷_, _++_, append-nil}
 use mathlib.Core.Option.{Option, none, some}
 use mathlib.Core.Path.{_≡_, refl, sym, ap, _∙_}
 use Prim.Native.Nat.{ℕ, zero, suc, _+_, _-_, _*_, _≤_, _<_, min}
-use native.Mathlib.Nat.{zero-add, add-zero, sub-zero}
+use native.Mathlib.Nat.{add-zero, sub-zero}
 use native.Mathlib.Omega.{arith}
-use lib.ListN.{length, take, drop}
-use lib.Seq.{take-all, take-append-le, drop-drop}
+use lib.ListN.{take, drop}
+use lib.Seq.{drop-drop}
 use Rattle.maps.specs.Lists.{front, orElse}
 use Rattle.pipe_log.specs.Rows.{entryOf, withIndex, window}
-use Rattle.rules.specs.Items.{EntryIndex, isRewrite}
+use Rattle.rules.specs.Items.{EntryIndex}
 use Rattle.rules.specs.Table.{replaces, replaced, stopsAt, meetsRewrite}
 use Rattle.memtable.specs.Views.{rowAt}
-use Rattle.memtable.specs.ListLaws.{All, front-all}
+use Rattle.memtable.specs.ListLaws.{front-all}
 use Rattle.memtable.specs.Rewrites.{moved, Run}
 use Rattle.memtable.specs.WindowLaws.{length-window, rowAt-zero, rowAt-suc, rowAt-drop, window-all, window-cut}
 

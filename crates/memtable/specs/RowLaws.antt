@@ -1,16 +1,16 @@
 -- The laws of rows: a row that stands elsewhere, and what the record of a row says. Assumes nothing.
-use mathlib.Core.Bool.{Bool, true, false}
+use mathlib.Core.Bool.{true, false}
 use mathlib.Core.List.{List}
-use mathlib.Core.Path.{_≡_, refl, sym, _∙_}
-use Prim.Native.Nat.{ℕ, zero, suc, _+_, _*_, _≤_, _<_, _^_}
+use mathlib.Core.Path.{_≡_, refl, _∙_}
+use Prim.Native.Nat.{ℕ, zero, suc, _+_, _*_, _<_, _^_}
 use native.Mathlib.Decide.{decLt}
 use native.Mathlib.Omega.{arith}
-use lib.ListN.{length, getD, drop}
+use lib.ListN.{getD, drop}
 use lib.Seq.{getD-drop}
 use borrow.Author.Tests.{lt-ltb}
 use Rattle.pipe_log.specs.Numbers.{queueNumber, compressionNumber}
 use Rattle.pipe_log.specs.Rows.{queueAt, compressionAt, isRecord, blockAt, entryOf, withIndex}
-use Rattle.rules.specs.Items.{EntryIndex, sameQueue, blockFile, fileOf, isRewrite}
+use Rattle.rules.specs.Items.{sameQueue, blockFile, fileOf, isRewrite}
 use Rattle.memtable.specs.declared.Head.{Head}
 use Rattle.memtable.specs.Views.{rowAt, Row, AnyRow, Wf}
 use Rattle.memtable.specs.Columns.{blockOffset, blockLen}
@@ -26,7 +26,7 @@ row-moved xs ys i j h r =
     }
 
 -- what the record of a row of either queue says
-queue-number : (n : ℕ) → n < 2 → queueNumber (queueAt n) ≡ n
+pub queue-number : (n : ℕ) → n < 2 → queueNumber (queueAt n) ≡ n
 unfolding queueAt
 queue-number zero h = refl
 queue-number (suc zero) h = refl

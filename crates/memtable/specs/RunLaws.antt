@@ -1,16 +1,16 @@
 -- The runs of a well-formed head's entries: the Rewrite ones at the front, the Append ones behind them. Assumes nothing.
 use mathlib.Core.Bool.{Bool, true, false}
-use mathlib.Core.List.{List, [], _++_, append-nil}
-use mathlib.Core.Path.{_≡_, refl, sym, ap, _∙_}
-use Prim.Native.Nat.{ℕ, _+_, _-_, _*_, _≤_, _<_}
+use mathlib.Core.List.{List, _++_, append-nil}
+use mathlib.Core.Path.{_≡_}
+use Prim.Native.Nat.{ℕ, _+_, _-_, _*_}
 use native.Mathlib.Omega.{arith}
 use lib.ListN.{length, drop}
-use Rattle.maps.specs.Lists.{select, front, rest}
+use Rattle.maps.specs.Lists.{select, front}
 use Rattle.pipe_log.specs.Rows.{queueAt, window}
 use Rattle.rules.specs.Items.{LogQueue, Append, Rewrite, EntryIndex, sameQueue, fileOf, isRewrite}
 use Rattle.rules.specs.TableQueries.{runOf}
 use Rattle.memtable.specs.declared.Head.{Head}
-use Rattle.memtable.specs.Views.{rowAt, Row, Rows, Wf}
+use Rattle.memtable.specs.Views.{rowAt, Row, Wf}
 use Rattle.memtable.specs.ListLaws.{All, select-append, select-all, select-none, front-all, front-none, rest-all, rest-none}
 use Rattle.memtable.specs.RowLaws.{rowAt-queue, rowAt-rewrite, rowAt-append}
 use Rattle.memtable.specs.WindowLaws.{window-all, window-cut, rowAt-drop, length-window}

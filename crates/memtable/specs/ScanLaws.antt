@@ -1,12 +1,12 @@
 -- The scans as the rules' lists, and the turns of their loops. Assumes nothing.
 use mathlib.Core.Bool.{Bool, true, false, cond, _&&_}
 use mathlib.Core.List.{List, [], _∷_}
-use mathlib.Core.Path.{_≡_, refl, sym, ap, _∙_}
+use mathlib.Core.Path.{_≡_, refl, sym}
 use Prim.Native.Nat.{ℕ, zero, suc, _+_, _-_, _*_, _≤_, _<_, _^_}
-use native.Mathlib.Nat.{zero-add, add-zero}
+use native.Mathlib.Nat.{add-zero}
 use native.Mathlib.Omega.{arith}
 use lib.Dec.{ltb, leb}
-use lib.ListN.{length, getD, drop}
+use lib.ListN.{getD, drop}
 use lib.Seq.{getD-drop, drop-drop}
 use borrow.Author.Tests.{le-leb, lt-leb, lt-ltb}
 use native.Mathlib.Decide.{decLt}
@@ -14,6 +14,7 @@ use Rattle.maps.specs.Lists.{front}
 use Rattle.pipe_log.specs.Rows.{entryOf, withIndex, window}
 use Rattle.rules.specs.Items.{EntryIndex, fileOf}
 use Rattle.rules.specs.TableQueries.{upToSize}
+use Rattle.memtable.specs.BoolLaws.{clash}
 use Rattle.memtable.specs.Views.{rowAt, AnyRow}
 use Rattle.memtable.specs.RowLaws.{row-seq, any-drop}
 use Rattle.memtable.specs.Scans.{countBefore, stops, sizeCount}
@@ -141,14 +142,11 @@ module _ (xs : List ℕ) (from n i : ℕ) where
         rw (rest l, cell 7, g, next, one-more (sizeCount size (sum + getD xs ((from + i) * 8 + 7) 0) (n - (i + 1)) (drop ((i + 1) * 8) (drop (from * 8) xs)))) at e
 
 -- a sum that does not stop the scan is 0 with its record, or at most the size
-true-false : false ≡ true → ⊥
-true-false e = let z : _≡_ {A = ℕ} 0 1 = ap (λ (b : Bool). cond b 1 0) e in omega arith
-
 pub size-fits : (size sum l : ℕ) → stops size sum l ≡ false → size < 2 ^ 64 → l ≤ 2 ^ 25 → sum + l < 2 ^ 64
 unfolding stops
 size-fits size zero l e a b = omega arith
 size-fits size (suc sum) l e a b =
     elim (decLt size (suc sum + l)) [
-      | yes u ↦ absurd (true-false (sym (rw (lt-ltb size (suc sum + l) u, lt-ltb 0 (suc sum) (omega arith)) at e)))
+      | yes u ↦ absurd (clash (sym (rw (lt-ltb size (suc sum + l) u, lt-ltb 0 (suc sum) (omega arith)) at e)))
       | no u ↦ omega arith
     ]

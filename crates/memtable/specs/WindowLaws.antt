@@ -1,18 +1,17 @@
 -- The laws of `window`: the records of the first n rows of a list of numbers, at the indexes from f on. Assumes nothing.
-use mathlib.Core.Bool.{Bool, true, false, cond}
-use mathlib.Core.List.{List, [], _∷_, _++_, append-nil, append-assoc}
-use mathlib.Core.Option.{Option, some}
+use mathlib.Core.Bool.{Bool, true, false}
+use mathlib.Core.List.{List, [], _++_, append-nil, append-assoc}
+use mathlib.Core.Option.{some}
 use mathlib.Core.Option as option
-use mathlib.Core.Path.{_≡_, refl, sym, ap, _∙_}
+use mathlib.Core.Path.{_≡_, refl, ap, _∙_}
 use Prim.Native.Nat.{ℕ, zero, suc, _+_, _-_, _*_, _≤_, _<_, min}
 use native.Mathlib.Nat.{zero-add, add-zero, suc-add, sub-zero}
 use native.Mathlib.Decide.{decLe}
-use native.Mathlib.Numerals.{add-one}
 use native.Mathlib.Omega.{arith}
 use lib.Dec.{ltb, leb, eqb}
-use lib.ListN.{length, getD, take, drop, getElem?, List·getD-append}
+use lib.ListN.{length, getD, drop, getElem?, List·getD-append}
 use lib.Seq.{getD-drop, drop-drop}
-use Rattle.cells.specs.Part.{part, put}
+use Rattle.cells.specs.Part.{put}
 use Rattle.cells.specs.PartLaws.{from-put, drop-put, getD-put-before}
 use borrow.Author.Tests.{lt-ltb, le-ltb, le-leb, lt-leb, eq-eqb, ne-eqb}
 use Rattle.maps.specs.Lists.{select, first, last, mapOption, orElse}

@@ -1,6 +1,4 @@
 // Rows laid over a group's entries: what is below their first index stays, and the rows follow.
-ghost use mathlib.Core.Path.{_≡_};
-ghost use mathlib.Core.Bool.{not};
 ghost use Prim.Native.Nat.{_+_, _≤_, _/_, _^_};
 ghost use lib.ListN.{length};
 ghost use Rattle.pipe_log.specs.Rows.{window};

@@ -1,6 +1,6 @@
 // Rows copied into parallel slices, one for each field.
 ghost use mathlib.Core.Path.{_≡_};
-ghost use Prim.Native.Nat.{ℕ, _+_, _*_, _≤_, _<_, _^_};
+ghost use Prim.Native.Nat.{_+_, _*_, _≤_, _<_, _^_};
 ghost use lib.ListN.{length, drop};
 ghost use Rattle.cells.specs.Part.{put};
 ghost use Rattle.rules.specs.Causes.{ok};

@@ -1,5 +1,4 @@
 // Compaction: entries are dropped from the front.
-ghost use Prim.Native.Nat.{_≤_};
 ghost use Rattle.memtable.specs.Views.{Wf};
 ghost use Rattle.memtable.specs.Compaction.{Compaction};
 use crate::Compacted;

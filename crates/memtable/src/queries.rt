@@ -1,8 +1,5 @@
 // What a group answers of its entries.
-ghost use mathlib.Core.Path.{_≡_};
-ghost use mathlib.Core.List.{List};
-ghost use Prim.Native.Nat.{ℕ, _+_, _≤_, _^_};
-ghost use Rattle.pipe_log.specs.Rows.{window};
+ghost use Prim.Native.Nat.{_+_, _≤_, _^_};
 ghost use Rattle.memtable.specs.Views.{Wf};
 ghost use Rattle.memtable.specs.Queries.{EntryAnswer, FirstAnswer, LastAnswer, SomeBeforeAnswer};
 use crate::Found;
