@@ -1,34 +1,15 @@
--- Facts of tests, options, lists and results that the proofs below share.
+-- Facts of options, lists and results that the proofs below share.
 -- Assumes nothing.
 use mathlib.Core.Path.{_≡_, refl}
-use mathlib.Core.Bool.{Bool, true, false, cond, _&&_, _||_, true≢false, false≢true}
+use mathlib.Core.Bool.{Bool, true, false, cond}
 use mathlib.Core.List.{List, [], _∷_}
 use mathlib.Core.Option.{Option, none, some}
 use Prim.Native.Nat.{ℕ}
 use native.Mathlib.Omega.{arith}
 use Rattle.rules.specs.Causes.{Refusal, Result, ok, refused, andThen}
 
-pub and-left : (a b : Bool) → (a && b) ≡ true → a ≡ true
-and-left true b h = refl
-and-left false b h = h
-
-pub and-right : (a b : Bool) → (a && b) ≡ true → b ≡ true
-and-right true b h = h
-and-right false b h = absurd (false≢true h)
-
-pub and-both : {a b : Bool} → a ≡ true → b ≡ true → (a && b) ≡ true
-and-both p q = rw (p, q)
-
 pub cons-not-nil : {A : Type 0} {x : A} {xs : List A} → x ∷ xs ≡ [] → ⊥
 cons-not-nil p = let z : _≡_ {A = ℕ} 0 1 = cc in omega arith
-
-pub or-left : (a b : Bool) → (a || b) ≡ false → a ≡ false
-or-left true b h = h
-or-left false b h = refl
-
-pub or-right : (a b : Bool) → (a || b) ≡ false → b ≡ false
-or-right true b h = absurd (true≢false h)
-or-right false b h = h
 
 pub some-not-none : {A : Type 0} {a : A} → some a ≡ none → ⊥
 some-not-none p = let z : _≡_ {A = ℕ} 0 1 = cc in omega arith

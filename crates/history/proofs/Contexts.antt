@@ -21,7 +21,8 @@ use Rattle.rules.specs.Items.{Append, sameQueue, put, del, Content, entries, co
 use Rattle.rules.specs.Table.{Table, made, change, overKeys}
 use Rattle.rules.specs.Context.{context, Context, fresh, withGroups, withTombstones, withCleaned, tableFits, waitingFits, fits, limited, addCleaned, act, keeps, addTombstone, step}
 use Rattle.rules.specs.Calls.{mergeTable}
-use Rattle.history.proofs.Basics.{and-left, and-right, and-both, some-not-none, cond-same, ok-inj, refused-not-ok}
+use Rattle.maps.specs.BoolLaws.{both-left, both-right, both}
+use Rattle.history.proofs.Basics.{some-not-none, cond-same, ok-inj, refused-not-ok}
 use Rattle.history.proofs.Windows.{length-over}
 use Rattle.history.proofs.Group.{Good, GoodIf, Fit, Leaves, effect, lay, lay-made, merged-entries, merged-keys, Simulated, simulate, good-change, good-effect}
 
@@ -245,7 +246,7 @@ good-step x c d g f h =
           ascend = unfold after in ascending-store numbers numbersLawful (x .item .group) t (c .groups) (g .ascend);
           tables = unfold after in tables-store (x .item .group) t (c .groups) (g .ascend) (g .tables) (good-changed (x .item .content) (lookup numbers (x .item .group) (c .groups)) t (g .tables (x .item .group)) f e);
           cleaned-is = unfold after in (ap (λ l. l ++ cleanOf (x .item)) (g .cleaned-is) ∙ ap (λ l. cleansOf (c .tombstones) ++ l) (sym (clean-tomb (x .item))) ∙ sym (cleans-append (c .tombstones) (tombOf (x .item))));
-          tombs = unfold after in (every-append (λ it. isTombstone (it .content)) (c .tombstones) (tombOf (x .item)) ∙ and-both (g .tombs) (every-tomb (x .item)));
+          tombs = unfold after in (every-append (λ it. isTombstone (it .content)) (c .tombstones) (tombOf (x .item)) ∙ both (g .tombs) (every-tomb (x .item)));
           within = w;
         }
 
@@ -361,10 +362,10 @@ pub record Fits (c : Context) : Type 0 where
 
 five : (a b c d e : Bool) → (a && b && c && d && e) ≡ true → (a ≡ true) × (b ≡ true) × (c ≡ true) × (d ≡ true) × (e ≡ true)
 five a b c d e h =
-    let p = and-left (a && b && c && d) e h in
-    let q = and-left (a && b && c) d p in
-    let r = and-left (a && b) c q in
-    (and-left a b r, and-right a b r, and-right (a && b) c q, and-right (a && b && c) d p, and-right (a && b && c && d) e h)
+    let p = both-left (a && b && c && d) e h in
+    let q = both-left (a && b && c) d p in
+    let r = both-left (a && b) c q in
+    (both-left a b r, both-right a b r, both-right (a && b) c q, both-right (a && b && c) d p, both-right (a && b && c && d) e h)
 
 fits-parts : (c : Context) → fits c ≡ true → Fits c
 unfolding fits
@@ -382,10 +383,10 @@ fits-parts c h =
 fits-of : (c : Context) → Fits c → fits c ≡ true
 unfolding fits
 fits-of c p =
-    and-both
-    (and-both
-    (and-both
-    (and-both (le-leb (length (c .groups)) maxGroups (p .few-groups)) (p .small-tables))
+    both
+    (both
+    (both
+    (both (le-leb (length (c .groups)) maxGroups (p .few-groups)) (p .small-tables))
     (le-leb (length (c .tombstones)) maxTombstones (p .few-tombs)))
     (le-leb (length (c .cleaned)) maxCleaned (p .few-cleaned)))
     (p .few-waiting)
@@ -393,9 +394,9 @@ fits-of c p =
 table-fits : (t u : Table) → length (t .entries) ≤ length (u .entries) → length (t .keys) ≤ length (u .keys) → tableFits u ≡ true → tableFits t ≡ true
 unfolding tableFits
 table-fits t u e k h =
-    let p = leb-true (length (u .entries)) maxEntries (and-left (leb (length (u .entries)) maxEntries) (leb (length (u .keys)) maxKeys) h) in
-    let q = leb-true (length (u .keys)) maxKeys (and-right (leb (length (u .entries)) maxEntries) (leb (length (u .keys)) maxKeys) h) in
-    and-both (le-leb (length (t .entries)) maxEntries (omega arith)) (le-leb (length (t .keys)) maxKeys (omega arith))
+    let p = leb-true (length (u .entries)) maxEntries (both-left (leb (length (u .entries)) maxEntries) (leb (length (u .keys)) maxKeys) h) in
+    let q = leb-true (length (u .keys)) maxKeys (both-right (leb (length (u .entries)) maxEntries) (leb (length (u .keys)) maxKeys) h) in
+    both (le-leb (length (t .entries)) maxEntries (omega arith)) (le-leb (length (t .keys)) maxKeys (omega arith))
 
 -- a newer table is no larger than what it is laid over to
 merged-larger : (o : Option Table) (t : Table) → Ascending bytes (t .keys) → tableFits (mergeTable Append o t) ≡ true → tableFits t ≡ true

@@ -17,7 +17,8 @@ use Rattle.rules.specs.Items.{Append, FileId, EntryIndex, sameQueue, fileOf, cl
 use Rattle.rules.specs.Checks.{consecutive}
 use Rattle.rules.specs.Table.{Held, Table, emptyTable, made, withEntries, withKeys, withSpan, entriesBelow, entriesFrom, isAboveLast, over, appended, compacted, putKey, deleteKey, overKeys, putHeld, entriesTo, putTo, changeTo, commandTo, change}
 use Rattle.rules.specs.Calls.{overOf, mergeTable}
-use Rattle.history.proofs.Basics.{and-both, ok-inj, refused-not-ok, andThen-ok, andThen-of}
+use Rattle.maps.specs.BoolLaws.{both}
+use Rattle.history.proofs.Basics.{ok-inj, refused-not-ok, andThen-ok, andThen-of}
 use Rattle.history.proofs.Windows.{over-nil, over-assoc, from-over, premise-over, above-over, consecutive-over, consecutive-from, over-cons}
 
 -- ---- tables
@@ -369,7 +370,7 @@ every-from-up p x a h = every-selected p (λ e. leb x (e .index)) a h
 every-over : (p : EntryIndex → Bool) (a es : List EntryIndex) → every p a ≡ true → every p es ≡ true → every p (over a es) ≡ true
 every-over p a [] ha he = ap (every p) (over-nil a) ∙ ha
 every-over p a (e ∷ es) ha he =
-    ap (every p) (over-cons a e es) ∙ every-append p (entriesBelow (e .index) a) (e ∷ es) ∙ and-both (every-below p (e .index) a ha) he
+    ap (every p) (over-cons a e es) ∙ every-append p (entriesBelow (e .index) a) (e ∷ es) ∙ both (every-below p (e .index) a ha) he
 
 append-window : (es : List EntryIndex) (t u : Table) → Good t → consecutive es ≡ true → appended false es t ≡ ok u → consecutive (over (t .entries) es) ≡ true
 append-window [] t u g c h = ap consecutive (over-nil (t .entries)) ∙ g .window

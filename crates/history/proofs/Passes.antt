@@ -16,7 +16,8 @@ use Rattle.rules.specs.Items.{Append, FileId, EntryIndex, sameQueue, hasFile, f
 use Rattle.rules.specs.Checks.{consecutive, long, isIncomplete, isOutOfRange, isOtherQueue, otherFile, lacksValue, lacksFile, meets3, orNext, unlessReserved, checks}
 use Rattle.rules.specs.Context.{context, isContext, Context, fresh, limited, step, run}
 use Rattle.rules.specs.Calls.{checked, runBatch, replayBatch, replay, merge}
-use Rattle.history.proofs.Basics.{and-both, or-left, or-right, some-not-none, ok-inj, andThen-of}
+use Rattle.maps.specs.BoolLaws.{both, neither-left, neither-right}
+use Rattle.history.proofs.Basics.{some-not-none, ok-inj, andThen-of}
 use Rattle.history.proofs.Group.{Fit, FitPut}
 use Rattle.history.proofs.Contexts.{FitIf, GoodContext, good-step, LeavesAt, Related, related-start, related-step}
 use Rattle.history.proofs.Merging.{merge-related}
@@ -28,9 +29,9 @@ append-files : (es : List EntryIndex) → any (λ e. not (hasFile (e .entries)))
 unfolding any every
 append-files [] h k = refl
 append-files (e ∷ es) h k =
-    let has = not-false (hasFile (e .entries)) (or-left (not (hasFile (e .entries))) (any (λ x. not (hasFile (x .entries))) es) h) in
-    let queue = or-left (hasFile (e .entries) && not (sameQueue (fileOf e .queue) Append)) (any (λ x. hasFile (x .entries) && not (sameQueue (fileOf x .queue) Append)) es) k in
-    and-both (not-false (sameQueue (fileOf e .queue) Append) (rw has at queue)) (append-files es (or-right (not (hasFile (e .entries))) (any (λ x. not (hasFile (x .entries))) es) h) (or-right (hasFile (e .entries) && not (sameQueue (fileOf e .queue) Append)) (any (λ x. hasFile (x .entries) && not (sameQueue (fileOf x .queue) Append)) es) k))
+    let has = not-false (hasFile (e .entries)) (neither-left (not (hasFile (e .entries))) (any (λ x. not (hasFile (x .entries))) es) h) in
+    let queue = neither-left (hasFile (e .entries) && not (sameQueue (fileOf e .queue) Append)) (any (λ x. hasFile (x .entries) && not (sameQueue (fileOf x .queue) Append)) es) k in
+    both (not-false (sameQueue (fileOf e .queue) Append) (rw has at queue)) (append-files es (neither-right (not (hasFile (e .entries))) (any (λ x. not (hasFile (x .entries))) es) h) (neither-right (hasFile (e .entries) && not (sameQueue (fileOf e .queue) Append)) (any (λ x. hasFile (x .entries) && not (sameQueue (fileOf x .queue) Append)) es) k))
 
 fit-put : (k : List ℕ) (v : Option (List ℕ)) (f : Option FileId) → isIncomplete replayAppend (kv k (put v f)) ≡ false → isOtherQueue replayAppend (kv k (put v f)) ≡ false → FitPut v f
 unfolding isIncomplete isOtherQueue isLiveRewrite lacksValue lacksFile otherFile writes orElse FitPut
@@ -43,10 +44,10 @@ unfolding Fit
 fit-of (entries es) h q = (window, files)
   where
     window : consecutive es ≡ true
-    window = unfold isIncomplete in not-false (consecutive es) (or-right (any (λ e. not (hasFile (e .entries))) es) (not (consecutive es)) h)
+    window = unfold isIncomplete in not-false (consecutive es) (neither-right (any (λ e. not (hasFile (e .entries))) es) (not (consecutive es)) h)
 
     files : every (λ e. sameQueue (fileOf e .queue) Append) es ≡ true
-    files = unfold isIncomplete isOtherQueue writes in append-files es (or-left (any (λ e. not (hasFile (e .entries))) es) (not (consecutive es)) h) q
+    files = unfold isIncomplete isOtherQueue writes in append-files es (neither-left (any (λ e. not (hasFile (e .entries))) es) (not (consecutive es)) h) q
 fit-of (command c) h q = tt
 fit-of (kv k (put v f)) h q = fit-put k v f h q
 fit-of (kv k del) h q = tt

@@ -14,7 +14,8 @@ use Rattle.maps.specs.OrderLaws.{split}
 use Rattle.rules.specs.Items.{EntryIndex}
 use Rattle.rules.specs.Checks.{consecutive}
 use Rattle.rules.specs.Table.{lastIndex, isAboveLast, entriesBelow, entriesFrom, over}
-use Rattle.history.proofs.Basics.{and-left, and-right, and-both, cons-not-nil}
+use Rattle.maps.specs.BoolLaws.{both-left, both-right, both}
+use Rattle.history.proofs.Basics.{cons-not-nil}
 
 -- by the place of an index
 pub either : {P : Type 0} (a b : ℕ) → (a < b → P) → (b ≤ a → P) → P
@@ -130,16 +131,16 @@ consecutive-one e = refl
 module _ (e f : EntryIndex) (es : List EntryIndex) where
   pub consecutive-next : consecutive (e ∷ (f ∷ es)) ≡ true → f .index ≡ suc (e .index)
   unfolding consecutive
-  consecutive-next h = eqb-true (f .index) (suc (e .index)) (and-left (eqb (f .index) (suc (e .index))) (consecutive (f ∷ es)) h)
+  consecutive-next h = eqb-true (f .index) (suc (e .index)) (both-left (eqb (f .index) (suc (e .index))) (consecutive (f ∷ es)) h)
 
   pub consecutive-cons : f .index ≡ suc (e .index) → consecutive (f ∷ es) ≡ true → consecutive (e ∷ (f ∷ es)) ≡ true
   unfolding consecutive
-  consecutive-cons n h = and-both (eq-eqb (f .index) (suc (e .index)) n) h
+  consecutive-cons n h = both (eq-eqb (f .index) (suc (e .index)) n) h
 
 pub consecutive-tail : (e : EntryIndex) (es : List EntryIndex) → consecutive (e ∷ es) ≡ true → consecutive es ≡ true
 unfolding consecutive
 consecutive-tail e [] h = refl
-consecutive-tail e (f ∷ es) h = and-right (eqb (f .index) (suc (e .index))) (consecutive (f ∷ es)) h
+consecutive-tail e (f ∷ es) h = both-right (eqb (f .index) (suc (e .index))) (consecutive (f ∷ es)) h
 
 -- nothing of a window lies below its first index, and all of it lies from there up
 pub window-none : (x : ℕ) (e : EntryIndex) (es : List EntryIndex) → consecutive (e ∷ es) ≡ true → x ≤ e .index → entriesBelow x (e ∷ es) ≡ []

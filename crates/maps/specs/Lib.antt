@@ -4,3 +4,4 @@ pub mod Maps
 pub mod OrderLaws
 pub mod MapLaws
 pub mod ListLaws
+pub mod BoolLaws

@@ -15,7 +15,7 @@ use Rattle.rules.specs.Causes.{Result, ok, andThen}
 use Rattle.rules.specs.Items.{EntryIndex}
 use Rattle.maps.specs.Maps.{Map}
 use Rattle.rules.specs.Table.{Held, Table, withEntries, firstIndex, lastIndex, isBelowFirst, isAboveLast, entriesBelow, over, overGap, appended, replayedRewrite}
-use Rattle.memtable.specs.BoolLaws.{and-false}
+use Rattle.maps.specs.BoolLaws.{and-false}
 use Rattle.memtable.specs.declared.Head.{Head}
 use Rattle.memtable.specs.declared.Appended.{Appended}
 use Rattle.memtable.specs.declared.Appended.the-variants as answer

@@ -15,7 +15,7 @@ use Rattle.rules.specs.Items.{EntryIndex}
 use Rattle.maps.specs.Maps.{Map}
 use Rattle.rules.specs.Table.{Held, firstIndex}
 use Rattle.rules.specs.TableQueries.{within, sized, fetchEntriesTo, fetchEntryIndexesBefore, fetchRewrittenEntryIndexes}
-use Rattle.memtable.specs.BoolLaws.{and-false}
+use Rattle.maps.specs.BoolLaws.{and-false}
 use Rattle.memtable.specs.declared.Head.{Head}
 use Rattle.memtable.specs.declared.Fetched.{Fetched}
 use Rattle.memtable.specs.declared.Fetched.the-variants as answer

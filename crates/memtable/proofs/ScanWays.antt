@@ -9,7 +9,7 @@ use native.Mathlib.Omega.{arith}
 use lib.Dec.{ltb}
 use lib.ListN.{drop}
 use borrow.Author.Tests.{lt-ltb, le-ltb}
-use Rattle.memtable.specs.BoolLaws.{and-false}
+use Rattle.maps.specs.BoolLaws.{and-false}
 use Rattle.memtable.specs.Scans.{countBefore, stops, sizeCount}
 
 module _ (size sum l : ℕ) where

@@ -17,7 +17,7 @@ use Rattle.rules.specs.Items.{LogQueue, Append, Rewrite, EntryIndex, Absent, At
 use Rattle.pipe_log.specs.declared.FileBlockHandle.{FileBlockHandle}
 use Rattle.rules.specs.Limits.{maxIndex, maxEntryLen}
 use Rattle.rules.specs.Checks.{consecutive, isIncomplete, isOutOfRange, isOtherQueue}
-use Rattle.memtable.specs.BoolLaws.{clash, both-left, both-right, neither-left, neither-right}
+use Rattle.maps.specs.BoolLaws.{clash, both-left, both-right, neither-left, neither-right}
 use Rattle.memtable.specs.Views.{rowAt}
 use Rattle.memtable.specs.Appends.{Lent}
 use Rattle.memtable.specs.RowLaws.{queue-number}

@@ -1,6 +1,5 @@
 -- What the contracts of `memtable` cite, and the laws of its views.
 pub mod Views
-pub mod BoolLaws
 pub mod ListLaws
 pub mod WindowLaws
 pub mod RowLaws

@@ -14,7 +14,7 @@ use Rattle.maps.specs.Lists.{front}
 use Rattle.pipe_log.specs.Rows.{entryOf, withIndex, window}
 use Rattle.rules.specs.Items.{EntryIndex, fileOf}
 use Rattle.rules.specs.TableQueries.{upToSize}
-use Rattle.memtable.specs.BoolLaws.{clash}
+use Rattle.maps.specs.BoolLaws.{clash}
 use Rattle.memtable.specs.Views.{rowAt, AnyRow}
 use Rattle.memtable.specs.RowLaws.{row-seq, any-drop}
 use Rattle.memtable.specs.Scans.{countBefore, stops, sizeCount}

@@ -26,3 +26,6 @@ neither-left false b e = refl
 pub neither-right : (a b : Bool) → (a || b) ≡ false → b ≡ false
 neither-right true b e = absurd (clash (sym e))
 neither-right false b e = e
+
+pub both : {a b : Bool} → a ≡ true → b ≡ true → (a && b) ≡ true
+both p q = rw (p, q)
