@@ -30,6 +30,7 @@ use Rattle.kvs.specs.Calls.{heldBy, Holds, roomFor, Stands, putRows, put
 use Rattle.kvs.specs.Merge.{Parts, putPair, putAll, parts, isAbsent, missing, LaidOver, mergedParts, MergeKeys}
 use Rattle.kvs.proofs.Puts.{fits-if, no-rows, no-bytes}
 use Rattle.kvs.proofs.Found.{found-at, found-none}
+use Rattle.kvs.proofs.Selected.{selected, selected-all, selected-none, count-more}
 
 -- ---- one key
 
@@ -55,24 +56,19 @@ module _ (n : ℕ) (rows bs k : List ℕ) (w : Wf n rows bs) (i : ℕ) where
 -- the newer keys that the map lacks, from row j on
 module _ (older : Map (List ℕ) Held) (m : ℕ) (rows bs : List ℕ) where
   pub lacks : ℕ → ℕ
-  lacks j = missing older (drop j (keysIn m rows bs))
+  lacks j = length (selected (λ x. isAbsent (x .key) older) m rows bs j)
 
   pub lacks-all : lacks 0 ≡ missing older (keysIn m rows bs)
-  unfolding lacks
-  lacks-all = refl
+  unfolding lacks missing
+  lacks-all = ap length (selected-all (λ x. isAbsent (x .key) older) m rows bs)
 
   pub lacks-none : (j : ℕ) → m ≤ j → lacks j ≡ 0
-  unfolding lacks missing select
-  lacks-none j h =
-      let l : length (keysIn m rows bs) ≤ j = rw (length-keys m rows bs) h in
-      rw (drop-of-length-le (keysIn m rows bs) l)
+  unfolding lacks
+  lacks-none j h = ap length (selected-none (λ x. isAbsent (x .key) older) m rows bs j h)
 
   pub lacks-more : (j : ℕ) → j < m → lacks j ≡ cond (isAbsent (keyOf (rowAt j rows bs)) older) 1 0 + lacks (j + 1)
-  unfolding lacks missing select pairOf
-  lacks-more j h =
-      split (isAbsent (keyOf (rowAt j rows bs)) older)
-      (λ e. rw (keys-from m j rows bs h, e, add-one j) (omega arith))
-      (λ e. rw (keys-from m j rows bs h, e, add-one j) (omega arith))
+  unfolding lacks pairOf
+  lacks-more j h = count-more (λ x. isAbsent (x .key) older) m rows bs j h
 
 -- putting a key leaves those above it absent or present
 still : (k : List ℕ) (h : Held) (older m : Map (List ℕ) Held) → AllBelow bytes k m → select (λ x. isAbsent (x .key) (insert bytes k h older)) m ≡ select (λ x. isAbsent (x .key) older) m

@@ -1,5 +1,5 @@
 -- `kvs::files::count_of` meets its contract: the count is that of the rows passed. Assumes nothing.
-use Rattle.kvs.proofs.Queues.{rest, rest-all, rest-none, count-more}
+use Rattle.kvs.proofs.Queues.{rest, rest-all, rest-none, count-rest}
 use native.Mathlib.Omega.{arith}
 use native.Mathlib.Nat.{zero-add}
 use mathlib.Core.Path.{_≡_, refl, sym, ap, _∙_}
@@ -61,7 +61,7 @@ loop-again c = (
   search needs,
   omega (arith, c .one-of .ensures .1),
   λ bs.
-      let m = count-more (c .before .before .before .before .before .args .n) (c .before .before .before .before .before .args .rows .now) (c .before .before .before .before .before .args .queue) bs (c .before .before .before .loop .i) (c .before .before .loop-test .taken) in
+      let m = count-rest (c .before .before .before .before .before .args .n) (c .before .before .before .before .before .args .rows .now) (c .before .before .before .before .before .args .queue) bs (c .before .before .before .loop .i) (c .before .before .loop-test .taken) in
       let e = c .before .before .before .loop .inv .2 bs in
       omega (arith, m, e, c .one-of .ensures .0),
 )
