@@ -1,22 +1,22 @@
 -- The newer keys counted and put one after the other. Assumes nothing.
-use Prim.Native.Nat.{ℕ, suc, _+_, _*_, _-_, _≤_, _<_}
+use Prim.Native.Nat.{ℕ, suc, _+_, _*_, _≤_, _<_}
 use native.Mathlib.Numerals.{add-one}
-use native.Mathlib.Nat.{zero-add, add-zero}
+use native.Mathlib.Nat.{add-zero}
 use native.Mathlib.Omega.{arith}
-use mathlib.Core.Bool.{Bool, true, false, cond, true≢false}
+use mathlib.Core.Bool.{true, false, cond}
 use mathlib.Core.Path.{_≡_, refl, sym, ap, _∙_}
 use mathlib.Core.List.{List, [], _∷_}
 use mathlib.Core.Option.{Option, none, some}
-use lib.Dec.{leb, eqb}
-use lib.ListN.{length, getD, take, drop, drop-of-length-le}
-use borrow.Author.Tests.{leb-true, le-leb, lt-leb, ne-eqb}
+use lib.Dec.{leb}
+use lib.ListN.{length, getD, drop, drop-of-length-le}
+use borrow.Author.Tests.{leb-true, ne-eqb}
 use Rattle.pipe_log.specs.declared.LogQueue.{LogQueue}
 use Rattle.pipe_log.specs.declared.LogQueue.the-variants.{Append, Rewrite}
 use Rattle.pipe_log.specs.Rows.{queueAt}
 use Rattle.maps.specs.Lists.{select, orElse}
-use Rattle.maps.specs.Maps.{Pair, Map, lookup, insert, mergeWith, bytes, sameBytes, bytesBelow}
-use Rattle.maps.specs.OrderLaws.{split, and-both, bytesLawful, below-differs, above-differs}
-use Rattle.maps.specs.MapLaws.{pair, Ascending, AllBelow, ascending-head, ascending-tail, ascending-insert, lookup-insert-other, length-insert-none, length-insert-some, length-older}
+use Rattle.maps.specs.Maps.{Map, lookup, insert, mergeWith, bytes}
+use Rattle.maps.specs.OrderLaws.{split, and-both, bytesLawful, above-differs}
+use Rattle.maps.specs.MapLaws.{Ascending, AllBelow, ascending-head, ascending-tail, ascending-insert, lookup-insert-other, length-insert-none, length-insert-some, length-older}
 use Rattle.rules.specs.Table.{Held, overKeys}
 use Rattle.kvs.specs.declared.Place.{Place}
 use Rattle.kvs.specs.declared.Place.the-variants.{At, Before}
@@ -27,8 +27,8 @@ use Rattle.kvs.specs.RowLaws.{keys-from, length-keys}
 use Rattle.kvs.specs.RowIn.{number-at}
 use Rattle.kvs.specs.Places.{placeOf}
 use Rattle.kvs.specs.Calls.{heldBy, Holds, roomFor, Stands, putRows, putBytes, PutKey}
-use Rattle.kvs.specs.Merge.{Parts, putPair, putAll, parts, isAbsent, missing, LaidOver, mergedParts, MergeKeys}
-use Rattle.kvs.proofs.Puts.{fits-if, no-rows, no-bytes}
+use Rattle.kvs.specs.Merge.{putPair, putAll, parts, isAbsent, missing, LaidOver, mergedParts, MergeKeys}
+use Rattle.kvs.proofs.Puts.{fits-if}
 use Rattle.kvs.proofs.Found.{found-at, found-none}
 use Rattle.kvs.proofs.Selected.{selected, selected-all, selected-none, count-more}
 
