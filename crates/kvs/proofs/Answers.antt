@@ -3,12 +3,12 @@ use Prim.Native.Nat.{ℕ, zero, suc, _+_, _*_, _-_, _/_, _≤_, _<_, min}
 use native.Mathlib.Numerals.{add-one}
 use native.Mathlib.Nat.{add-zero, sub-zero}
 use native.Mathlib.Omega.{arith}
-use mathlib.Core.Bool.{Bool, true, false, cond, not, _&&_, _||_}
+use mathlib.Core.Bool.{Bool, true, false, cond, _&&_, _||_}
 use mathlib.Core.Path.{_≡_, refl, sym, ap, _∙_}
-use mathlib.Core.List.{List, [], _∷_, _++_, map}
-use mathlib.Core.Option.{Option, none, some}
+use mathlib.Core.List.{List, [], _∷_, map}
+use mathlib.Core.Option.{Option}
 use lib.Dec.{ltb, leb, eqb}
-use lib.ListN.{length, getD, set, take, drop, length-take, length-map, length-reverse}
+use lib.ListN.{length, getD, set, take, length-take, length-map, length-reverse}
 use lib.Seq.{take-all, take-nil}
 use borrow.Author.Tests.{ltb-true, ltb-false, leb-true, leb-false, lt-ltb, le-ltb, le-leb, lt-leb, eq-eqb, ne-eqb}
 use Rattle.cells.specs.declared.order.Order.{Order}
@@ -16,11 +16,11 @@ use Rattle.cells.specs.Bytes.{byteOrder}
 use Rattle.cells.specs.Part.{put}
 use Rattle.cells.specs.PartLaws.{set-put, put-snoc}
 use Rattle.pipe_log.specs.Rows.{queueAt}
-use Rattle.maps.specs.Lists.{select, orElse}
-use Rattle.maps.specs.Maps.{Pair, Map, bytesBelow}
+use Rattle.maps.specs.Lists.{select}
+use Rattle.maps.specs.Maps.{Map, bytesBelow}
 use Rattle.maps.specs.OrderLaws.{split}
 use Rattle.maps.specs.ListLaws.{select-select, length-select}
-use Rattle.rules.specs.Causes.{Result, ok, refuse, andThen, badRange}
+use Rattle.rules.specs.Causes.{ok, refuse, andThen, badRange}
 use Rattle.rules.specs.Items.{Append, Rewrite, sameQueue}
 use Rattle.rules.specs.Table.{Held, Table}
 use Rattle.rules.specs.TableQueries.{KeyValue, rowOf, inBounds, startAboveEnd, inDirection, scan, keysOf, fetchKvsBefore, fetchRewrittenKvs}
@@ -29,8 +29,7 @@ use Rattle.kvs.specs.declared.fetch.Which.{Which}
 use Rattle.kvs.specs.declared.fetch.Which.the-variants.{InBounds, UpTo, OfRewrite}
 use Rattle.kvs.specs.declared.fetch.Fetched.{Fetched}
 use Rattle.kvs.specs.declared.fetch.Fetched.the-variants.{Done, BadRange, TooShort}
-use Rattle.kvs.specs.Rows.{rowAt, keyOf, valueOf, heldOf, pairOf, keysIn}
-use Rattle.kvs.specs.RowLaws.{length-keys}
+use Rattle.kvs.specs.Rows.{rowAt, keyOf, heldOf, pairOf, keysIn}
 use Rattle.kvs.specs.RowIn.{number-at}
 use Rattle.kvs.specs.Orders.{isLess, below-by-order}
 use Rattle.kvs.specs.Calls.{given}

@@ -1,15 +1,11 @@
 -- What the row at a key's place holds, and the answers of `get`. Assumes nothing.
-use Prim.Native.Nat.{ℕ, suc, _+_, _*_, _-_, _≤_, _<_}
-use native.Mathlib.Omega.{arith}
+use Prim.Native.Nat.{ℕ}
 use mathlib.Core.Bool.{true, false}
-use mathlib.Core.Path.{_≡_, refl, sym, ap, _∙_}
+use mathlib.Core.Path.{_≡_, _∙_}
 use mathlib.Core.List.{List, []}
 use mathlib.Core.Option.{none, some}
-use lib.ListN.{take, drop}
-use lib.Seq.{take-nil}
 use Rattle.maps.specs.Lists.{first, mapOption, orElse}
-use Rattle.maps.specs.Maps.{Pair, lookup, bytes}
-use Rattle.rules.specs.Table.{Held, Table}
+use Rattle.maps.specs.Maps.{lookup, bytes}
 use Rattle.rules.specs.TableQueries.{getKey}
 use Rattle.kvs.specs.declared.Place.the-variants.{At, Before}
 use Rattle.kvs.specs.Rows.{rowAt, keyOf, valueOf, heldOf, pairOf, keysIn, Wf}

@@ -1,22 +1,22 @@
 -- The newer keys counted and put one after the other. Assumes nothing.
-use Prim.Native.Nat.{ℕ, suc, _+_, _*_, _-_, _≤_, _<_}
+use Prim.Native.Nat.{ℕ, suc, _+_, _*_, _≤_, _<_}
 use native.Mathlib.Numerals.{add-one}
-use native.Mathlib.Nat.{zero-add, add-zero}
+use native.Mathlib.Nat.{add-zero}
 use native.Mathlib.Omega.{arith}
-use mathlib.Core.Bool.{Bool, true, false, cond, true≢false}
+use mathlib.Core.Bool.{true, false, cond}
 use mathlib.Core.Path.{_≡_, refl, sym, ap, _∙_}
 use mathlib.Core.List.{List, [], _∷_}
 use mathlib.Core.Option.{Option, none, some}
-use lib.Dec.{leb, eqb}
-use lib.ListN.{length, getD, take, drop, drop-of-length-le}
-use borrow.Author.Tests.{leb-true, le-leb, lt-leb, ne-eqb}
+use lib.Dec.{leb}
+use lib.ListN.{length, getD, drop, drop-of-length-le}
+use borrow.Author.Tests.{leb-true, ne-eqb}
 use Rattle.pipe_log.specs.declared.LogQueue.{LogQueue}
 use Rattle.pipe_log.specs.declared.LogQueue.the-variants.{Append, Rewrite}
 use Rattle.pipe_log.specs.Rows.{queueAt}
 use Rattle.maps.specs.Lists.{select, orElse}
-use Rattle.maps.specs.Maps.{Pair, Map, lookup, insert, mergeWith, bytes, sameBytes, bytesBelow}
-use Rattle.maps.specs.OrderLaws.{split, and-both, bytesLawful, below-differs, above-differs}
-use Rattle.maps.specs.MapLaws.{pair, Ascending, AllBelow, ascending-head, ascending-tail, ascending-insert, lookup-insert-other, length-insert-none, length-insert-some, length-older}
+use Rattle.maps.specs.Maps.{Map, lookup, insert, mergeWith, bytes}
+use Rattle.maps.specs.OrderLaws.{split, and-both, bytesLawful, above-differs}
+use Rattle.maps.specs.MapLaws.{Ascending, AllBelow, ascending-head, ascending-tail, ascending-insert, lookup-insert-other, length-insert-none, length-insert-some, length-older}
 use Rattle.rules.specs.Table.{Held, overKeys}
 use Rattle.kvs.specs.declared.Place.{Place}
 use Rattle.kvs.specs.declared.Place.the-variants.{At, Before}
@@ -27,9 +27,10 @@ use Rattle.kvs.specs.RowLaws.{keys-from, length-keys}
 use Rattle.kvs.specs.RowIn.{number-at}
 use Rattle.kvs.specs.Places.{placeOf}
 use Rattle.kvs.specs.Calls.{heldBy, Holds, roomFor, Stands, putRows, putBytes, PutKey}
-use Rattle.kvs.specs.Merge.{Parts, putPair, putAll, parts, isAbsent, missing, LaidOver, mergedParts, MergeKeys}
-use Rattle.kvs.proofs.Puts.{fits-if, no-rows, no-bytes}
+use Rattle.kvs.specs.Merge.{putPair, putAll, parts, isAbsent, missing, LaidOver, mergedParts, MergeKeys}
+use Rattle.kvs.proofs.Puts.{fits-if}
 use Rattle.kvs.proofs.Found.{found-at, found-none}
+use Rattle.kvs.proofs.Selected.{selected, selected-all, selected-none, count-more}
 
 -- ---- one key
 
@@ -55,24 +56,19 @@ module _ (n : ℕ) (rows bs k : List ℕ) (w : Wf n rows bs) (i : ℕ) where
 -- the newer keys that the map lacks, from row j on
 module _ (older : Map (List ℕ) Held) (m : ℕ) (rows bs : List ℕ) where
   pub lacks : ℕ → ℕ
-  lacks j = missing older (drop j (keysIn m rows bs))
+  lacks j = length (selected (λ x. isAbsent (x .key) older) m rows bs j)
 
   pub lacks-all : lacks 0 ≡ missing older (keysIn m rows bs)
-  unfolding lacks
-  lacks-all = refl
+  unfolding lacks missing
+  lacks-all = ap length (selected-all (λ x. isAbsent (x .key) older) m rows bs)
 
   pub lacks-none : (j : ℕ) → m ≤ j → lacks j ≡ 0
-  unfolding lacks missing select
-  lacks-none j h =
-      let l : length (keysIn m rows bs) ≤ j = rw (length-keys m rows bs) h in
-      rw (drop-of-length-le (keysIn m rows bs) l)
+  unfolding lacks
+  lacks-none j h = ap length (selected-none (λ x. isAbsent (x .key) older) m rows bs j h)
 
   pub lacks-more : (j : ℕ) → j < m → lacks j ≡ cond (isAbsent (keyOf (rowAt j rows bs)) older) 1 0 + lacks (j + 1)
-  unfolding lacks missing select pairOf
-  lacks-more j h =
-      split (isAbsent (keyOf (rowAt j rows bs)) older)
-      (λ e. rw (keys-from m j rows bs h, e, add-one j) (omega arith))
-      (λ e. rw (keys-from m j rows bs h, e, add-one j) (omega arith))
+  unfolding lacks pairOf
+  lacks-more j h = count-more (λ x. isAbsent (x .key) older) m rows bs j h
 
 -- putting a key leaves those above it absent or present
 still : (k : List ℕ) (h : Held) (older m : Map (List ℕ) Held) → AllBelow bytes k m → select (λ x. isAbsent (x .key) (insert bytes k h older)) m ≡ select (λ x. isAbsent (x .key) older) m

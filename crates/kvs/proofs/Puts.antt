@@ -1,17 +1,15 @@
 -- Each way through `put` (at the key's row, before a row, and where there is no room) and `delete`. Assumes nothing.
 use Prim.Native.Nat.{ℕ, suc, _+_, _*_, _-_, _≤_, _<_}
-use native.Mathlib.Numerals.{add-one}
 use native.Mathlib.Omega.{arith}
 use mathlib.Core.Bool.{true, false, and-false}
 use mathlib.Core.Path.{_≡_, refl, sym, ap, _∙_}
-use mathlib.Core.List.{List, [], _∷_, _++_, map}
+use mathlib.Core.List.{List, _∷_, _++_, map}
 use lib.ListN.{length, take, drop, length-append, length-take, length-drop}
 use lib.Dec.{leb}
 use borrow.Author.Tests.{le-leb, lt-leb}
-use Rattle.cells.specs.Part.{part}
-use Rattle.maps.specs.Maps.{Pair, Map, insert, remove, bytes}
+use Rattle.maps.specs.Maps.{Pair, insert, remove, bytes}
 use Rattle.maps.specs.OrderLaws.{bytesLawful}
-use Rattle.maps.specs.MapLaws.{pair, Ascending, ascending-insert, ascending-remove}
+use Rattle.maps.specs.MapLaws.{pair, ascending-insert, ascending-remove}
 use Rattle.rules.specs.Table.{Held}
 use Rattle.kvs.specs.declared.Place.the-variants.{At, Before}
 use Rattle.kvs.specs.declared.Outcome.the-variants.{Done, Full}

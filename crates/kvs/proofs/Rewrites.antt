@@ -1,6 +1,6 @@
 -- Each way through `rewrite_key`. Assumes nothing.
-use Prim.Native.Nat.{ℕ, zero, suc, _+_, _*_, _-_, _≤_, _<_}
-use native.Mathlib.Nat.{add-zero, zero-mul, add-assoc}
+use Prim.Native.Nat.{ℕ, suc, _+_, _*_, _-_, _≤_, _<_}
+use native.Mathlib.Nat.{zero-mul}
 use native.Mathlib.Omega.{arith}
 use mathlib.Core.Bool.{Bool, true, false}
 use mathlib.Core.Path.{_≡_, refl, sym, ap, _∙_}
@@ -15,12 +15,12 @@ use Rattle.maps.specs.Lists.{orElse}
 use Rattle.maps.specs.Maps.{Map, lookup, insert, bytes}
 use Rattle.maps.specs.OrderLaws.{bytesLawful}
 use Rattle.maps.specs.MapLaws.{pair, insert-again}
-use Rattle.rules.specs.Causes.{Result, ok, refuse, keyGoesBack, andThen}
-use Rattle.rules.specs.Items.{LogQueue, Append, Rewrite, sameQueue}
+use Rattle.rules.specs.Causes.{ok, refuse, keyGoesBack, andThen}
+use Rattle.rules.specs.Items.{Append, Rewrite, sameQueue}
 use Rattle.rules.specs.Table.{Held, Table, withKeys, putKey, rewriteFile, rewrittenKey}
 use Rattle.kvs.specs.declared.Place.the-variants.{At, Before}
 use Rattle.kvs.specs.declared.Rewritten.the-variants.{Accepted, GoesBack}
-use Rattle.kvs.specs.Rows.{Row, rowAt, keyOf, valueOf, heldOf, pairOf, keysIn, RowOk, Wf}
+use Rattle.kvs.specs.Rows.{rowAt, keyOf, valueOf, heldOf, pairOf, keysIn, RowOk, Wf}
 use Rattle.kvs.specs.RowLaws.{Same}
 use Rattle.kvs.specs.RowIn.{RowIn, row-in, number-at}
 use Rattle.kvs.specs.Places.{placeOf, laidAt, belowAt}
@@ -109,44 +109,44 @@ module _ (n : ℕ) (rows bs k : List ℕ) (gate : Option ℕ) (s : ℕ) (w : Wf 
     found : lookup bytes k (keysIn n rows bs) ≡ some (heldOf (rowAt i rows bs))
     found = found-at n rows bs k i w e
 
-    module _ (let-h : Held) (h : let-h ≡ heldOf (rowAt i rows bs)) where
+    module _ (held : Held) (h : held ≡ heldOf (rowAt i rows bs)) where
       -- the file is kept
-      stays : rewriteFile (let-h .file .queue) gate s let-h ≡ ok let-h → moves gate s let-h ≡ false → RewriteKey n rows bs k gate s Accepted rows
+      stays : rewriteFile (held .file .queue) gate s held ≡ ok held → moves gate s held ≡ false → RewriteKey n rows bs k gate s Accepted rows
       unfolding rewrittenKey rewrittenAs rewrittenRows orElse andThen putKey
       stays f g =
-          let look : lookup bytes k (keysIn n rows bs) ≡ some let-h = found ∙ ap some (sym h) in
+          let look : lookup bytes k (keysIn n rows bs) ≡ some held = found ∙ ap some (sym h) in
           record {
             answer = λ t q.
-                let there : lookup bytes k (t .keys) ≡ some let-h = ap (lookup bytes k) q ∙ look in
+                let there : lookup bytes k (t .keys) ≡ some held = ap (lookup bytes k) q ∙ look in
                 rw (there, f)
-                (ap (λ m. ok (withKeys m t)) (ap (insert bytes k let-h) q ∙ insert-again bytes bytesLawful k let-h (keysIn n rows bs) look (w .ascending)));
+                (ap (λ m. ok (withKeys m t)) (ap (insert bytes k held) q ∙ insert-again bytes bytesLawful k held (keysIn n rows bs) look (w .ascending)));
             rows-are = rw (look, g);
             wf = w;
           }
 
       -- it would go back
-      goes-back : rewriteFile (let-h .file .queue) gate s let-h ≡ refuse keyGoesBack → moves gate s let-h ≡ false → RewriteKey n rows bs k gate s GoesBack rows
+      goes-back : rewriteFile (held .file .queue) gate s held ≡ refuse keyGoesBack → moves gate s held ≡ false → RewriteKey n rows bs k gate s GoesBack rows
       unfolding rewrittenKey rewrittenAs rewrittenRows orElse andThen
       goes-back f g =
-          let look : lookup bytes k (keysIn n rows bs) ≡ some let-h = found ∙ ap some (sym h) in
+          let look : lookup bytes k (keysIn n rows bs) ≡ some held = found ∙ ap some (sym h) in
           record {
-            answer = λ t q. let there : lookup bytes k (t .keys) ≡ some let-h = ap (lookup bytes k) q ∙ look in rw (there, f);
+            answer = λ t q. let there : lookup bytes k (t .keys) ≡ some held = ap (lookup bytes k) q ∙ look in rw (there, f);
             rows-are = rw (look, g);
             wf = w;
           }
 
       -- it is moved
-      moved : rewriteFile (let-h .file .queue) gate s let-h ≡ ok (heldBy (let-h .value) Rewrite s) → moves gate s let-h ≡ true → RewriteKey n rows bs k gate s Accepted (movedRows i s rows)
+      moved : rewriteFile (held .file .queue) gate s held ≡ ok (heldBy (held .value) Rewrite s) → moves gate s held ≡ true → RewriteKey n rows bs k gate s Accepted (movedRows i s rows)
       unfolding rewrittenKey rewrittenAs rewrittenRows orElse andThen putKey laidAt belowAt heldOf
       moved f g =
           let K = keysIn n rows bs in
-          let look : lookup bytes k K ≡ some let-h = found ∙ ap some (sym h) in
+          let look : lookup bytes k K ≡ some held = found ∙ ap some (sym h) in
           let b : i < n = at-below n rows bs k i e in
           let r : RowIn i rows bs = row-in n i rows bs w b in
           let p : i * 4 + 4 ≤ length rows = r .rows-fit in
           let m : i + suc (n - suc i) ≡ n = omega arith in
           let l : length (movedRows i s rows) ≡ length rows = length-moved i s rows bs p in
-          let g′ = heldBy (let-h .value) Rewrite s in
+          let g′ = heldBy (held .value) Rewrite s in
           let pr : pairOf (rowAt i (movedRows i s rows) bs) ≡ pair k g′ =
           rw h (pair-moved i s rows bs p ∙ rw (found-key n rows bs k i e)) in
           let ins : insert bytes k g′ K ≡ take i K ++ (pair k g′ ∷ drop (suc i) K) = insert-place k g′ K ∙ rw e in
@@ -161,7 +161,7 @@ module _ (n : ℕ) (rows bs k : List ℕ) (gate : Option ℕ) (s : ℕ) (w : Wf 
           ins) in
           record {
             answer = λ t q.
-                let there : lookup bytes k (t .keys) ≡ some let-h = ap (lookup bytes k) q ∙ look in
+                let there : lookup bytes k (t .keys) ≡ some held = ap (lookup bytes k) q ∙ look in
                 rw (there, f) (ap (λ m. ok (withKeys m t)) (ap (insert bytes k g′) q ∙ sym (holds .is)));
             rows-are = rw (look, g, e);
             wf = holds .wf;

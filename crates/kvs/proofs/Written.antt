@@ -2,10 +2,9 @@
 use Prim.Native.Nat.{ℕ, suc, _+_, _*_, _-_, _≤_, _<_}
 use native.Mathlib.Nat.{add-zero, zero-mul}
 use native.Mathlib.Omega.{arith}
-use mathlib.Core.Path.{_≡_, refl, sym, ap, _∙_}
-use mathlib.Core.List.{List, [], _∷_, _++_}
-use lib.ListN.{length, getD, set, take, drop}
-use lib.Seq.{take-all}
+use mathlib.Core.Path.{_≡_, refl, ap, _∙_}
+use mathlib.Core.List.{List, [], _∷_}
+use lib.ListN.{length, getD, set}
 use Rattle.cells.specs.Part.{part, put}
 use Rattle.cells.specs.PartLaws.{length-part, length-put, part-part, take-part, part-put-same, part-put-before, part-put-after, set-put, put-snoc}
 use Rattle.pipe_log.specs.declared.LogQueue.{LogQueue}
@@ -14,7 +13,7 @@ use Rattle.pipe_log.specs.Numbers.{queueNumber}
 use Rattle.pipe_log.specs.Rows.{queueAt}
 use Rattle.maps.specs.MapLaws.{pair}
 use Rattle.rules.specs.Table.{Held}
-use Rattle.kvs.specs.Rows.{Row, rowAt, keyOf, valueOf, heldOf, pairOf, RowOk}
+use Rattle.kvs.specs.Rows.{rowAt, keyOf, valueOf, heldOf, pairOf, RowOk}
 use Rattle.kvs.specs.RowLaws.{Same}
 use Rattle.kvs.specs.Writes.{numbersOf, writtenRows, writtenBytes, opened, closed}
 

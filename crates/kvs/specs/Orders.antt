@@ -1,11 +1,11 @@
 -- The byte order of `cells` against that of the maps. Assumes nothing.
-use mathlib.Core.Bool.{Bool, true, false, cond, _&&_, _||_}
-use mathlib.Core.Path.{_≡_, refl, sym, ap, _∙_}
+use mathlib.Core.Bool.{Bool, true, false}
+use mathlib.Core.Path.{_≡_, refl}
 use mathlib.Core.List.{List, [], _∷_}
 use Prim.Native.Nat.{ℕ}
 use native.Mathlib.Omega.{arith}
-use lib.Dec.{ltb, eqb}
-use borrow.Author.Tests.{ltb-true, ltb-false, lt-ltb, eq-eqb, ne-eqb}
+use lib.Dec.{ltb}
+use borrow.Author.Tests.{ltb-true, ltb-false, eq-eqb, ne-eqb}
 use Rattle.cells.specs.declared.order.Order.{Order}
 use Rattle.cells.specs.declared.order.Order.the-variants.{Less, Equal, Greater}
 use Rattle.cells.specs.Bytes.{byteOrder}

@@ -1,10 +1,9 @@
 -- Lookup, insert and remove by the place of the key. Assumes nothing.
-use mathlib.Core.Bool.{true, false, cond}
-use mathlib.Core.Path.{_≡_, refl, sym, ap, _∙_}
-use mathlib.Core.List.{List, [], _∷_, _++_}
+use mathlib.Core.Bool.{true}
+use mathlib.Core.Path.{_≡_, refl, sym, ap}
+use mathlib.Core.List.{List, [], _∷_}
 use mathlib.Core.Option.{none, some}
-use Prim.Native.Nat.{ℕ, suc, _≤_, _<_, suc-le-suc, zero-le}
-use native.Mathlib.Omega.{arith}
+use Prim.Native.Nat.{ℕ, suc, suc-le-suc, zero-le}
 use lib.ListN.{length, drop}
 use Rattle.maps.specs.Lists.{first, mapOption, select}
 use Rattle.maps.specs.Maps.{Pair, Map, lookup, insert, remove, bytes, sameBytes, bytesBelow}

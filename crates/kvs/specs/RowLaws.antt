@@ -5,10 +5,10 @@ use native.Mathlib.Nat.{zero-add, suc-add, add-suc, add-zero}
 use native.Mathlib.Omega.{arith}
 use mathlib.Core.Path.{_≡_, refl, sym, ap, _∙_}
 use mathlib.Core.List.{List, [], _∷_, _++_, map}
-use lib.ListN.{length, getD, take, drop, length-map}
-use lib.Seq.{take-at, drop-at, take-nil, drop-nil}
-use Rattle.cells.specs.Part.{part, put}
-use Rattle.cells.specs.PartLaws.{part-part, part-append}
+use lib.ListN.{length, take, drop, length-map}
+use lib.Seq.{take-at, drop-at}
+use Rattle.cells.specs.Part.{part}
+use Rattle.cells.specs.PartLaws.{part-part}
 use Rattle.kvs.specs.Rows.{Row, rowAt, rowsFrom, pairOf, keysIn, RowOk, RowsOk}
 
 -- ---- map
