@@ -18,3 +18,4 @@ pub mod Fetches
 pub mod Rewrites
 pub mod ReplaceLaws
 pub mod BatchLaws
+pub mod RuleLaws
