@@ -18,3 +18,4 @@ pub mod Rewrites
 pub mod ReplaceLaws
 pub mod Whole
 pub mod BatchLaws
+pub mod RuleLaws
