@@ -7,11 +7,12 @@ use Rattle.kvs.specs.Rows.{keysIn}
 use Rattle.kvs.specs.Calls.{leastAs, LeastSeq}
 use Rattle.kvs.specs.declared.Least.{Least}
 use Rattle.rules.specs.Items.{LogQueue}
-use Rattle.rules.specs.TableQueries.{keysOf, leastSeq, leastFile, minFileSeq}
+use Rattle.rules.specs.TableQueries.{minFileSeq}
 use Rattle.memtable.specs.declared.Found.{Found}
 use Rattle.memtable.specs.declared.Head.{Head}
 use Rattle.memtable.specs.Views.{tableOf}
-use Rattle.memtable.specs.Queries.{foundOf, frontSeq, minSeq}
+use Rattle.memtable.specs.Queries.{foundOf, minSeq}
+use Rattle.memtable.specs.RuleLaws.{minSeq-minFileSeq}
 
 -- `min_file_seq` of the table, whatever bytes its keys have
 abbrev pub MinFileSeq : Head → List ℕ → ℕ → List ℕ → LogQueue → Found → Type 0
@@ -19,5 +20,5 @@ MinFileSeq h xs n rows q r = (bs : List ℕ) (counted : Bool) → foundOf r ≡ 
 
 -- it is that of the entries with the least sequence number of the keys beside them
 pub min-of-keys : (h : Head) (xs : List ℕ) (n : ℕ) (rows : List ℕ) (q : LogQueue) (l : Least) → LeastSeq n rows q l → (bs : List ℕ) (counted : Bool) → minSeq q h xs (leastAs l) ≡ minFileSeq q (tableOf h xs (keysIn n rows bs) counted)
-unfolding minSeq frontSeq minFileSeq leastFile tableOf
-min-of-keys h xs n rows q l e bs counted = ap (minSeq q h xs) (sym (e (tableOf h xs (keysIn n rows bs) counted) bs refl))
+min-of-keys h xs n rows q l e bs counted =
+    ap (minSeq q h xs) (sym (e (tableOf h xs (keysIn n rows bs) counted) bs (unfold tableOf in refl))) ∙ minSeq-minFileSeq q h xs (keysIn n rows bs) counted
