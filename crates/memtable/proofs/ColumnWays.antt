@@ -1,0 +1,96 @@
+-- The turns of the loops that fill lent slices, and what the slices then hold. Assumes nothing.
+use mathlib.Core.List.{List, [], _∷_, _++_, map}
+use mathlib.Core.Path.{_≡_, refl, sym, ap, _∙_}
+use Prim.Native.Nat.{ℕ, _+_, _*_, _≤_, _<_}
+use native.Mathlib.Nat.{zero-add, le-antisymm}
+use native.Mathlib.Omega.{arith}
+use lib.ListN.{length, getD, set, drop}
+use lib.Seq.{getD-drop}
+use Rattle.cells.specs.Part.{put}
+use Rattle.cells.proofs.Steps.{Laid, laid-snoc}
+use borrow.Author.Tests.{le-leb, lt-leb}
+use Rattle.pipe_log.specs.Numbers.{queueNumber, compressionNumber}
+use Rattle.pipe_log.specs.Rows.{window}
+use Rattle.rules.specs.Causes.{ok, andThen}
+use Rattle.rules.specs.Items.{EntryIndex, fileOf}
+use Rattle.memtable.specs.declared.Fetched.{the-variants.Done, the-variants.ListTooShort}
+use Rattle.memtable.specs.Views.{AnyRow}
+use Rattle.memtable.specs.RowLaws.{row-queue, row-seq, row-offset, row-len, row-compression, row-entry-offset, row-entry-len}
+use Rattle.memtable.specs.WindowLaws.{length-window}
+use Rattle.memtable.specs.Columns.{Columns, columns, blockOffset, blockLen, laidInto, judged, columnsAfter, Answered, column, upFrom}
+use Rattle.memtable.specs.ColumnLaws.{length-column, length-upFrom, column-snoc, upFrom-snoc, map-window, map-index}
+
+module _ {d l : List ℕ} where
+  -- one more behind what is laid in from the first place
+  more : {s s′ : List ℕ} (i v : ℕ) → Laid d 0 s l → s ++ (v ∷ []) ≡ s′ → length s ≡ i → i < length d → Laid d 0 s′ (set l i v)
+  more i v h e n b = rw (zero-add i) at (laid-snoc i v h e n (omega arith))
+
+  pub column-more : (xs : List ℕ) (from k i : ℕ) → Laid d 0 (column k i (drop (from * 8) xs)) l → i < length d
+      → Laid d 0 (column k (i + 1) (drop (from * 8) xs)) (set l i (getD xs ((from + i) * 8 + k) 0))
+  column-more xs from k i h b =
+      let z : from * 8 + (i * 8 + k) ≡ (from + i) * 8 + k = omega arith in
+      let e : getD (drop (from * 8) xs) (i * 8 + k) 0 ≡ getD xs ((from + i) * 8 + k) 0 = rw (getD-drop (from * 8) xs (i * 8 + k) 0, z) in
+      more i (getD xs ((from + i) * 8 + k) 0) h (rw (← e) (column-snoc k i (drop (from * 8) xs))) (length-column k i (drop (from * 8) xs)) b
+
+  pub column-all : (k i n : ℕ) (ys : List ℕ) → Laid d 0 (column k i ys) l → i ≤ n → n ≤ i → l ≡ put d 0 (column k n ys)
+  column-all k i n ys h a b = rw (le-antisymm a b) at (h .is)
+
+  pub index-more : (f i : ℕ) → Laid d 0 (upFrom f i) l → i < length d → Laid d 0 (upFrom f (i + 1)) (set l i (f + i))
+  index-more f i h b = more i (f + i) h (upFrom-snoc f i) (length-upFrom f i) b
+
+  pub index-all : (f i n : ℕ) → Laid d 0 (upFrom f i) l → i ≤ n → n ≤ i → l ≡ put d 0 (upFrom f n)
+  index-all f i n h a b = rw (le-antisymm a b) at (h .is)
+
+-- ---- rows as an answer
+
+module _ (f n : ℕ) (ys : List ℕ) (out : Columns) where
+  pub rows-short : length (out .index) < n → Answered (ok (window f n ys)) out ListTooShort out
+  unfolding judged columnsAfter andThen
+  rows-short l =
+      record {
+        number = rw (length-window f n ys, lt-leb n (length (out .index)) l);
+        slices = rw (length-window f n ys, lt-leb n (length (out .index)) l);
+      }
+
+  module _ (l : n ≤ length (out .index)) (r : (i : ℕ) → i < n → AnyRow ys i) where
+    laid : columns
+        (put (out .index) 0 (upFrom f n))
+        (put (out .queue) 0 (column 1 n ys))
+        (put (out .seq) 0 (column 2 n ys))
+        (put (out .offset) 0 (column 3 n ys))
+        (put (out .len) 0 (column 4 n ys))
+        (put (out .compression) 0 (column 5 n ys))
+        (put (out .«entry_offset») 0 (column 6 n ys))
+        (put (out .«entry_len») 0 (column 7 n ys))
+        ≡ laidInto out (window f n ys)
+    unfolding laidInto
+    laid =
+        rw (
+          map-index f n ys,
+          map-window (λ (e : EntryIndex). queueNumber (fileOf e .queue)) 1 f n ys (λ i b. row-queue f ys i (r i b)),
+          map-window (λ (e : EntryIndex). fileOf e .seq) 2 f n ys (λ i b. row-seq f ys i (r i b)),
+          map-window (λ (e : EntryIndex). blockOffset (e .entries)) 3 f n ys (λ i b. row-offset f ys i (r i b)),
+          map-window (λ (e : EntryIndex). blockLen (e .entries)) 4 f n ys (λ i b. row-len f ys i (r i b)),
+          map-window (λ (e : EntryIndex). compressionNumber (e .«compression_type»)) 5 f n ys (λ i b. row-compression f ys i (r i b)),
+          map-window (λ (e : EntryIndex). e .«entry_offset») 6 f n ys (λ i b. row-entry-offset f ys i (r i b)),
+          map-window (λ (e : EntryIndex). e .«entry_len») 7 f n ys (λ i b. row-entry-len f ys i (r i b)),
+        )
+
+    pub rows-done : (exits : Columns)
+        → exits .index ≡ put (out .index) 0 (upFrom f n)
+        → exits .queue ≡ put (out .queue) 0 (column 1 n ys)
+        → exits .seq ≡ put (out .seq) 0 (column 2 n ys)
+        → exits .offset ≡ put (out .offset) 0 (column 3 n ys)
+        → exits .len ≡ put (out .len) 0 (column 4 n ys)
+        → exits .compression ≡ put (out .compression) 0 (column 5 n ys)
+        → exits .«entry_offset» ≡ put (out .«entry_offset») 0 (column 6 n ys)
+        → exits .«entry_len» ≡ put (out .«entry_len») 0 (column 7 n ys)
+        → Answered (ok (window f n ys)) out (Done n) exits
+    unfolding judged columnsAfter andThen
+    rows-done exits e0 e1 e2 e3 e4 e5 e6 e7 =
+        record {
+          number = rw (length-window f n ys, le-leb n (length (out .index)) l) (ap ok (sym (length-window f n ys)));
+          slices =
+              rw (length-window f n ys, le-leb n (length (out .index)) l)
+              (_∙_ {A = Columns} (λ i. columns (e0 i) (e1 i) (e2 i) (e3 i) (e4 i) (e5 i) (e6 i) (e7 i)) laid);
+        }
