@@ -3,3 +3,5 @@ pub mod CompactWays
 pub mod AppendWays
 pub mod QueryWays
 pub mod ColumnWays
+pub mod ScanWays
+pub mod FetchWays

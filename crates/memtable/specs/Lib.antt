@@ -11,3 +11,6 @@ pub mod RunLaws
 pub mod Queries
 pub mod Columns
 pub mod ColumnLaws
+pub mod Scans
+pub mod ScanLaws
+pub mod Fetches

@@ -45,6 +45,10 @@ pub record AnyRow (xs : List ℕ) (i : ℕ) : Type 0 where
 abbrev pub Rows : ℕ → ℕ → ℕ → List ℕ → Type 0
 Rows q a b xs = (i : ℕ) → a ≤ i → i < b → Row q xs i
 
+-- the rows from a to below b are records
+abbrev pub AnyRows : ℕ → ℕ → List ℕ → Type 0
+AnyRows a b xs = (i : ℕ) → a ≤ i → i < b → AnyRow xs i
+
 -- what holds of a head and its part between calls
 pub record Wf (h : Head) (xs : List ℕ) : Type 0 where
   pub room : h .len * 8 ≤ length xs

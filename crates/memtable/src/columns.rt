@@ -3,9 +3,9 @@ ghost use mathlib.Core.Path.{_≡_};
 ghost use Prim.Native.Nat.{ℕ, _+_, _*_, _≤_, _<_, _^_};
 ghost use lib.ListN.{length, drop};
 ghost use Rattle.cells.specs.Part.{put};
-ghost use Rattle.pipe_log.specs.Rows.{window};
 ghost use Rattle.rules.specs.Causes.{ok};
 ghost use Rattle.memtable.specs.Views.{Wf};
+ghost use Rattle.memtable.specs.Fetches.{entriesAt};
 ghost use Rattle.memtable.specs.Columns.{columns, SameLength, Answered, column, upFrom};
 use crate::Fetched;
 use crate::Head;
@@ -92,7 +92,7 @@ impl Head {
         requires { ⌜ Wf self (now part) ⌝ }
         requires { ⌜ from + count ≤ self .len ⌝ }
         requires { ⌜ SameLength (columns (now index) (now queue) (now seq) (now offset) (now len) (now compression) (now «entry_offset») (now «entry_len»)) ⌝ }
-        ensures { λ r. ⌜ Answered (ok (window (self .«first_index» + from) count (drop (from * 8) (now (part .entry))))) (columns (now (index .entry)) (now (queue .entry)) (now (seq .entry)) (now (offset .entry)) (now (len .entry)) (now (compression .entry)) (now («entry_offset» .entry)) (now («entry_len» .entry))) r (columns (now (index .exit)) (now (queue .exit)) (now (seq .exit)) (now (offset .exit)) (now (len .exit)) (now (compression .exit)) (now («entry_offset» .exit)) (now («entry_len» .exit))) ⌝ }
+        ensures { λ r. ⌜ Answered (ok (entriesAt from count self (now (part .entry)))) (columns (now (index .entry)) (now (queue .entry)) (now (seq .entry)) (now (offset .entry)) (now (len .entry)) (now (compression .entry)) (now («entry_offset» .entry)) (now («entry_len» .entry))) r (columns (now (index .exit)) (now (queue .exit)) (now (seq .exit)) (now (offset .exit)) (now (len .exit)) (now (compression .exit)) (now («entry_offset» .exit)) (now («entry_len» .exit))) ⌝ }
     {
         if index.len() < count {
             return Fetched::ListTooShort;

@@ -3,9 +3,11 @@
 mod append;
 mod columns;
 mod compact;
+mod fetch;
 mod numbers;
 mod queries;
 mod rows;
+mod scans;
 mod seqs;
 mod spans;
 
@@ -71,4 +73,10 @@ pub enum Fetched {
     EntryCompacted,
     EntryNotFound,
     ListTooShort,
+}
+
+// The size up to which records are fetched, or that there is none.
+pub enum MaxSize {
+    None,
+    At(u64),
 }

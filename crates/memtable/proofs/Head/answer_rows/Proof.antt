@@ -1,3 +1,4 @@
+use Rattle.memtable.specs.Fetches.{entriesAt}
 use Rattle.memtable.proofs.ColumnWays.{rows-short, rows-done}
 use Rattle.memtable.specs.RowLaws.{held-row, any-drop}
 use native.Mathlib.Omega.{arith}
@@ -11,6 +12,7 @@ use Rattle.memtable.proofs.columns.copy_right.Reads as copy-right-reads
 
 -- src/columns.rt:85:13
 returns : tie.Need-returns
+unfolding entriesAt
 returns c = rows-short _ _ _ _ (c .if1 .taken)
 
 -- src/columns.rt:87:21
@@ -59,6 +61,7 @@ same-length-8 c = search needs
 
 -- src/columns.rt:78:5
 returns-2 : tie.Need-returns-2
+unfolding entriesAt
 returns-2 c = let n = c .before .before .before .before .before .before .before .before .before .before .before .before .before .before .before .before .before .before .before .before .before .before .before .before .before .before .before .before .before .before .before .before .before .before .before .before .before .pre .1 .0 in rows-done _ _ _ _ (c .before .before .before .before .before .before .before .before .before .before .before .before .before .before .before .before .before .before .before .before .before .before .before .before .before .before .before .if1 .left) (λ i b. any-drop _ (c .before .before .before .before .before .before .before .before .before .before .before .before .before .before .before .before .before .before .before .before .before .before .before .before .before .before .before .before .before .before .before .before .before .before .before .before .before .args .from) i (held-row _ _ (c .before .before .before .before .before .before .before .before .before .before .before .before .before .before .before .before .before .before .before .before .before .before .before .before .before .before .before .before .before .before .before .before .before .before .before .before .before .pre .0) _ (omega arith))) _ (c .before .before .before .before .before .before .before .before .before .before .before .before .before .before .before .before .before .before .before .before .before .copy-left .ensures .0) (c .before .before .before .before .before .before .before .before .before .before .before .before .before .before .before .before .before .before .before .before .before .copy-left .ensures .1) (c .before .before .before .before .before .before .before .before .before .before .before .before .before .before .before .before .before .before .before .before .before .copy-left .ensures .2) (c .before .before .before .before .before .before .before .before .before .before .before .before .before .before .before .before .before .before .before .before .before .copy-left .ensures .3) (c .before .before .before .before .before .before .before .before .copy-right .ensures .0) (c .before .before .before .before .before .before .before .before .copy-right .ensures .1) (c .before .before .before .before .before .before .before .before .copy-right .ensures .2) (c .before .before .before .before .before .before .before .before .copy-right .ensures .3)
 
 pub answer-rows-spec : {M : Type 1} → statement M

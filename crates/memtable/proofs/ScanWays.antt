@@ -1,0 +1,45 @@
+-- Each way through the scans gives what its contract says. Assumes nothing.
+use mathlib.Core.Bool.{Bool, true, false, cond, _&&_}
+use mathlib.Core.List.{List, [], _∷_, _++_, append-nil}
+use mathlib.Core.Path.{_≡_, refl, sym, ap, _∙_}
+use Prim.Native.Nat.{ℕ, _+_, _-_, _*_, _≤_, _<_}
+use native.Mathlib.Nat.{zero-add, add-zero, sub-zero}
+use native.Mathlib.Decide.{decLt}
+use native.Mathlib.Omega.{arith}
+use lib.Dec.{ltb}
+use lib.ListN.{length, getD, drop}
+use borrow.Author.Tests.{lt-ltb, le-ltb}
+use Rattle.memtable.specs.Scans.{countBefore, stops, sizeCount}
+
+and-false : (b : Bool) → (b && false) ≡ false
+and-false true = refl
+and-false false = refl
+
+and-true : (b : Bool) → (b && true) ≡ b
+and-true true = refl
+and-true false = refl
+
+module _ (size sum l : ℕ) where
+  pub over-none : sum ≡ 0 → false ≡ stops size sum l
+  unfolding stops
+  over-none e = rw e (sym (and-false (ltb size (0 + l))))
+
+  module _ (n : sum ≡ 0 → ⊥) where
+    pub over-sum : size < sum → true ≡ stops size sum l
+    unfolding stops
+    over-sum a = rw (lt-ltb 0 sum (omega arith), lt-ltb size (sum + l) (omega arith))
+
+    pub over-len : sum ≤ size → ltb (size - sum) l ≡ stops size sum l
+    unfolding stops
+    over-len a =
+        elim (decLt (size - sum) l) [
+          | yes u ↦ rw (lt-ltb 0 sum (omega arith), lt-ltb (size - sum) l u, lt-ltb size (sum + l) (omega arith))
+          | no u ↦ rw (lt-ltb 0 sum (omega arith), le-ltb (size - sum) l (omega arith), le-ltb size (sum + l) (omega arith))
+        ]
+
+-- before the first turn
+pub before-start : (gate n : ℕ) (ys : List ℕ) → countBefore gate n ys ≡ 0 + countBefore gate (n - 0) (drop (0 * 8) ys)
+before-start gate n ys = rw (zero-add (countBefore gate (n - 0) ys), sub-zero n)
+
+pub size-start : (size n : ℕ) (ys : List ℕ) → sizeCount size 0 n ys ≡ 0 + sizeCount size 0 (n - 0) (drop (0 * 8) ys)
+size-start size n ys = rw (zero-add (sizeCount size 0 (n - 0) ys), sub-zero n)

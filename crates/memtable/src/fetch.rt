@@ -1,0 +1,158 @@
+// Fetches of records into lent slices, one for each field of a row. The slices have one length, which is the lent list's.
+ghost use mathlib.Core.Bool.{Bool};
+ghost use mathlib.Core.List.{List};
+ghost use Prim.Native.Nat.{ℕ};
+ghost use Rattle.maps.specs.Maps.{Map};
+ghost use Rattle.rules.specs.Causes.{ok};
+ghost use Rattle.rules.specs.Table.{Held};
+ghost use Rattle.rules.specs.TableQueries.{fetchEntriesTo, fetchEntryIndexesBefore, fetchRewrittenEntryIndexes};
+ghost use Rattle.memtable.specs.Views.{tableOf, Wf};
+ghost use Rattle.memtable.specs.Columns.{columns, SameLength, Answered};
+ghost use Rattle.memtable.specs.Fetches.{sizeOf, RangeAnswer};
+use crate::Fetched;
+use crate::Head;
+use crate::MaxSize;
+use crate::scans::count_before;
+use crate::scans::count_to_size;
+
+// The entries that a fetch answers, by their place and number.
+enum Range {
+    Rows(usize, usize),
+    EntryCompacted,
+    EntryNotFound,
+}
+
+impl Head {
+    fn fetch_range(self, part: &[u64], begin: u64, end: u64, max_size: MaxSize) -> Range
+        requires { ⌜ Wf self (now part) ⌝ }
+        ensures { λ r. ⌜ RangeAnswer self (now (part .entry)) begin end «max_size» r ⌝ }
+    {
+        if end <= begin {
+            return Range::Rows(0, 0);
+        }
+        let entries = self.len;
+        if entries == 0 {
+            return Range::EntryNotFound;
+        }
+        let first = self.first_index;
+        if begin < first {
+            return Range::EntryCompacted;
+        }
+        if first + (entries as u64) < end {
+            return Range::EntryNotFound;
+        }
+        let from = (begin - first) as usize;
+        let count = (end - begin) as usize;
+        match max_size {
+            MaxSize::None => Range::Rows(from, count),
+            MaxSize::At(size) => Range::Rows(from, count_to_size(part, from, count, size)),
+        }
+    }
+
+    // Fetches the entries with indexes in [begin, end), up to a size.
+    pub fn fetch_entries_to(
+        self,
+        part: &[u64],
+        begin: u64,
+        end: u64,
+        max_size: MaxSize,
+        index: &mut [u64],
+        queue: &mut [u64],
+        seq: &mut [u64],
+        offset: &mut [u64],
+        len: &mut [u64],
+        compression: &mut [u64],
+        entry_offset: &mut [u64],
+        entry_len: &mut [u64],
+    ) -> Fetched
+        requires { ⌜ Wf self (now part) ⌝ }
+        requires { ⌜ SameLength (columns (now index) (now queue) (now seq) (now offset) (now len) (now compression) (now «entry_offset») (now «entry_len»)) ⌝ }
+        ensures { λ r. ⌜ ((keys : Map (List ℕ) Held) (counted : Bool) → Answered (fetchEntriesTo begin end (sizeOf «max_size») (tableOf self (now (part .entry)) keys counted)) (columns (now (index .entry)) (now (queue .entry)) (now (seq .entry)) (now (offset .entry)) (now (len .entry)) (now (compression .entry)) (now («entry_offset» .entry)) (now («entry_len» .entry))) r (columns (now (index .exit)) (now (queue .exit)) (now (seq .exit)) (now (offset .exit)) (now (len .exit)) (now (compression .exit)) (now («entry_offset» .exit)) (now («entry_len» .exit)))) ⌝ }
+    {
+        let range = self.fetch_range(part, begin, end, max_size);
+        match range {
+            Range::Rows(from, count) => self.answer_rows(
+                part,
+                from,
+                count,
+                index,
+                queue,
+                seq,
+                offset,
+                len,
+                compression,
+                entry_offset,
+                entry_len,
+            ),
+            Range::EntryCompacted => Fetched::EntryCompacted,
+            Range::EntryNotFound => Fetched::EntryNotFound,
+        }
+    }
+
+    // Fetches Append entries from the front while their file is at most the gate.
+    pub fn fetch_entry_indexes_before(
+        self,
+        part: &[u64],
+        gate: u64,
+        index: &mut [u64],
+        queue: &mut [u64],
+        seq: &mut [u64],
+        offset: &mut [u64],
+        len: &mut [u64],
+        compression: &mut [u64],
+        entry_offset: &mut [u64],
+        entry_len: &mut [u64],
+    ) -> Fetched
+        requires { ⌜ Wf self (now part) ⌝ }
+        requires { ⌜ SameLength (columns (now index) (now queue) (now seq) (now offset) (now len) (now compression) (now «entry_offset») (now «entry_len»)) ⌝ }
+        ensures { λ r. ⌜ ((keys : Map (List ℕ) Held) (counted : Bool) → Answered (ok (fetchEntryIndexesBefore gate (tableOf self (now (part .entry)) keys counted))) (columns (now (index .entry)) (now (queue .entry)) (now (seq .entry)) (now (offset .entry)) (now (len .entry)) (now (compression .entry)) (now («entry_offset» .entry)) (now («entry_len» .entry))) r (columns (now (index .exit)) (now (queue .exit)) (now (seq .exit)) (now (offset .exit)) (now (len .exit)) (now (compression .exit)) (now («entry_offset» .exit)) (now («entry_len» .exit)))) ⌝ }
+    {
+        let from = self.rewrite_count;
+        let count = count_before(part, from, self.len - from, gate);
+        self.answer_rows(
+            part,
+            from,
+            count,
+            index,
+            queue,
+            seq,
+            offset,
+            len,
+            compression,
+            entry_offset,
+            entry_len,
+        )
+    }
+
+    // Fetches all Rewrite entries.
+    pub fn fetch_rewritten_entry_indexes(
+        self,
+        part: &[u64],
+        index: &mut [u64],
+        queue: &mut [u64],
+        seq: &mut [u64],
+        offset: &mut [u64],
+        len: &mut [u64],
+        compression: &mut [u64],
+        entry_offset: &mut [u64],
+        entry_len: &mut [u64],
+    ) -> Fetched
+        requires { ⌜ Wf self (now part) ⌝ }
+        requires { ⌜ SameLength (columns (now index) (now queue) (now seq) (now offset) (now len) (now compression) (now «entry_offset») (now «entry_len»)) ⌝ }
+        ensures { λ r. ⌜ ((keys : Map (List ℕ) Held) (counted : Bool) → Answered (ok (fetchRewrittenEntryIndexes (tableOf self (now (part .entry)) keys counted))) (columns (now (index .entry)) (now (queue .entry)) (now (seq .entry)) (now (offset .entry)) (now (len .entry)) (now (compression .entry)) (now («entry_offset» .entry)) (now («entry_len» .entry))) r (columns (now (index .exit)) (now (queue .exit)) (now (seq .exit)) (now (offset .exit)) (now (len .exit)) (now (compression .exit)) (now («entry_offset» .exit)) (now («entry_len» .exit)))) ⌝ }
+    {
+        self.answer_rows(
+            part,
+            0,
+            self.rewrite_count,
+            index,
+            queue,
+            seq,
+            offset,
+            len,
+            compression,
+            entry_offset,
+            entry_len,
+        )
+    }
+}
