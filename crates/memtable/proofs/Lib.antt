@@ -5,3 +5,4 @@ pub mod QueryWays
 pub mod ColumnWays
 pub mod ScanWays
 pub mod FetchWays
+pub mod RewriteWays

@@ -14,3 +14,5 @@ pub mod ColumnLaws
 pub mod Scans
 pub mod ScanLaws
 pub mod Fetches
+pub mod Rewrites
+pub mod ReplaceLaws

@@ -50,6 +50,41 @@ size-window size sum f (suc n) xs =
     rw (size-window size (sum + getD xs 7 0) (suc f) n (drop 8 xs))
     (back-step (ltb size (sum + getD xs 7 0) && ltb 0 sum) f (sizeCount size (sum + getD xs 7 0) n (drop 8 xs)) xs)
 
+-- a cell of row i + 1, as one of row i of what follows the first row
+ahead : (k i : ℕ) (xs : List ℕ) → getD xs (suc i * 8 + k) 0 ≡ getD (drop 8 xs) (i * 8 + k) 0
+ahead k i xs =
+    let e : 8 + (i * 8 + k) ≡ suc i * 8 + k = omega arith in
+    rw (getD-drop 8 xs (i * 8 + k) 0, e)
+
+le-of-suc : (a n : ℕ) → suc a < suc n → a < n
+le-of-suc a n l = omega arith
+
+later : (gate n : ℕ) (xs : List ℕ) (i : ℕ) → getD xs 2 0 ≤ gate → i < suc (countBefore gate n (drop 8 xs)) → ((j : ℕ) → j < countBefore gate n (drop 8 xs) → getD (drop 8 xs) (j * 8 + 2) 0 ≤ gate)
+    → getD xs (i * 8 + 2) 0 ≤ gate
+later gate n xs zero u l h = u
+later gate n xs (suc i) u l h = rw (ahead 2 i xs) (h i (omega arith))
+
+-- each row that the scan by sequence number takes is at most the gate, and the next one is not
+pub before-all : (gate n : ℕ) (xs : List ℕ) (i : ℕ) → i < countBefore gate n xs → getD xs (i * 8 + 2) 0 ≤ gate
+unfolding countBefore
+before-all gate zero xs i l = absurd (omega arith)
+before-all gate (suc n) xs i l =
+    elim (decLt gate (getD xs 2 0)) [
+      | yes u ↦ (let z = rw (lt-leb (getD xs 2 0) gate u) at l in absurd (omega arith))
+      | no u ↦ later gate n xs i (omega arith) (rw (le-leb (getD xs 2 0) gate (omega arith)) at l) (before-all gate n (drop 8 xs))
+    ]
+
+pub before-next : (gate n : ℕ) (xs : List ℕ) → countBefore gate n xs < n → gate < getD xs (countBefore gate n xs * 8 + 2) 0
+unfolding countBefore
+before-next gate zero xs l = absurd (omega arith)
+before-next gate (suc n) xs l =
+    elim (decLt gate (getD xs 2 0)) [
+      | yes u ↦ rw (lt-leb (getD xs 2 0) gate u) u
+      | no u ↦
+          (let e = le-leb (getD xs 2 0) gate (omega arith) in
+          rw e (rw (ahead 2 (countBefore gate n (drop 8 xs)) xs) (before-next gate n (drop 8 xs) (le-of-suc (countBefore gate n (drop 8 xs)) n (rw e at l)))))
+    ]
+
 -- ---- the turns of the loops: what is left from place i on
 
 module _ (xs : List ℕ) (from n i : ℕ) where

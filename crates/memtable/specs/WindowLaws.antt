@@ -1,6 +1,6 @@
 -- The laws of `window`: the records of the first n rows of a list of numbers, at the indexes from f on. Assumes nothing.
 use mathlib.Core.Bool.{Bool, true, false, cond}
-use mathlib.Core.List.{List, [], _∷_, _++_, append-nil}
+use mathlib.Core.List.{List, [], _∷_, _++_, append-nil, append-assoc}
 use mathlib.Core.Option.{Option, some}
 use mathlib.Core.Option as option
 use mathlib.Core.Path.{_≡_, refl, sym, ap, _∙_}
@@ -13,7 +13,7 @@ use lib.Dec.{ltb, leb, eqb}
 use lib.ListN.{length, getD, take, drop, getElem?, List·getD-append}
 use lib.Seq.{getD-drop, drop-drop}
 use Rattle.cells.specs.Part.{part, put}
-use Rattle.cells.specs.PartLaws.{from-put, getD-put-before}
+use Rattle.cells.specs.PartLaws.{from-put, drop-put, getD-put-before}
 use borrow.Author.Tests.{lt-ltb, le-ltb, le-leb, lt-leb, eq-eqb, ne-eqb}
 use Rattle.maps.specs.Lists.{select, first, last, mapOption, orElse}
 use Rattle.pipe_log.specs.Rows.{isRecord, blockAt, entryOf, withIndex, window}
@@ -28,11 +28,11 @@ length-window f zero xs = refl
 length-window f (suc n) xs = ap suc (length-window (suc f) n (drop 8 xs))
 
 -- row 0, and row i + 1 as row i of what follows the first row
-rowAt-zero : (f : ℕ) (xs : List ℕ) → rowAt f xs 0 ≡ withIndex f (entryOf xs)
+pub rowAt-zero : (f : ℕ) (xs : List ℕ) → rowAt f xs 0 ≡ withIndex f (entryOf xs)
 unfolding rowAt
 rowAt-zero f xs = rw add-zero
 
-rowAt-suc : (f : ℕ) (xs : List ℕ) (i : ℕ) → rowAt (suc f) (drop 8 xs) i ≡ rowAt f xs (suc i)
+pub rowAt-suc : (f : ℕ) (xs : List ℕ) (i : ℕ) → rowAt (suc f) (drop 8 xs) i ≡ rowAt f xs (suc i)
 unfolding rowAt
 rowAt-suc f xs i =
     let e : 8 + i * 8 ≡ suc i * 8 = omega arith in
@@ -227,3 +227,21 @@ pub entry-absent : (f n : ℕ) (xs : List ℕ) (i : ℕ) → ((k : ℕ) → k < 
 unfolding rowAt withIndex first
 entry-absent f n xs i h =
     rw (select-none (λ (e : EntryIndex). eqb (e .index) i) (window-all (λ (e : EntryIndex). eqb (e .index) i) false f n xs (λ k l. ne-eqb (f + k) i (h k l))))
+
+-- rows laid in behind the first p, with rows behind them
+pub window-lay : (f n p k : ℕ) (xs s : List ℕ) → length s ≡ k * 8 → p + k ≤ n → n * 8 ≤ length xs
+    → window f n (put xs (p * 8) s) ≡ window f p xs ++ (window (f + p) k s ++ window (f + p + k) (n - p - k) (drop (k * 8) (drop (p * 8) xs)))
+window-lay f n p k xs s e b h =
+    let z : p * 8 + k * 8 ≡ (p + k) * 8 = omega arith in
+    let y : f + (p + k) ≡ f + p + k = omega arith in
+    let x : n - (p + k) ≡ n - p - k = omega arith in
+    rw (
+      window-cut f n (p + k) (put xs (p * 8) s) b,
+      window-put f p k xs s e (omega arith),
+      drop-put ((p + k) * 8) xs (p * 8) s (omega arith) (omega arith),
+      drop-drop (k * 8) (p * 8) xs,
+      z,
+      y,
+      x,
+    )
+    (append-assoc (window f p xs) (window (f + p) k s) (window (f + p + k) (n - p - k) (drop ((p + k) * 8) xs)))

@@ -6,6 +6,7 @@ mod compact;
 mod fetch;
 mod numbers;
 mod queries;
+mod rewrite;
 mod rows;
 mod scans;
 mod seqs;
@@ -79,4 +80,17 @@ pub enum Fetched {
 pub enum MaxSize {
     None,
     At(u64),
+}
+
+// The gate of a rewrite, or that there is none.
+pub enum Gate {
+    None,
+    Seq(u64),
+}
+
+// What a rewrite answers: the head after it, or document 01's 15 or 16.
+pub enum Rewritten {
+    Done(Head),
+    AppendLeft,
+    AlreadyRewritten,
 }

@@ -1,7 +1,8 @@
-// The lesser of two numbers.
+// Small functions of numbers.
 ghost use mathlib.Core.Path.{_≡_};
-ghost use Prim.Native.Nat.{min};
+ghost use Prim.Native.Nat.{_-_, min};
 
+// The lesser of two numbers.
 pub fn lesser(a: usize, b: usize) -> usize
     ensures { λ r. ⌜ r ≡ min a b ⌝ }
 {
@@ -9,4 +10,14 @@ pub fn lesser(a: usize, b: usize) -> usize
         return a;
     }
     b
+}
+
+// How far `a` lies above `b`, and otherwise 0.
+pub fn beyond(a: u64, b: u64) -> usize
+    ensures { λ r. ⌜ r ≡ a - b ⌝ }
+{
+    if a <= b {
+        return 0;
+    }
+    (a - b) as usize
 }

@@ -1,65 +1,49 @@
-use Rattle.memtable.specs.Fetches.{entriesAt}
-use Rattle.memtable.proofs.ColumnWays.{rows-short, rows-done}
-use Rattle.memtable.specs.RowLaws.{held-row, any-drop}
+-- `memtable::Head::answer_rows` meets its contract. Assumes nothing.
 use native.Mathlib.Omega.{arith}
 use borrow.Author.Needs.{needs}
+use Rattle.memtable.specs.Fetches.{entriesAt}
+use Rattle.memtable.specs.RowLaws.{held-row, any-drop}
+use Rattle.memtable.proofs.ColumnWays.{rows-short, rows-done}
 use Rattle.memtable.proofs.Head.answer_rows.Statement.{statement}
 use Rattle.memtable.proofs.Head.answer_rows.Tie as tie
-use Rattle.memtable.proofs.Head.answer_rows.Reads as reads
-use Rattle.memtable.proofs.Head.answer_rows.Lts as lts
-use Rattle.memtable.proofs.columns.copy_left.Reads as copy-left-reads
-use Rattle.memtable.proofs.columns.copy_right.Reads as copy-right-reads
 
--- src/columns.rt:85:13
 returns : tie.Need-returns
 unfolding entriesAt
 returns c = rows-short _ _ _ _ (c .if1 .taken)
 
--- src/columns.rt:87:21
 add-first : tie.Need-add-first
 add-first c = search needs
 
--- src/columns.rt:88:9
 copy-left-requires : tie.Need-copy-left-requires
 copy-left-requires c κs = search needs
 
--- src/columns.rt:89:9
 copy-right-requires : tie.Need-copy-right-requires
 copy-right-requires c κs = let w = c .before .before .before .before .before .before .before .before .before .before .before .before .before .before .before .before .before .before .before .before .before .before .before .before .before .before .before .before .pre .0 in let n = c .before .before .before .before .before .before .before .before .before .before .before .before .before .before .before .before .before .before .before .before .before .before .before .before .before .before .before .before .pre .1 .0 in let p = c .before .before .before .before .before .before .before .before .before .before .before .before .before .before .before .before .before .before .before .before .before .before .before .before .before .before .before .before .pre .1 .1 in let i = c .before .before .before .before .before .before .before .before .before .before .before .before .before .before .before .before .before .before .if1 .left in omega arith
 
--- src/columns.rt:78:5
 same-length : tie.Need-same-length
 same-length c = search needs
 
--- src/columns.rt:78:5
 same-length-2 : tie.Need-same-length-2
 same-length-2 c = search needs
 
--- src/columns.rt:78:5
 same-length-3 : tie.Need-same-length-3
 same-length-3 c = search needs
 
--- src/columns.rt:78:5
 same-length-4 : tie.Need-same-length-4
 same-length-4 c = search needs
 
--- src/columns.rt:78:5
 same-length-5 : tie.Need-same-length-5
 same-length-5 c = search needs
 
--- src/columns.rt:78:5
 same-length-6 : tie.Need-same-length-6
 same-length-6 c = search needs
 
--- src/columns.rt:78:5
 same-length-7 : tie.Need-same-length-7
 same-length-7 c = search needs
 
--- src/columns.rt:78:5
 same-length-8 : tie.Need-same-length-8
 same-length-8 c = search needs
 
--- src/columns.rt:78:5
 returns-2 : tie.Need-returns-2
 unfolding entriesAt
 returns-2 c = let n = c .before .before .before .before .before .before .before .before .before .before .before .before .before .before .before .before .before .before .before .before .before .before .before .before .before .before .before .before .before .before .before .before .before .before .before .before .before .pre .1 .0 in rows-done _ _ _ _ (c .before .before .before .before .before .before .before .before .before .before .before .before .before .before .before .before .before .before .before .before .before .before .before .before .before .before .before .if1 .left) (λ i b. any-drop _ (c .before .before .before .before .before .before .before .before .before .before .before .before .before .before .before .before .before .before .before .before .before .before .before .before .before .before .before .before .before .before .before .before .before .before .before .before .before .args .from) i (held-row _ _ (c .before .before .before .before .before .before .before .before .before .before .before .before .before .before .before .before .before .before .before .before .before .before .before .before .before .before .before .before .before .before .before .before .before .before .before .before .before .pre .0) _ (omega arith))) _ (c .before .before .before .before .before .before .before .before .before .before .before .before .before .before .before .before .before .before .before .before .before .copy-left .ensures .0) (c .before .before .before .before .before .before .before .before .before .before .before .before .before .before .before .before .before .before .before .before .before .copy-left .ensures .1) (c .before .before .before .before .before .before .before .before .before .before .before .before .before .before .before .before .before .before .before .before .before .copy-left .ensures .2) (c .before .before .before .before .before .before .before .before .before .before .before .before .before .before .before .before .before .before .before .before .before .copy-left .ensures .3) (c .before .before .before .before .before .before .before .before .copy-right .ensures .0) (c .before .before .before .before .before .before .before .before .copy-right .ensures .1) (c .before .before .before .before .before .before .before .before .copy-right .ensures .2) (c .before .before .before .before .before .before .before .before .copy-right .ensures .3)

@@ -1,20 +1,15 @@
-use Rattle.memtable.proofs.AppendWays.{laying-by, by-append}
+-- `memtable::Head::append` meets its contract. Assumes nothing.
 use borrow.Author.Needs.{needs}
+use Rattle.memtable.proofs.AppendWays.{laying-by, by-append}
 use Rattle.memtable.proofs.Head.append.Statement.{statement}
 use Rattle.memtable.proofs.Head.append.Tie as tie
-use Rattle.memtable.proofs.Head.append.Reads as reads
-use Rattle.memtable.proofs.Head.append.Lts as lts
-use Rattle.memtable.proofs.Head.lay.Reads as lay-reads
 
--- src/append.rt:105:9
 lay-requires : tie.Need-lay-requires
 lay-requires c κs = search needs
 
--- src/append.rt:100:5
 same-length : tie.Need-same-length
 same-length c = search needs
 
--- src/append.rt:100:5
 returns : tie.Need-returns
 returns c = laying-by (λ keys counted. by-append (c .before .before .before .before .before .before .args .live) _ _) (c .before .before .lay .ensures)
 

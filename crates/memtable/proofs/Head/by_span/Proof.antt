@@ -1,42 +1,33 @@
-use Rattle.memtable.proofs.QueryWays.{span-append, span-none, span-above, span-start, span-within}
+-- `memtable::Head::by_span` meets its contract. Assumes nothing.
 use borrow.Author.Needs.{needs}
+use Rattle.memtable.proofs.QueryWays.{span-append, span-none, span-above, span-start, span-within}
 use Rattle.memtable.proofs.Head.by_span.Statement.{statement}
 use Rattle.memtable.proofs.Head.by_span.Tie as tie
-use Rattle.memtable.proofs.Head.by_span.Reads as reads
-use Rattle.memtable.proofs.Head.by_span.Lts as lts
 
 enum-told : tie.Need-enum-told
 enum-told c = search needs
 
--- src/seqs.rt:58:13
 enum-told-2 : tie.Need-enum-told-2
 enum-told-2 c = search needs
 
--- src/seqs.rt:58:13
 returns : tie.Need-returns
 returns c = rw (c .enum-told2 .given .1) (span-append _ _)
 
--- src/seqs.rt:61:33
 enum-known-group : tie.Need-enum-known-group
 enum-known-group c = search needs
 
--- src/seqs.rt:62:13
 enum-told-3 : tie.Need-enum-told-3
 enum-told-3 c = search needs
 
--- src/seqs.rt:62:13
 returns-2 : tie.Need-returns-2
 returns-2 c = rw (c .before .before .enum-told .given .1) (span-none _ _ (c .enum-told3 .given .1))
 
--- src/seqs.rt:65:13
 returns-3 : tie.Need-returns-3
 returns-3 c = rw (c .before .before .before .before .enum-told .given .1) (span-above _ _ _ _ (c .before .before .group .given .1) (c .if1 .taken))
 
--- src/seqs.rt:68:13
 returns-4 : tie.Need-returns-4
 returns-4 c = rw (c .before .before .before .before .before .enum-told .given .1) (span-start _ _ _ _ (c .before .before .before .group .given .1) (c .before .if1 .left) (c .if2 .taken))
 
--- src/seqs.rt:54:5
 returns-5 : tie.Need-returns-5
 returns-5 c = rw (c .before .before .before .before .before .enum-told .given .1) (span-within _ _ _ _ (c .before .before .before .group .given .1) (c .before .if1 .left) (c .if2 .left))
 

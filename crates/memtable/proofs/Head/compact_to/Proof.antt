@@ -1,57 +1,42 @@
-use Rattle.memtable.proofs.CompactWays.{compact-none, compact-some}
+-- `memtable::Head::compact_to` meets its contract. Assumes nothing.
 use borrow.Author.Needs.{needs}
+use Rattle.memtable.proofs.CompactWays.{compact-none, compact-some}
 use Rattle.memtable.proofs.Head.compact_to.Statement.{statement}
 use Rattle.memtable.proofs.Head.compact_to.Tie as tie
-use Rattle.memtable.proofs.Head.compact_to.Reads as reads
-use Rattle.memtable.proofs.Head.compact_to.Lts as lts
-use Rattle.cells.proofs.shift_down_u64.Reads as shift-down-u64-reads
-use Rattle.memtable.proofs.numbers.lesser.Reads as lesser-reads
 
--- src/compact.rt:17:13
 returns : tie.Need-returns
 returns c = compact-none _ _ _ (c .before .before .pre) (c .if1 .taken)
 
--- src/compact.rt:23:29
 sub-lesser : tie.Need-sub-lesser
 sub-lesser c = search needs
 
--- src/compact.rt:23:13
 lesser-requires : tie.Need-lesser-requires
 lesser-requires c κs = search needs
 
--- src/compact.rt:24:20
 sub-left : tie.Need-sub-left
 sub-left c = search needs
 
--- src/compact.rt:25:37
 mul-shift-down-u64 : tie.Need-mul-shift-down-u64
 mul-shift-down-u64 c = search needs
 
--- src/compact.rt:25:51
 mul-shift-down-u64-2 : tie.Need-mul-shift-down-u64-2
 mul-shift-down-u64-2 c = search needs
 
--- src/compact.rt:25:9
 shift-down-u64-requires : tie.Need-shift-down-u64-requires
 shift-down-u64-requires c κs = search needs
 
--- src/compact.rt:27:13
 lesser-requires-2 : tie.Need-lesser-requires-2
 lesser-requires-2 c κs = search needs
 
--- src/compact.rt:29:26
 add-t18 : tie.Need-add-t18
 add-t18 c = search needs
 
--- src/compact.rt:31:28
 sub-t17 : tie.Need-sub-t17
 sub-t17 c = search needs
 
--- src/compact.rt:11:5
 same-length : tie.Need-same-length
 same-length c = search needs
 
--- src/compact.rt:11:5
 returns-2 : tie.Need-returns-2
 returns-2 c = compact-some _ _ _ (c .before .before .before .before .before .before .before .before .pre) _ _ (c .before .before .before .before .before .lesser .ensures) (c .lesser2 .ensures) _ (c .before .before .before .shift-down-u64 .ensures)
 

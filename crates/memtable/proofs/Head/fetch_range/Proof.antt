@@ -1,53 +1,40 @@
-use Rattle.memtable.proofs.FetchWays.{range-empty, range-none, range-compacted, range-above, range-all, range-sized, range-held}
+-- `memtable::Head::fetch_range` meets its contract. Assumes nothing.
 use native.Mathlib.Omega.{arith}
 use borrow.Author.Needs.{needs}
+use Rattle.memtable.proofs.FetchWays.{range-empty, range-none, range-compacted, range-above, range-all, range-sized, range-held}
 use Rattle.memtable.proofs.Head.fetch_range.Statement.{statement}
 use Rattle.memtable.proofs.Head.fetch_range.Tie as tie
-use Rattle.memtable.proofs.Head.fetch_range.Reads as reads
-use Rattle.memtable.proofs.Head.fetch_range.Lts as lts
-use Rattle.memtable.proofs.scans.count_to_size.Reads as count-to-size-reads
 
--- src/fetch.rt:31:13
 returns : tie.Need-returns
 returns c = range-empty _ _ _ _ _ (c .if1 .taken)
 
--- src/fetch.rt:35:13
 returns-2 : tie.Need-returns-2
 returns-2 c = range-none _ _ _ _ _ (c .before .if1 .left) (c .if2 .taken)
 
--- src/fetch.rt:39:13
 returns-3 : tie.Need-returns-3
 returns-3 c = range-compacted _ _ _ _ _ (c .before .before .if1 .left) (c .before .if2 .left) (c .if3 .taken)
 
--- src/fetch.rt:41:12
 add-if4 : tie.Need-add-if4
 add-if4 c = search needs
 
--- src/fetch.rt:42:13
 returns-4 : tie.Need-returns-4
 returns-4 c = range-above _ _ _ _ _ (c .before .before .before .if1 .left) (c .before .before .if2 .left) (c .before .if3 .left) (c .if4 .taken)
 
--- src/fetch.rt:45:22
 sub-count : tie.Need-sub-count
 sub-count c = search needs
 
--- src/fetch.rt:47:30
 enum-told : tie.Need-enum-told
 enum-told c = search needs
 
--- src/fetch.rt:48:25
 enum-known-max-size : tie.Need-enum-known-max-size
 enum-known-max-size c = search needs
 
--- src/fetch.rt:48:52
 count-to-size-requires : tie.Need-count-to-size-requires
 count-to-size-requires c κs = let w = c .before .before .before .before .before .before .before .before .pre in (omega arith, range-held _ _ w _ _ (omega arith))
 
--- src/fetch.rt:26:5
 returns-5 : tie.Need-returns-5
 returns-5 c = range-all _ _ _ _ _ (c .before .before .before .before .before .if1 .left) (c .before .before .before .before .if2 .left) (c .before .before .before .if3 .left) (c .before .before .if4 .left) (c .enum-told .given .1)
 
--- src/fetch.rt:26:5
 returns-6 : tie.Need-returns-6
 returns-6 c = range-sized _ _ _ _ _ (c .before .before .before .before .before .before .before .if1 .left) (c .before .before .before .before .before .before .if2 .left) (c .before .before .before .before .before .if3 .left) _ _ (c .before .before .before .before .if4 .left) (c .before .before .max-size .given .1) (c .count-to-size .ensures .0) (c .count-to-size .ensures .1)
 

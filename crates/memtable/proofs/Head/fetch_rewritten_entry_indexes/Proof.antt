@@ -1,49 +1,37 @@
-use Rattle.memtable.proofs.FetchWays.{answered-by, rewritten-rows}
+-- `memtable::Head::fetch_rewritten_entry_indexes` meets its contract. Assumes nothing.
 use native.Mathlib.Omega.{arith}
 use borrow.Author.Needs.{needs}
+use Rattle.memtable.proofs.FetchWays.{answered-by, rewritten-rows}
 use Rattle.memtable.proofs.Head.fetch_rewritten_entry_indexes.Statement.{statement}
 use Rattle.memtable.proofs.Head.fetch_rewritten_entry_indexes.Tie as tie
-use Rattle.memtable.proofs.Head.fetch_rewritten_entry_indexes.Reads as reads
-use Rattle.memtable.proofs.Head.fetch_rewritten_entry_indexes.Lts as lts
-use Rattle.memtable.proofs.Head.answer_rows.Reads as answer-rows-reads
 
--- src/fetch.rt:83:9
 answer-rows-requires : tie.Need-answer-rows-requires
 answer-rows-requires c κs = let w = c .before .before .before .before .before .before .before .before .before .before .before .before .before .before .before .before .before .pre .0 in (w, (omega arith, c .before .before .before .before .before .before .before .before .before .before .before .before .before .before .before .before .before .pre .1))
 
--- src/fetch.rt:78:5
 same-length : tie.Need-same-length
 same-length c = search needs
 
--- src/fetch.rt:78:5
 same-length-2 : tie.Need-same-length-2
 same-length-2 c = search needs
 
--- src/fetch.rt:78:5
 same-length-3 : tie.Need-same-length-3
 same-length-3 c = search needs
 
--- src/fetch.rt:78:5
 same-length-4 : tie.Need-same-length-4
 same-length-4 c = search needs
 
--- src/fetch.rt:78:5
 same-length-5 : tie.Need-same-length-5
 same-length-5 c = search needs
 
--- src/fetch.rt:78:5
 same-length-6 : tie.Need-same-length-6
 same-length-6 c = search needs
 
--- src/fetch.rt:78:5
 same-length-7 : tie.Need-same-length-7
 same-length-7 c = search needs
 
--- src/fetch.rt:78:5
 same-length-8 : tie.Need-same-length-8
 same-length-8 c = search needs
 
--- src/fetch.rt:78:5
 returns : tie.Need-returns
 returns c = λ keys counted. answered-by (rewritten-rows _ _ (c .before .before .before .before .before .before .before .before .before .before .before .before .before .before .before .before .before .before .before .before .before .before .before .before .before .before .before .before .before .before .before .before .before .before .pre .0) keys counted) (c .before .before .before .before .before .before .before .before .before .before .before .before .before .before .before .before .answer-rows .ensures)
 

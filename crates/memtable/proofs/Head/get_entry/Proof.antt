@@ -1,25 +1,19 @@
+-- `memtable::Head::get_entry` meets its contract. Assumes nothing.
 use borrow.Author.Needs.{needs}
 use Rattle.memtable.specs.RowLaws.{held-row}
 use Rattle.memtable.proofs.QueryWays.{get-below, get-above, get-at}
 use Rattle.memtable.proofs.Head.get_entry.Statement.{statement}
 use Rattle.memtable.proofs.Head.get_entry.Tie as tie
-use Rattle.memtable.proofs.Head.get_entry.Reads as reads
-use Rattle.memtable.proofs.Head.get_entry.Lts as lts
-use Rattle.memtable.proofs.rows.entry_at.Reads as entry-at-reads
 
--- src/queries.rt:22:13
 returns : tie.Need-returns
 returns c = get-below _ _ (c .before .before .pre) _ (c .if1 .taken)
 
--- src/queries.rt:26:13
 returns-2 : tie.Need-returns-2
 returns-2 c = get-above _ _ (c .before .before .before .before .pre) _ (c .before .before .if1 .left) (c .if2 .taken)
 
--- src/queries.rt:28:24
 entry-at-requires : tie.Need-entry-at-requires
 entry-at-requires c κs = (search needs, held-row _ _ (c .before .before .before .before .pre) _ (c .if2 .left))
 
--- src/queries.rt:16:5
 returns-3 : tie.Need-returns-3
 returns-3 c = get-at _ _ (c .before .before .before .before .before .pre) _ _ (c .before .before .before .if1 .left) (c .before .if2 .left) (c .entry-at .ensures)
 

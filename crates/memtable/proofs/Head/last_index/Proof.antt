@@ -1,23 +1,18 @@
-use Rattle.memtable.proofs.QueryWays.{last-absent, last-at}
+-- `memtable::Head::last_index` meets its contract. Assumes nothing.
 use borrow.Author.Needs.{needs}
+use Rattle.memtable.proofs.QueryWays.{last-absent, last-at}
 use Rattle.memtable.proofs.Head.last_index.Statement.{statement}
 use Rattle.memtable.proofs.Head.last_index.Tie as tie
-use Rattle.memtable.proofs.Head.last_index.Reads as reads
-use Rattle.memtable.proofs.Head.last_index.Lts as lts
 
--- src/queries.rt:48:13
 returns : tie.Need-returns
 returns c = last-absent (c .before .args .self) (c .if1 .taken)
 
--- src/queries.rt:50:39
 sub-t4 : tie.Need-sub-t4
 sub-t4 c = search needs
 
--- src/queries.rt:50:19
 add-t6 : tie.Need-add-t6
 add-t6 c = search needs
 
--- src/queries.rt:42:5
 returns-2 : tie.Need-returns-2
 returns-2 c = last-at (c .before .before .args .self) (c .before .if1 .left)
 

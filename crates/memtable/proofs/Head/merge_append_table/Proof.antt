@@ -1,20 +1,15 @@
-use Rattle.memtable.proofs.AppendWays.{laying-by, by-replay}
+-- `memtable::Head::merge_append_table` meets its contract. Assumes nothing.
 use borrow.Author.Needs.{needs}
+use Rattle.memtable.proofs.AppendWays.{laying-by, by-replay}
 use Rattle.memtable.proofs.Head.merge_append_table.Statement.{statement}
 use Rattle.memtable.proofs.Head.merge_append_table.Tie as tie
-use Rattle.memtable.proofs.Head.merge_append_table.Reads as reads
-use Rattle.memtable.proofs.Head.merge_append_table.Lts as lts
-use Rattle.memtable.proofs.Head.lay.Reads as lay-reads
 
--- src/append.rt:124:9
 lay-requires : tie.Need-lay-requires
 lay-requires c κs = search needs
 
--- src/append.rt:119:5
 same-length : tie.Need-same-length
 same-length c = search needs
 
--- src/append.rt:119:5
 returns : tie.Need-returns
 returns c = laying-by (λ keys counted. by-replay _ _) (c .before .before .lay .ensures)
 

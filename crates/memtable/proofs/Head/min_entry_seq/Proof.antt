@@ -1,51 +1,39 @@
-use Rattle.memtable.proofs.QueryWays.{front-append-none, front-append, front-rewrite-none, front-rewrite}
+-- `memtable::Head::min_entry_seq` meets its contract. Assumes nothing.
 use borrow.Author.Needs.{needs}
+use Rattle.memtable.proofs.QueryWays.{front-append-none, front-append, front-rewrite-none, front-rewrite}
 use Rattle.memtable.proofs.Head.min_entry_seq.Statement.{statement}
 use Rattle.memtable.proofs.Head.min_entry_seq.Tie as tie
-use Rattle.memtable.proofs.Head.min_entry_seq.Reads as reads
-use Rattle.memtable.proofs.Head.min_entry_seq.Lts as lts
 
--- src/seqs.rt:39:20
 enum-told : tie.Need-enum-told
 enum-told c = search needs
 
--- src/seqs.rt:40:21
 returns : tie.Need-returns
 returns c = rw (c .before .before .enum-told .given .1) (front-append-none _ _ (c .before .before .before .before .pre) (c .if1 .taken))
 
--- src/seqs.rt:42:32
 mul-t7 : tie.Need-mul-t7
 mul-t7 c = search needs
 
--- src/seqs.rt:42:32
 add-t8 : tie.Need-add-t8
 add-t8 c = search needs
 
--- src/seqs.rt:42:27
 mul-t9 : tie.Need-mul-t9
 mul-t9 c = search needs
 
--- src/seqs.rt:42:27
 shared-slice-read-t11 : tie.Need-shared-slice-read-t11
 shared-slice-read-t11 c = search needs
 
--- src/seqs.rt:45:20
 enum-told-2 : tie.Need-enum-told-2
 enum-told-2 c = search needs
 
--- src/seqs.rt:46:21
 returns-2 : tie.Need-returns-2
 returns-2 c = rw (c .before .enum-told2 .given .1) (front-rewrite-none _ _ (c .before .before .before .pre) (c .if2 .taken))
 
--- src/seqs.rt:48:27
 shared-slice-read-t14 : tie.Need-shared-slice-read-t14
 shared-slice-read-t14 c = search needs
 
--- src/seqs.rt:32:5
 returns-3 : tie.Need-returns-3
 returns-3 c = rw (c .before .before .before .enum-told .given .1) (front-append _ _ (c .before .before .before .before .before .pre) (c .before .if1 .left))
 
--- src/seqs.rt:32:5
 returns-4 : tie.Need-returns-4
 returns-4 c = rw (c .before .before .enum-told2 .given .1) (front-rewrite _ _ (c .before .before .before .before .pre) (c .before .if2 .left))
 

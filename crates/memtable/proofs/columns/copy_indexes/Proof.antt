@@ -1,13 +1,11 @@
-use Rattle.memtable.proofs.ColumnWays.{index-more, index-all}
-use Rattle.memtable.specs.Columns.{upFrom}
-use Rattle.cells.proofs.Steps.{Laid, laid-none}
-use Prim.Native.Nat.{_-_, _*_, _≤_}
+-- `memtable::columns::copy_indexes` meets its contract. Assumes nothing.
+use Prim.Native.Nat.{_-_, _≤_}
 use borrow.Author.Needs.{needs}
-use native.Mathlib.Omega.{arith}
+use Rattle.cells.proofs.Steps.{Laid, laid-none}
+use Rattle.memtable.specs.Columns.{upFrom}
+use Rattle.memtable.proofs.ColumnWays.{index-more, index-all}
 use Rattle.memtable.proofs.columns.copy_indexes.Statement.{statement}
 use Rattle.memtable.proofs.columns.copy_indexes.Tie as tie
-use Rattle.memtable.proofs.columns.copy_indexes.Reads as reads
-use Rattle.memtable.proofs.columns.copy_indexes.Lts as lts
 
 abbrev Inv-loop : tie.InvT-loop
 Inv-loop first count out₀ i₀ out i = (i ≤ count) × Laid out₀ 0 (upFrom first i) out
@@ -15,40 +13,31 @@ Inv-loop first count out₀ i₀ out i = (i ≤ count) × Laid out₀ 0 (upFrom 
 abbrev μ-loop : tie.MeasureT-loop
 μ-loop first count out₀ i₀ out i = count - i
 
--- src/columns.rt:26:5
 loop-holds : tie.Need-loop-holds Inv-loop μ-loop
 unfolding upFrom
 loop-holds c = (search needs, laid-none _ _)
 
--- src/columns.rt:27:18
 add-out : tie.Need-add-out Inv-loop μ-loop
 add-out c = search needs
 
--- src/columns.rt:27:9
 mul-out : tie.Need-mul-out Inv-loop μ-loop
 mul-out c = search needs
 
--- src/columns.rt:27:9
 slice-write-out : tie.Need-slice-write-out Inv-loop μ-loop
 slice-write-out c = search needs
 
--- src/columns.rt:28:9
 add-i : tie.Need-add-i Inv-loop μ-loop
 add-i c = search needs
 
--- src/columns.rt:26:5
 loop-less : tie.Need-loop-less Inv-loop μ-loop
 loop-less c = search needs
 
--- src/columns.rt:26:5
 loop-again : tie.Need-loop-again Inv-loop μ-loop
 loop-again c = (search needs, index-more (c .before .before .args .first) (c .before .loop .i) (c .before .loop .inv .1) (search needs))
 
--- src/columns.rt:21:1
 same-length : tie.Need-same-length Inv-loop μ-loop
 same-length c = search needs
 
--- src/columns.rt:21:1
 returns : tie.Need-returns Inv-loop μ-loop
 returns c = index-all (c .before .before .args .first) (c .before .loop .i) (c .before .before .args .count) (c .before .loop .inv .1) (search needs) (search needs)
 

@@ -1,15 +1,13 @@
-use Rattle.memtable.proofs.ScanWays.{before-start}
-use Rattle.memtable.specs.ScanLaws.{before-end, before-stop, before-more}
-use Rattle.memtable.specs.Scans.{countBefore}
-use lib.ListN.{drop}
+-- `memtable::scans::count_before` meets its contract. Assumes nothing.
 use mathlib.Core.Path.{_≡_}
 use Prim.Native.Nat.{_+_, _-_, _*_, _≤_}
+use lib.ListN.{drop}
 use borrow.Author.Needs.{needs}
-use native.Mathlib.Omega.{arith}
+use Rattle.memtable.specs.ScanLaws.{before-end, before-stop, before-more}
+use Rattle.memtable.specs.Scans.{countBefore}
+use Rattle.memtable.proofs.ScanWays.{before-start}
 use Rattle.memtable.proofs.scans.count_before.Statement.{statement}
 use Rattle.memtable.proofs.scans.count_before.Tie as tie
-use Rattle.memtable.proofs.scans.count_before.Reads as reads
-use Rattle.memtable.proofs.scans.count_before.Lts as lts
 
 abbrev Inv-loop : tie.InvT-loop
 Inv-loop part from count gate i₀ i = (i ≤ count) × (countBefore gate count (drop (from * 8) part) ≡ i + countBefore gate (count - i) (drop (i * 8) (drop (from * 8) part)))
@@ -17,47 +15,36 @@ Inv-loop part from count gate i₀ i = (i ≤ count) × (countBefore gate count 
 abbrev μ-loop : tie.MeasureT-loop
 μ-loop part from count gate i₀ i = count - i
 
--- src/scans.rt:14:5
 loop-holds : tie.Need-loop-holds Inv-loop μ-loop
 loop-holds c = (search needs, before-start _ _ _)
 
--- src/scans.rt:15:25
 add-if1 : tie.Need-add-if1 Inv-loop μ-loop
 add-if1 c = search needs
 
--- src/scans.rt:15:24
 mul-if1 : tie.Need-mul-if1 Inv-loop μ-loop
 mul-if1 c = search needs
 
--- src/scans.rt:15:24
 add-if1-2 : tie.Need-add-if1-2 Inv-loop μ-loop
 add-if1-2 c = search needs
 
--- src/scans.rt:15:19
 mul-if1-2 : tie.Need-mul-if1-2 Inv-loop μ-loop
 mul-if1-2 c = search needs
 
--- src/scans.rt:15:19
 shared-slice-read-if1 : tie.Need-shared-slice-read-if1 Inv-loop μ-loop
 shared-slice-read-if1 c = search needs
 
--- src/scans.rt:16:13
 returns : tie.Need-returns Inv-loop μ-loop
 returns c = (before-stop _ (c .before .before .before .before .args .from) (c .before .before .before .before .args .count) (c .before .before .before .loop .i) (c .before .before .before .before .args .gate) _ (c .before .before .before .loop .inv .1) (c .before .before .loop-test .taken) (c .if1 .taken), search needs)
 
--- src/scans.rt:18:9
 add-i : tie.Need-add-i Inv-loop μ-loop
 add-i c = search needs
 
--- src/scans.rt:14:5
 loop-less : tie.Need-loop-less Inv-loop μ-loop
 loop-less c = search needs
 
--- src/scans.rt:14:5
 loop-again : tie.Need-loop-again Inv-loop μ-loop
 loop-again c = (search needs, before-more _ (c .before .before .before .before .args .from) (c .before .before .before .before .args .count) (c .before .before .before .loop .i) (c .before .before .before .before .args .gate) _ (c .before .before .before .loop .inv .1) (c .before .before .loop-test .taken) (c .if1 .left))
 
--- src/scans.rt:9:1
 returns-2 : tie.Need-returns-2 Inv-loop μ-loop
 returns-2 c = (before-end (c .before .before .args .part .now) (c .before .before .args .from) (c .before .before .args .count) (c .before .loop .i) (c .before .before .args .gate) _ (c .before .loop .inv .1) (c .loop-test .left), search needs)
 

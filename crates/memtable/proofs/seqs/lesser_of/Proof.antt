@@ -1,39 +1,30 @@
-use Rattle.memtable.proofs.QueryWays.{least-left, least-right, least-first, least-second}
+-- `memtable::seqs::lesser_of` meets its contract. Assumes nothing.
 use borrow.Author.Needs.{needs}
+use Rattle.memtable.proofs.QueryWays.{least-left, least-right, least-first, least-second}
 use Rattle.memtable.proofs.seqs.lesser_of.Statement.{statement}
 use Rattle.memtable.proofs.seqs.lesser_of.Tie as tie
-use Rattle.memtable.proofs.seqs.lesser_of.Reads as reads
-use Rattle.memtable.proofs.seqs.lesser_of.Lts as lts
 
--- src/seqs.rt:18:19
 enum-known-a : tie.Need-enum-known-a
 enum-known-a c = search needs
 
--- src/seqs.rt:19:9
 enum-told : tie.Need-enum-told
 enum-told c = search needs
 
--- src/seqs.rt:19:9
 returns : tie.Need-returns
 returns c = least-left (c .before .before .args .a) (c .before .before .args .b) (c .enum-told .given .1)
 
--- src/seqs.rt:21:19
 enum-known-b : tie.Need-enum-known-b
 enum-known-b c = search needs
 
--- src/seqs.rt:22:9
 enum-told-2 : tie.Need-enum-told-2
 enum-told-2 c = search needs
 
--- src/seqs.rt:22:9
 returns-2 : tie.Need-returns-2
 returns-2 c = least-right _ _ _ (c .before .before .before .a .given .1) (c .enum-told2 .given .1)
 
--- src/seqs.rt:25:9
 returns-3 : tie.Need-returns-3
 returns-3 c = least-first _ _ _ (c .before .before .before .before .before .a .given .1) _ (c .before .before .b .given .1) (c .if1 .taken)
 
--- src/seqs.rt:15:1
 returns-4 : tie.Need-returns-4
 returns-4 c = least-second _ _ _ (c .before .before .before .before .before .a .given .1) _ (c .before .before .b .given .1) (c .if1 .left)
 

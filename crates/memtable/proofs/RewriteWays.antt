@@ -1,0 +1,381 @@
+-- Each way through `rewrite` gives what its contract says. Assumes nothing.
+use mathlib.Core.Bool.{Bool, true, false, cond, not, _&&_}
+use mathlib.Core.List.{List, [], _∷_, _++_, append-nil}
+use mathlib.Core.Option.{Option, none, some}
+use mathlib.Core.Path.{_≡_, refl, sym, ap, _∙_}
+use Prim.Native.Nat.{ℕ, zero, suc, _+_, _-_, _*_, _/_, _≤_, _<_, min, max}
+use native.Mathlib.Nat.{add-zero}
+use native.Mathlib.Decide.{decLt}
+use native.Mathlib.Omega.{arith}
+use lib.Dec.{leb}
+use lib.ListN.{length, getD, take, drop}
+use lib.Seq.{getD-drop, take-nil}
+use borrow.Author.Tests.{le-leb, lt-leb}
+use Rattle.cells.specs.Part.{part, put}
+use Rattle.cells.specs.PartLaws.{length-part, getD-part, part-none, length-put, getD-put-before, getD-put-in, getD-put-after, put-nil}
+use Rattle.maps.specs.Lists.{front, first, last, mapOption, orElse}
+use Rattle.maps.specs.Maps.{Map}
+use Rattle.pipe_log.specs.Rows.{window}
+use Rattle.rules.specs.Causes.{Result, ok, refuse, andThen, appendLeft, alreadyRewritten}
+use Rattle.rules.specs.Items.{EntryIndex, isRewrite, fileOf}
+use Rattle.rules.specs.Table.{Held, Table, withEntries, firstIndex, entriesBelow, entriesFrom, replaces, replaced, stopsAt, meetsRewrite, rewriteOverlap, rewritten}
+use Rattle.memtable.specs.declared.Head.{Head}
+use Rattle.memtable.specs.declared.Rewritten.{Rewritten, the-variants.Done, the-variants.AppendLeft, the-variants.AlreadyRewritten}
+use Rattle.memtable.specs.Views.{tableOf, rowAt, Row, Wf}
+use Rattle.memtable.specs.Appends.{Lent}
+use Rattle.memtable.specs.Rewrites.{moved, replacedPart, Rewriting, Run, Met, counting, Replaced}
+use Rattle.memtable.specs.RowLaws.{row-moved, row-seq, any-drop, held-row, rowAt-rewrite, rowAt-append}
+use Rattle.memtable.specs.Scans.{countBefore}
+use Rattle.memtable.specs.ScanLaws.{before-all, before-next}
+use Rattle.memtable.specs.ReplaceLaws.{replaced-run, stops-run, stops-first, moved-run}
+use Rattle.memtable.specs.WindowLaws.{rowAt-drop, window-same, window-cut, window-lay, firstIndex-window, last-window, below-window, from-window}
+
+-- an overlap with an entry and a row
+overlap-some : (gate : Option ℕ) (before : List EntryIndex) (a n b m : ℕ) (ys zs : List ℕ) → 0 < n → 0 < m
+    → rewriteOverlap gate before (window a n ys) (window b m zs)
+    ≡ cond (orElse false (λ (e : EntryIndex). not (isRewrite e)) (last before))
+    (refuse appendLeft)
+    (cond (meetsRewrite gate (stopsAt gate (window a n ys) (window b m zs)))
+    (refuse alreadyRewritten)
+    (ok (before ++ replaced gate (window a n ys) (window b m zs))))
+unfolding rewriteOverlap window
+overlap-some gate before a zero b m ys zs u v = absurd (omega arith)
+overlap-some gate before a (suc n) b zero ys zs u v = absurd (omega arith)
+overlap-some gate before a (suc n) b (suc m) ys zs u v = refl
+
+overlap-none : (gate : Option ℕ) (before es : List EntryIndex) → rewriteOverlap gate before es [] ≡ ok (before ++ es)
+unfolding rewriteOverlap
+overlap-none gate before [] = ap ok (sym (append-nil before))
+overlap-none gate before (e ∷ es) = refl
+
+module _ (gate : Option ℕ) (h : Head) (xs : List ℕ) (s : ℕ) (rows : List ℕ) (w : Wf h xs) where
+  -- the entries and the list
+  abbrev entries : List EntryIndex
+  entries = window (h .«first_index») (h .len) xs
+
+  abbrev list : List EntryIndex
+  list = window s (length rows / 8) rows
+
+  -- a list and entries that are not empty
+  by-overlap : (keys : Map (List ℕ) Held) (counted : Bool) → 0 < h .len → 0 < length rows / 8
+      → rewritten gate list (tableOf h xs keys counted)
+      ≡ andThen (rewriteOverlap gate (entriesBelow s entries) (entriesFrom s entries) (entriesFrom (h .«first_index») list)) (λ es. ok (withEntries es (tableOf h xs keys counted)))
+  unfolding rewritten tableOf orElse
+  by-overlap keys counted u v =
+      rw (firstIndex-window s (length rows / 8) rows v, firstIndex-window (h .«first_index») (h .len) xs u)
+
+  -- no list, and no entries
+  no-list : (keys : Map (List ℕ) Held) (counted : Bool) → length rows / 8 ≡ 0 → rewritten gate list (tableOf h xs keys counted) ≡ ok (tableOf h xs keys counted)
+  unfolding rewritten orElse firstIndex mapOption first window
+  no-list keys counted e = rw e
+
+  no-entries : (keys : Map (List ℕ) Held) (counted : Bool) → 0 < length rows / 8 → h .len ≡ 0 → rewritten gate list (tableOf h xs keys counted) ≡ ok (tableOf h xs keys counted)
+  unfolding rewritten tableOf orElse firstIndex mapOption first window
+  no-entries keys counted v e = rw (firstIndex-window s (length rows / 8) rows v, e)
+
+  same-table : (keys : Map (List ℕ) Held) (counted : Bool) → tableOf h xs keys counted ≡ withEntries entries (tableOf h xs keys counted)
+  unfolding withEntries tableOf
+  same-table keys counted = refl
+
+  -- ---- no overlap
+
+  none-from : h .len ≤ s - h .«first_index» → entriesFrom s entries ≡ []
+  unfolding window
+  none-from l =
+      let e : h .len - min (s - h .«first_index») (h .len) ≡ 0 = omega arith in
+      rw (from-window s (h .«first_index») (h .len) xs, e)
+
+  all-below : h .len ≤ s - h .«first_index» → entriesBelow s entries ≡ entries
+  all-below l =
+      let e : min (s - h .«first_index») (h .len) ≡ h .len = omega arith in
+      rw (below-window s (h .«first_index») (h .len) xs, e)
+
+  none-listed : length rows / 8 ≤ h .«first_index» - s → entriesFrom (h .«first_index») list ≡ []
+  unfolding window
+  none-listed l =
+      let e : length rows / 8 - min (h .«first_index» - s) (length rows / 8) ≡ 0 = omega arith in
+      rw (from-window (h .«first_index») s (length rows / 8) rows, e)
+
+  cut : entriesBelow s entries ++ entriesFrom s entries ≡ entries
+  cut =
+      rw (below-window s (h .«first_index») (h .len) xs, from-window s (h .«first_index») (h .len) xs)
+      (sym (window-cut (h .«first_index») (h .len) (min (s - h .«first_index») (h .len)) xs (omega arith)))
+
+  -- nothing is moved
+  unmoved : moved gate (entriesFrom s entries) (entriesFrom (h .«first_index») list) ≡ 0 → xs ≡ replacedPart gate h xs s rows
+  unfolding replacedPart
+  unmoved e = rw (e, part-none ((h .«first_index» - s) * 8) rows) (sym (put-nil xs ((s - h .«first_index») * 8)))
+
+  pub rewrite-above : h .len ≤ s - h .«first_index» → Rewriting gate h xs s rows (Done h) xs
+  unfolding moved front rewriteOverlap andThen
+  rewrite-above l =
+      record {
+        rule = λ keys counted.
+            elim (decLt 0 (length rows / 8)) [
+              | no v ↦ sym (no-list keys counted (omega arith))
+              | yes v ↦
+                  elim (decLt 0 (h .len)) [
+                    | no u ↦ sym (no-entries keys counted v (omega arith))
+                    | yes u ↦
+                        rw (by-overlap keys counted u v, none-from l, all-below l) (ap ok (same-table keys counted))
+                  ]
+            ];
+        laid = unmoved (rw (none-from l, take-nil {A = EntryIndex} (length (entriesFrom (h .«first_index») list))));
+        wf = w;
+      }
+
+  pub rewrite-below : length rows / 8 ≤ h .«first_index» - s → Rewriting gate h xs s rows (Done h) xs
+  unfolding moved front andThen
+  rewrite-below l =
+      record {
+        rule = λ keys counted.
+            elim (decLt 0 (length rows / 8)) [
+              | no v ↦ sym (no-list keys counted (omega arith))
+              | yes v ↦
+                  elim (decLt 0 (h .len)) [
+                    | no u ↦ sym (no-entries keys counted v (omega arith))
+                    | yes u ↦
+                        rw (by-overlap keys counted u v, none-listed l, overlap-none gate (entriesBelow s entries) (entriesFrom s entries), cut) (ap ok (same-table keys counted))
+                  ]
+            ];
+        laid = unmoved (rw (none-listed l));
+        wf = w;
+      }
+
+  -- ---- an overlap: it starts at place p of the entries and at place q of the list
+
+  module _ (u : s - h .«first_index» < h .len) (v : h .«first_index» - s < length rows / 8) where
+    abbrev p : ℕ
+    p = s - h .«first_index»
+
+    abbrev q : ℕ
+    q = h .«first_index» - s
+
+    -- the entries before it, those from it, and the list from it
+    abbrev before : List EntryIndex
+    before = window (h .«first_index») p xs
+
+    abbrev held : List EntryIndex
+    held = window (h .«first_index» + p) (h .len - p) (drop (p * 8) xs)
+
+    abbrev lent : List EntryIndex
+    lent = window (h .«first_index» + p) (length rows / 8 - q) (drop (q * 8) rows)
+
+    before-is : entriesBelow s entries ≡ before
+    before-is =
+        let e : min (s - h .«first_index») (h .len) ≡ s - h .«first_index» = omega arith in
+        rw (below-window s (h .«first_index») (h .len) xs, e)
+
+    held-is : entriesFrom s entries ≡ held
+    held-is =
+        let e : min (s - h .«first_index») (h .len) ≡ s - h .«first_index» = omega arith in
+        rw (from-window s (h .«first_index») (h .len) xs, e)
+
+    lent-is : entriesFrom (h .«first_index») list ≡ lent
+    lent-is =
+        let e : min (h .«first_index» - s) (length rows / 8) ≡ h .«first_index» - s = omega arith in
+        let d : s + (h .«first_index» - s) ≡ h .«first_index» + (s - h .«first_index») = omega arith in
+        rw (from-window (h .«first_index») s (length rows / 8) rows, e, d)
+
+    by-rows : (keys : Map (List ℕ) Held) (counted : Bool)
+        → rewritten gate list (tableOf h xs keys counted)
+        ≡ andThen
+        (cond (orElse false (λ (e : EntryIndex). not (isRewrite e)) (last before))
+        (refuse appendLeft)
+        (cond (meetsRewrite gate (stopsAt gate held lent)) (refuse alreadyRewritten) (ok (before ++ replaced gate held lent))))
+        (λ es. ok (withEntries es (tableOf h xs keys counted)))
+    by-rows keys counted =
+        by-overlap keys counted (omega arith) (omega arith)
+        ∙ rw (before-is, held-is, lent-is, overlap-some gate before (h .«first_index» + p) (h .len - p) (h .«first_index» + p) (length rows / 8 - q) (drop (p * 8) xs) (drop (q * 8) rows) (omega arith) (omega arith))
+
+    -- the entry before it
+    append-before : h .«rewrite_count» < p → orElse false (λ (e : EntryIndex). not (isRewrite e)) (last before) ≡ true
+    unfolding orElse
+    append-before l =
+        rw (
+          last-window (h .«first_index») p xs (omega arith),
+          rowAt-append (h .«first_index») xs (p - 1) (w .appended (p - 1) (omega arith) (omega arith)),
+        )
+
+    rewrite-before : p ≤ h .«rewrite_count» → orElse false (λ (e : EntryIndex). not (isRewrite e)) (last before) ≡ false
+    unfolding orElse last window
+    rewrite-before l =
+        elim (decLt 0 p) [
+          | yes b ↦
+              rw (
+                last-window (h .«first_index») p xs b,
+                rowAt-rewrite (h .«first_index») xs (p - 1) (w .rewritten (p - 1) (omega arith) (omega arith)),
+              )
+          | no b ↦ (let e : p ≡ 0 = omega arith in rw e)
+        ]
+
+    pub rewrite-left : h .«rewrite_count» < p → Rewriting gate h xs s rows AppendLeft xs
+    unfolding andThen
+    rewrite-left l = record { rule = λ keys counted. rw (by-rows keys counted, append-before l); laid = refl; wf = w }
+
+    pub rewrite-met : p ≤ h .«rewrite_count» → meetsRewrite gate (stopsAt gate held lent) ≡ true → Rewriting gate h xs s rows AlreadyRewritten xs
+    unfolding andThen
+    rewrite-met l e = record { rule = λ keys counted. rw (by-rows keys counted, rewrite-before l, e); laid = refl; wf = w }
+
+    -- k rows of the list laid in
+    module _ (k : ℕ) (r : Run gate (h .«first_index» + p) (drop (p * 8) xs) (min (h .len - p) (length rows / 8 - q)) k) (l : Lent 1 s rows)
+        (ys : List ℕ) (d : ys ≡ put xs (p * 8) (part (q * 8) (k * 8) rows)) where
+      laid-length : length (part (q * 8) (k * 8) rows) ≡ k * 8
+      laid-length = length-part (q * 8) (k * 8) rows (omega (arith, l .whole, r .most))
+
+      laid-rows : window (h .«first_index» + p) k (part (q * 8) (k * 8) rows) ≡ window (h .«first_index» + p) k (drop (q * 8) rows)
+      laid-rows =
+          window-same (h .«first_index» + p) k (part (q * 8) (k * 8) rows) (drop (q * 8) rows)
+          (λ i b. rw (getD-part (q * 8) (k * 8) rows i 0 b, getD-drop (q * 8) rows i 0))
+
+      entries-after : window (h .«first_index») (h .len) ys ≡ before ++ replaced gate held lent
+      entries-after =
+          rw (
+            d,
+            window-lay (h .«first_index») (h .len) p k xs (part (q * 8) (k * 8) rows) laid-length (omega (arith, r .most)) (w .room),
+            laid-rows,
+            replaced-run gate (h .«first_index» + p) (h .len - p) (length rows / 8 - q) k (drop (p * 8) xs) (drop (q * 8) rows) r,
+          )
+
+      part-after : ys ≡ replacedPart gate h xs s rows
+      unfolding replacedPart
+      part-after =
+          rw (held-is, lent-is, moved-run gate (h .«first_index» + p) (h .len - p) (length rows / 8 - q) k (drop (p * 8) xs) (drop (q * 8) rows) r) d
+
+      -- the rows before, those laid in, and those behind
+      row-before : {b : ℕ} (i : ℕ) → i < p → Row b xs i → Row b ys i
+      row-before i a = row-moved xs ys i i (λ j e. rw d (getD-put-before xs (p * 8) (part (q * 8) (k * 8) rows) (i * 8 + j) 0 (omega arith) (omega (arith, w .room))))
+
+      row-behind : {b : ℕ} (i : ℕ) → p + k ≤ i → Row b xs i → Row b ys i
+      row-behind i a =
+          row-moved xs ys i i (λ j e. rw d (getD-put-after xs (p * 8) (part (q * 8) (k * 8) rows) (i * 8 + j) 0 (omega (arith, laid-length)) (omega (arith, w .room))))
+
+      row-laid : (i : ℕ) → p ≤ i → i < p + k → Row 1 ys i
+      row-laid i a b =
+          row-moved rows ys i (q + (i - p))
+          (λ j e.
+          let z : p * 8 + ((i - p) * 8 + j) ≡ i * 8 + j = omega arith in
+          let y : q * 8 + ((i - p) * 8 + j) ≡ (q + (i - p)) * 8 + j = omega arith in
+          let x : getD (put xs (p * 8) (part (q * 8) (k * 8) rows)) (p * 8 + ((i - p) * 8 + j)) 0 ≡ getD (part (q * 8) (k * 8) rows) ((i - p) * 8 + j) 0 =
+          getD-put-in xs (p * 8) (part (q * 8) (k * 8) rows) ((i - p) * 8 + j) 0 (omega (arith, laid-length)) (omega (arith, w .room)) in
+          rw d (rw z at x ∙ getD-part (q * 8) (k * 8) rows ((i - p) * 8 + j) 0 (omega arith) ∙ rw y))
+          (l .are (q + (i - p)) (omega arith) (omega (arith, r .most)))
+
+      done : p ≤ h .«rewrite_count» → (n : ℕ) → n ≡ max (h .«rewrite_count») (p + k) → Rewriting gate h xs s rows (Done (counting n h)) ys
+      unfolding andThen withEntries tableOf
+      done a n e =
+          record {
+            rule = λ keys counted.
+                rw (
+                  by-rows keys counted,
+                  rewrite-before a,
+                  stops-run gate (h .«first_index» + p) (h .len - p) (length rows / 8 - q) k (drop (p * 8) xs) (drop (q * 8) rows) r,
+                  entries-after,
+                );
+            laid = part-after;
+            wf =
+                record {
+                  room = rw (d, length-put xs (p * 8) (part (q * 8) (k * 8) rows) (omega (arith, laid-length, w .room, r .most))) (w .room);
+                  front = omega (arith, w .front, r .most);
+                  index = w .index;
+                  rewritten = λ i b c.
+                      elim (decLt i p) [
+                        | yes m ↦ row-before i m (w .rewritten i b (omega arith))
+                        | no m ↦
+                            elim (decLt i (p + k)) [
+                              | yes g ↦ row-laid i (omega arith) g
+                              | no g ↦ row-behind i (omega arith) (w .rewritten i b (omega arith))
+                            ]
+                      ];
+                  appended = λ i b c. row-behind i (omega arith) (w .appended i (omega arith) c);
+                };
+          }
+
+    pub rewrite-done : (k : ℕ) (g : Head) (ys : List ℕ) → Lent 1 s rows → p ≤ h .«rewrite_count»
+        → Run gate (h .«first_index» + p) (drop (p * 8) xs) (min (h .len - p) (length rows / 8 - q)) k
+        → Replaced h xs rows p q k g ys → Rewriting gate h xs s rows (Done g) ys
+    rewrite-done k g ys l a r d = rw (d .head) (done k r l ys (d .laid) a (max (h .«rewrite_count») (p + k)) refl)
+
+    pub rewrite-already : p ≤ h .«rewrite_count» → Met gate (h .«first_index» + p) (drop (p * 8) xs) → Rewriting gate h xs s rows AlreadyRewritten xs
+    rewrite-already l m =
+        rewrite-met l
+        (rw (stops-first gate (h .«first_index» + p) (h .len - p) (length rows / 8 - q) (drop (p * 8) xs) (drop (q * 8) rows) (omega arith) (omega arith) (m .stop)) (m .meets))
+
+-- ---- `replace`: the places by their names
+
+module _ (gate : Option ℕ) (h : Head) (xs : List ℕ) (s : ℕ) (rows : List ℕ) (w : Wf h xs) (p q : ℕ) (a : p ≡ s - h .«first_index») (b : q ≡ h .«first_index» - s)
+    (u : p < h .len) (v : h .«first_index» - s < length rows / 8) (l : p ≤ h .«rewrite_count») where
+  pub replace-already : Met gate (h .«first_index» + p) (drop (p * 8) xs) → Rewriting gate h xs s rows AlreadyRewritten xs
+  replace-already m = rewrite-already gate h xs s rows w (rw a at u) v (rw a at l) (rw a at m)
+
+  pub replace-done : (c k : ℕ) (g : Head) (ys : List ℕ) → c ≡ min (h .len - p) (length rows / 8 - q) → Lent 1 s rows
+      → Run gate (h .«first_index» + p) (drop (p * 8) xs) c k → Replaced h xs rows p q k g ys → Rewriting gate h xs s rows (Done g) ys
+  replace-done c k g ys e n r d = rewrite-done gate h xs s rows w (rw a at u) v k g ys n (rw a at l) (rw (e, a, b) at r) (rw (a, b) at d)
+
+-- ---- how many entries are replaced
+
+module _ (h : Head) (xs : List ℕ) (w : Wf h xs) (p c : ℕ) (l : p + c ≤ h .len) where
+  -- row i from place p on, in each of the two runs
+  in-rewrites : (i : ℕ) → p + i < h .«rewrite_count» → isRewrite (rowAt (h .«first_index» + p) (drop (p * 8) xs) i) ≡ true
+  in-rewrites i b = rw (rowAt-drop (h .«first_index») p xs i) (rowAt-rewrite (h .«first_index») xs (p + i) (w .rewritten (p + i) (omega arith) b))
+
+  in-appends : (i : ℕ) → h .«rewrite_count» ≤ p + i → i < c → isRewrite (rowAt (h .«first_index» + p) (drop (p * 8) xs) i) ≡ false
+  in-appends i b d = rw (rowAt-drop (h .«first_index») p xs i) (rowAt-append (h .«first_index») xs (p + i) (w .appended (p + i) b (omega arith)))
+
+  pub run-ungated : (k : ℕ) → k ≡ min c (h .«rewrite_count» - p) → Run none (h .«first_index» + p) (drop (p * 8) xs) c k
+  unfolding replaces meetsRewrite
+  run-ungated k e =
+      record {
+        all = λ i b. in-rewrites i (omega arith);
+        most = omega arith;
+        stop = λ b. in-appends k (omega arith) b;
+        meets = λ b. refl;
+      }
+
+  pub met-gated : (gate : ℕ) → p < h .«rewrite_count» → Met (some gate) (h .«first_index» + p) (drop (p * 8) xs)
+  unfolding replaces meetsRewrite orElse
+  met-gated gate b =
+      let e = in-rewrites 0 (omega arith) in
+      record { stop = rw e; meets = e }
+
+  held-seq : (i : ℕ) → i < c → fileOf (rowAt (h .«first_index» + p) (drop (p * 8) xs) i) .seq ≡ getD (drop (p * 8) xs) (i * 8 + 2) 0
+  held-seq i b = row-seq (h .«first_index» + p) (drop (p * 8) xs) i (any-drop xs p i (held-row h xs w (p + i) (omega arith)))
+
+  pub run-gated : (gate k : ℕ) → h .«rewrite_count» ≤ p → k ≡ countBefore gate c (drop (p * 8) xs) → k ≤ c → Run (some gate) (h .«first_index» + p) (drop (p * 8) xs) c k
+  unfolding replaces meetsRewrite orElse
+  run-gated gate k a e d =
+      record {
+        all = λ i b.
+            rw (
+              in-appends i (omega arith) (omega arith),
+              held-seq i (omega arith),
+              le-leb (getD (drop (p * 8) xs) (i * 8 + 2) 0) gate (before-all gate c (drop (p * 8) xs) i (omega arith)),
+            );
+        most = d;
+        stop = λ b.
+            rw (
+              in-appends k (omega arith) b,
+              held-seq k b,
+              lt-leb (getD (drop (p * 8) xs) (k * 8 + 2) 0) gate (rw (← e) at (before-next gate c (drop (p * 8) xs) (omega arith))),
+            );
+        meets = λ b. in-appends k (omega arith) b;
+      }
+
+-- ---- `lay_replaced`
+
+module _ (h : Head) (xs rows : List ℕ) (p q k : ℕ) (ys : List ℕ) (d : ys ≡ put xs (p * 8) (take ((q + k) * 8 - q * 8) (drop (q * 8) rows))) where
+  laid-part : ys ≡ put xs (p * 8) (part (q * 8) (k * 8) rows)
+  unfolding part
+  laid-part =
+      let e : (q + k) * 8 - q * 8 ≡ k * 8 = omega arith in
+      rw e at d
+
+  pub lay-more : h .«rewrite_count» < p + k → Replaced h xs rows p q k (counting (p + k) h) ys
+  lay-more l =
+      let e : p + k ≡ max (h .«rewrite_count») (p + k) = omega arith in
+      record { head = ap (λ (n : ℕ). counting n h) e; laid = laid-part }
+
+  pub lay-same : p + k ≤ h .«rewrite_count» → Replaced h xs rows p q k h ys
+  lay-same l =
+      let e : h .«rewrite_count» ≡ max (h .«rewrite_count») (p + k) = omega arith in
+      record { head = ap (λ (n : ℕ). counting n h) e; laid = laid-part }
