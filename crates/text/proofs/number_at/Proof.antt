@@ -1,12 +1,12 @@
--- `hash_vectors::vector::number_at` meets its contract. The loop's invariant: the bytes passed are digits of the value so far. Assumes nothing.
+-- `text::number_at` meets its contract. The loop's invariant: the bytes passed are digits of the value so far. Assumes nothing.
 use borrow.Author.Needs.{needs}
 use native.Mathlib.Omega.{arith}
 use Prim.Native.Nat.{_-_, _≤_}
 use lib.ListN.{length}
-use Rattle.hash_vectors.specs.Text.{Decimal}
-use Rattle.hash_vectors.proofs.Digits.{start, next}
-use Rattle.hash_vectors.proofs.vector.number_at.Statement.{statement}
-use Rattle.hash_vectors.proofs.vector.number_at.Tie as tie
+use Rattle.text.specs.Decimals.{Decimal}
+use Rattle.text.proofs.Digits.{start, next}
+use Rattle.text.proofs.number_at.Statement.{statement}
+use Rattle.text.proofs.number_at.Tie as tie
 
 abbrev Inv-loop : tie.InvT-loop
 Inv-loop text at end value₀ i₀ value i = (at ≤ i) × (i ≤ length text) × Decimal text at (i - at) value

@@ -4,7 +4,7 @@ use mathlib.Core.List.{List}
 use Prim.Native.Nat.{ℕ, suc, _+_, _*_, _-_, _≤_}
 use native.Mathlib.Omega.{arith}
 use lib.ListN.{getD}
-use Rattle.hash_vectors.specs.Text.{Decimal, none, more}
+use Rattle.text.specs.Decimals.{Decimal, none, more}
 
 module _ (s : List ℕ) (at : ℕ) where
   -- before the first digit

@@ -1,0 +1,180 @@
+-- `batch_cases::case::run` meets its contract. Assumes nothing.
+use native.Mathlib.Omega.{arith}
+use borrow.Author.Needs.{needs}
+use Rattle.batch_cases.proofs.case.run.Statement.{statement}
+use Rattle.batch_cases.proofs.case.run.Tie as tie
+
+array-read-items-len : tie.Need-array-read-items-len
+array-read-items-len c = search needs
+
+array-read-entries-len : tie.Need-array-read-entries-len
+array-read-entries-len c = search needs
+
+array-read-bytes-len : tie.Need-array-read-bytes-len
+array-read-bytes-len c = search needs
+
+returns : tie.Need-returns
+returns c = search needs
+
+returns-2 : tie.Need-returns-2
+returns-2 c = search needs
+
+returns-3 : tie.Need-returns-3
+returns-3 c = search needs
+
+read-numbers-requires : tie.Need-read-numbers-requires
+read-numbers-requires c κs = search needs
+
+enum-known-after-items : tie.Need-enum-known-after-items
+enum-known-after-items c = search needs
+
+enum-told : tie.Need-enum-told
+enum-told c = search needs
+
+same-length : tie.Need-same-length
+same-length c = search needs
+
+returns-4 : tie.Need-returns-4
+returns-4 c = search needs
+
+read-numbers-requires-2 : tie.Need-read-numbers-requires-2
+read-numbers-requires-2 c κs =
+    let past = c .before .before .before .before .before .before in
+    let a = (rw (c .before .before .after-items .given .1) at (past .read-numbers .ensures)) in
+    omega (arith, past .before .before .before .before .if1 .left, past .before .before .before .if2 .left, past .before .before .if3 .left)
+
+enum-known-after-entries : tie.Need-enum-known-after-entries
+enum-known-after-entries c = search needs
+
+enum-told-2 : tie.Need-enum-told-2
+enum-told-2 c = search needs
+
+same-length-2 : tie.Need-same-length-2
+same-length-2 c = search needs
+
+same-length-3 : tie.Need-same-length-3
+same-length-3 c = search needs
+
+returns-5 : tie.Need-returns-5
+returns-5 c = search needs
+
+read-bytes-requires : tie.Need-read-bytes-requires
+read-bytes-requires c κs =
+    let past = c .before .before .before .before .before .before in
+    let a = (rw (c .before .before .after-entries .given .1) at (past .read-numbers2 .ensures)) in
+    omega (arith, past .before .before .before .before .before .before .before .before .before .before .before .if1 .left, past .before .before .before .before .before .before .before .before .before .before .if2 .left, past .before .before .before .before .before .before .before .before .before .if3 .left)
+
+enum-known-end : tie.Need-enum-known-end
+enum-known-end c = search needs
+
+enum-told-3 : tie.Need-enum-told-3
+enum-told-3 c = search needs
+
+same-length-4 : tie.Need-same-length-4
+same-length-4 c = search needs
+
+same-length-5 : tie.Need-same-length-5
+same-length-5 c = search needs
+
+same-length-6 : tie.Need-same-length-6
+same-length-6 c = search needs
+
+returns-6 : tie.Need-returns-6
+returns-6 c = search needs
+
+array-read-call-of : tie.Need-array-read-call-of
+array-read-call-of c = search needs
+
+call-of-requires : tie.Need-call-of-requires
+call-of-requires c κs = search needs
+
+answer-of-requires : tie.Need-answer-of-requires
+answer-of-requires c κs =
+    let past = c .before .before .before .before .before .before .before .before .before in
+    omega (arith, past .before .before .before .before .before .before .before .before .before .before .before .before .before .before .before .before .before .before .if1 .left, past .before .before .before .before .before .before .before .before .before .before .before .before .before .before .before .before .before .if2 .left, past .before .before .before .before .before .before .before .before .before .before .before .before .before .before .before .before .if3 .left, past .before .before .before .before .before .before .before .before .before .before .before .before .before .before .read-numbers .kept, past .before .before .before .before .before .before .before .read-numbers2 .kept, past .read-bytes .kept)
+
+array-read-is-expected : tie.Need-array-read-is-expected
+array-read-is-expected c = search needs
+
+array-read-is-expected-2 : tie.Need-array-read-is-expected-2
+array-read-is-expected-2 c = search needs
+
+is-expected-requires : tie.Need-is-expected-requires
+is-expected-requires c κs = search needs
+
+same-length-7 : tie.Need-same-length-7
+same-length-7 c = search needs
+
+same-length-8 : tie.Need-same-length-8
+same-length-8 c = search needs
+
+same-length-9 : tie.Need-same-length-9
+same-length-9 c = search needs
+
+returns-7 : tie.Need-returns-7
+returns-7 c =
+    let past = c .before .before .before .before .before .before .before .before in
+    let a = (rw (past .before .before .before .before .before .before .before .before .before .before .before .before .before .before .after-items .given .1) at (past .before .before .before .before .before .before .before .before .before .before .before .before .before .before .before .before .before .before .read-numbers .ensures)) in
+    let b = (rw (past .before .before .before .before .before .before .before .after-entries .given .1) at (past .before .before .before .before .before .before .before .before .before .before .before .read-numbers2 .ensures)) in
+    let d = (rw (past .end .given .1) at (past .before .before .before .before .read-bytes .ensures)) in
+    omega arith
+
+same-length-10 : tie.Need-same-length-10
+same-length-10 c = search needs
+
+same-length-11 : tie.Need-same-length-11
+same-length-11 c = search needs
+
+same-length-12 : tie.Need-same-length-12
+same-length-12 c = search needs
+
+returns-8 : tie.Need-returns-8
+returns-8 c =
+    let past = c .before .before .before .before .before .before .before .before in
+    let a = (rw (past .before .before .before .before .before .before .before .before .before .before .before .before .before .before .after-items .given .1) at (past .before .before .before .before .before .before .before .before .before .before .before .before .before .before .before .before .before .before .read-numbers .ensures)) in
+    let b = (rw (past .before .before .before .before .before .before .before .after-entries .given .1) at (past .before .before .before .before .before .before .before .before .before .before .before .read-numbers2 .ensures)) in
+    let d = (rw (past .end .given .1) at (past .before .before .before .before .read-bytes .ensures)) in
+    omega arith
+
+pub run-spec : {M : Type 1} → statement M
+run-spec =
+    tie.close
+    (tie.spec
+    array-read-items-len
+    array-read-entries-len
+    array-read-bytes-len
+    returns
+    returns-2
+    returns-3
+    read-numbers-requires
+    enum-known-after-items
+    enum-told
+    same-length
+    returns-4
+    read-numbers-requires-2
+    enum-known-after-entries
+    enum-told-2
+    same-length-2
+    same-length-3
+    returns-5
+    read-bytes-requires
+    enum-known-end
+    enum-told-3
+    same-length-4
+    same-length-5
+    same-length-6
+    returns-6
+    array-read-call-of
+    call-of-requires
+    answer-of-requires
+    array-read-is-expected
+    array-read-is-expected-2
+    is-expected-requires
+    same-length-7
+    same-length-8
+    same-length-9
+    returns-7
+    same-length-10
+    same-length-11
+    same-length-12
+    returns-8)

@@ -1,0 +1,70 @@
+-- `batch_cases::case::run_at` meets its contract. Assumes nothing.
+use native.Mathlib.Omega.{arith}
+use lib.ListN.{length}
+use borrow.Author.Needs.{needs}
+use Rattle.batch_cases.proofs.Moves.{moves-on}
+use Rattle.batch_cases.proofs.case.run_at.Statement.{statement}
+use Rattle.batch_cases.proofs.case.run_at.Tie as tie
+
+skip-line-requires : tie.Need-skip-line-requires
+skip-line-requires c κs = search needs
+
+enum-known-named : tie.Need-enum-known-named
+enum-known-named c = search needs
+
+enum-told : tie.Need-enum-told
+enum-told c = search needs
+
+returns : tie.Need-returns
+returns c = search needs
+
+slice-aggregate-read-numbers : tie.Need-slice-aggregate-read-numbers
+slice-aggregate-read-numbers c = search needs
+
+read-numbers-requires : tie.Need-read-numbers-requires
+read-numbers-requires c κs = let a = (rw (c .before .before .named .given .1) at (c .before .before .before .before .skip-line .ensures)) in omega arith
+
+enum-known-headed : tie.Need-enum-known-headed
+enum-known-headed c = search needs
+
+enum-told-2 : tie.Need-enum-told-2
+enum-told-2 c = search needs
+
+returns-2 : tie.Need-returns-2
+returns-2 c = search needs
+
+slice-aggregate-run : tie.Need-slice-aggregate-run
+slice-aggregate-run c = search needs
+
+slice-aggregate-run-2 : tie.Need-slice-aggregate-run-2
+slice-aggregate-run-2 c = search needs
+
+slice-aggregate-run-3 : tie.Need-slice-aggregate-run-3
+slice-aggregate-run-3 c = search needs
+
+run-requires : tie.Need-run-requires
+run-requires c κs = let a = (rw (c .before .before .before .before .headed .given .1) at (c .before .before .before .before .before .before .before .read-numbers .ensures)) in omega arith
+
+returns-3 : tie.Need-returns-3
+returns-3 c =
+    let args = c .before .before .before .before .before .before .before .before .before .before .before .before .before .before .before .before .before .before .args in
+    let a = (rw (c .before .before .before .before .before .before .before .before .before .before .before .before .before .before .named .given .1) at (c .before .before .before .before .before .before .before .before .before .before .before .before .before .before .before .before .skip-line .ensures)) in let b = (rw (c .before .before .before .before .before .before .before .before .headed .given .1) at (c .before .before .before .before .before .before .before .before .before .before .before .read-numbers .ensures)) in moves-on (args .at) (c .before .before .before .before .before .before .before .before .headed .given .0 .0) (length (args .text .now)) (c .before .before .before .run .result) (omega arith) (c .before .before .before .run .ensures)
+
+pub run-at-spec : {M : Type 1} → statement M
+run-at-spec =
+    tie.close
+    (tie.spec
+    skip-line-requires
+    enum-known-named
+    enum-told
+    returns
+    slice-aggregate-read-numbers
+    read-numbers-requires
+    enum-known-headed
+    enum-told-2
+    returns-2
+    slice-aggregate-run
+    slice-aggregate-run-2
+    slice-aggregate-run-3
+    run-requires
+    returns-3)

@@ -1,0 +1,25 @@
+-- `log_batch::checks::mark_for` meets its contract. Assumes nothing.
+use mathlib.Core.Path.{sym, _∙_}
+use borrow.Author.Needs.{needs}
+use borrow.Author.Tests.{not-true, not-false}
+use Rattle.log_batch.specs.Judged.{markAs, markFor}
+use Rattle.log_batch.proofs.checks.mark_for.Statement.{statement}
+use Rattle.log_batch.proofs.checks.mark_for.Tie as tie
+
+is-rewrite-replay-requires : tie.Need-is-rewrite-replay-requires
+is-rewrite-replay-requires c κs = search needs
+
+returns : tie.Need-returns
+unfolding markAs markFor
+returns c = rw (sym (c .before .is-rewrite-replay .ensures) ∙ not-true _ (c .if1 .taken))
+
+first-mark-requires : tie.Need-first-mark-requires
+first-mark-requires c κs = search needs
+
+returns-2 : tie.Need-returns-2
+unfolding markFor
+returns-2 c = rw (sym (c .before .before .is-rewrite-replay .ensures) ∙ not-false _ (c .before .if1 .left)) (c .first-mark .ensures)
+
+pub mark-for-spec : {M : Type 1} → statement M
+mark-for-spec =
+    tie.close (tie.spec is-rewrite-replay-requires returns first-mark-requires returns-2)

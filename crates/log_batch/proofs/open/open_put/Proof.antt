@@ -1,0 +1,55 @@
+-- `log_batch::open::open_put` meets its contract. Assumes nothing.
+use mathlib.Core.Path.{sym, _∙_}
+use borrow.Author.Needs.{needs}
+use borrow.Author.Tests.{not-true, not-false}
+use Rattle.log_batch.specs.Lent.{itemIf, openedPut}
+use Rattle.log_batch.proofs.open.open_put.Statement.{statement}
+use Rattle.log_batch.proofs.open.open_put.Tie as tie
+
+shared-slice-read-key-at : tie.Need-shared-slice-read-key-at
+shared-slice-read-key-at c = search needs
+
+shared-slice-read-key-len : tie.Need-shared-slice-read-key-len
+shared-slice-read-key-len c = search needs
+
+shared-slice-read-raft-group-id : tie.Need-shared-slice-read-raft-group-id
+shared-slice-read-raft-group-id c = search needs
+
+within-requires : tie.Need-within-requires
+within-requires c κs = search needs
+
+returns : tie.Need-returns
+unfolding openedPut itemIf
+returns c = rw (sym (c .before .within .ensures) ∙ not-true _ (c .if1 .taken))
+
+value-fits-requires : tie.Need-value-fits-requires
+value-fits-requires c κs = search needs
+
+returns-2 : tie.Need-returns-2
+unfolding openedPut itemIf
+returns-2 c = rw (sym (c .before .before .before .within .ensures) ∙ not-false _ (c .before .before .if1 .left), sym (c .before .value-fits .ensures) ∙ not-true _ (c .if2 .taken))
+
+value-at-requires : tie.Need-value-at-requires
+value-at-requires c κs = search needs
+
+file-at-requires : tie.Need-file-at-requires
+file-at-requires c κs = search needs
+
+returns-3 : tie.Need-returns-3
+unfolding openedPut itemIf
+returns-3 c = rw (sym (c .before .before .before .before .before .within .ensures) ∙ not-false _ (c .before .before .before .before .if1 .left), sym (c .before .before .before .value-fits .ensures) ∙ not-false _ (c .before .before .if2 .left), c .before .value-at .ensures, c .file-at .ensures)
+
+pub open-put-spec : {M : Type 1} → statement M
+open-put-spec =
+    tie.close
+    (tie.spec
+    shared-slice-read-key-at
+    shared-slice-read-key-len
+    shared-slice-read-raft-group-id
+    within-requires
+    returns
+    value-fits-requires
+    returns-2
+    value-at-requires
+    file-at-requires
+    returns-3)

@@ -1,0 +1,3 @@
+-- What the contracts of `log_batch` cite.
+pub mod Lent
+pub mod Judged
