@@ -3,5 +3,7 @@ pub mod Written
 pub mod Puts
 pub mod Found
 pub mod Rewrites
+pub mod Selected
+pub mod Answers
 pub mod Queues
 pub mod Merges

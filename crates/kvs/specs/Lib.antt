@@ -8,3 +8,4 @@ pub mod Places
 pub mod PlaceLaws
 pub mod Calls
 pub mod Merge
+pub mod Lists

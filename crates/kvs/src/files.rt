@@ -12,7 +12,7 @@ ghost use Rattle.rules.specs.Items.{sameQueue};
 ghost use Rattle.kvs.specs.Calls.{leastAs, LeastSeq, CountOf};
 
 // Whether a row's queue number is that of the queue.
-fn is_of(number: u64, queue: LogQueue) -> bool
+pub fn is_of(number: u64, queue: LogQueue) -> bool
     ensures { λ r. ⌜ r ≡ sameQueue (queueAt number) queue ⌝ }
 {
     match queue {

@@ -1,0 +1,28 @@
+-- `kvs::fetch::bounds::from_start` meets its contract. Assumes nothing.
+use mathlib.Core.Path.{_≡_, refl, sym, ap, _∙_}
+use native.Mathlib.Omega.{arith}
+use borrow.Author.Needs.{needs}
+use Rattle.maps.specs.Lists.{orElse}
+use Rattle.kvs.specs.Calls.{given}
+use Rattle.kvs.proofs.fetch.bounds.from_start.Statement.{statement}
+use Rattle.kvs.proofs.fetch.bounds.from_start.Tie as tie
+use Rattle.kvs.proofs.fetch.bounds.from_start.Reads as reads
+use Rattle.kvs.proofs.fetch.bounds.from_start.Lts as lts
+use Rattle.kvs.proofs.fetch.bounds.is_below.Reads as is-below-reads
+
+-- src/fetch/bounds.rt:25:17
+is-below-requires : tie.Need-is-below-requires
+is-below-requires c κs = search needs
+
+-- src/fetch/bounds.rt:25:9
+returns : tie.Need-returns
+unfolding given orElse
+returns c = rw (c .before .if1 .taken, c .is-below .ensures)
+
+-- src/fetch/bounds.rt:21:1
+returns-2 : tie.Need-returns-2
+unfolding given orElse
+returns-2 c = rw (c .if1 .left)
+
+pub from-start-spec : {M : Type 1} → statement M
+from-start-spec = tie.close (tie.spec is-below-requires returns returns-2)

@@ -1,0 +1,61 @@
+// The bounds of a scan.
+use cells::Order;
+ghost use mathlib.Core.Path.{_≡_};
+ghost use mathlib.Core.Bool.{true, not};
+ghost use Rattle.maps.specs.Lists.{orElse};
+ghost use Rattle.maps.specs.Maps.{bytesBelow};
+ghost use Rattle.rules.specs.TableQueries.{inBounds, startAboveEnd};
+ghost use Rattle.kvs.specs.Calls.{given};
+
+fn is_below(a: &[u8], b: &[u8]) -> bool
+    ensures { λ r. ⌜ r ≡ bytesBelow (now (a .entry)) (now (b .entry)) ⌝ }
+{
+    match cells::compare_u8(a, b) {
+        Order::Less => true,
+        Order::Equal => false,
+        Order::Greater => false,
+    }
+}
+
+// A key that the start, if there is one, takes in.
+fn from_start(key: &[u8], started: bool, start: &[u8]) -> bool
+    ensures { λ r. ⌜ r ≡ orElse true (λ s. not (bytesBelow (now (key .entry)) s)) (given started (now (start .entry))) ⌝ }
+{
+    if started {
+        return !is_below(key, start);
+    }
+    true
+}
+
+// A key that the end, if there is one, does not leave out.
+fn to_end(key: &[u8], ended: bool, end: &[u8]) -> bool
+    ensures { λ r. ⌜ r ≡ orElse true (bytesBelow (now (key .entry))) (given ended (now (end .entry))) ⌝ }
+{
+    if ended {
+        return is_below(key, end);
+    }
+    true
+}
+
+// Whether a key is within the bounds.
+pub fn in_bounds(key: &[u8], started: bool, start: &[u8], ended: bool, end: &[u8]) -> bool
+    ensures { λ r. ⌜ r ≡ inBounds (given started (now (start .entry))) (given ended (now (end .entry))) (now (key .entry)) ⌝ }
+{
+    if from_start(key, started, start) {
+        return to_end(key, ended, end);
+    }
+    false
+}
+
+// Whether both bounds are there and the start is above the end.
+pub fn start_above_end(started: bool, start: &[u8], ended: bool, end: &[u8]) -> bool
+    ensures { λ r. ⌜ r ≡ startAboveEnd (given started (now (start .entry))) (given ended (now (end .entry))) ⌝ }
+{
+    if !started {
+        return false;
+    }
+    if !ended {
+        return false;
+    }
+    is_below(end, start)
+}
