@@ -319,8 +319,9 @@ fn replay_fresh(text: &[u8]) {
     );
 }
 
-fn main() {
-    let fd = os::open_read(b"memtable.txt");
+// Replays the calls of a file and writes how the answers compare.
+fn replay_file(name: &[u8]) {
+    let fd = os::open_read(name);
     if fd < 0 {
         say(b"memtable: no file of vectors\n");
         return;
@@ -333,4 +334,9 @@ fn main() {
         return;
     }
     replay_fresh(&text[..length]);
+}
+
+fn main() {
+    replay_file(b"bench.txt");
+    replay_file(b"memtable.txt");
 }
