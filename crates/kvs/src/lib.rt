@@ -15,6 +15,8 @@ pub use files::least_seq;
 pub use merge::merge_keys;
 use pipe_log::Gate;
 use pipe_log::LogQueue;
+use rows::ROW_BYTES;
+use rows::ROW_WIDTH;
 use rows::close_row;
 use rows::insert_row;
 use rows::key_at;
@@ -90,10 +92,10 @@ pub fn put(
             Outcome::Done(n)
         }
         Place::Before(i) => {
-            if rows.len() - n * 4 < 4 {
+            if rows.len() - n * ROW_WIDTH < ROW_WIDTH {
                 return Outcome::Full;
             }
-            if bytes.len() - n * 64 < 64 {
+            if bytes.len() - n * ROW_BYTES < ROW_BYTES {
                 return Outcome::Full;
             }
             insert_row(n, rows, bytes, i, key, value, queue, seq);
@@ -147,8 +149,8 @@ pub fn rewrite_key(
     let Place::At(i) = find(n, rows, bytes, key) else {
         return Rewritten::Accepted;
     };
-    let queue = rows[i * 4 + 2];
-    let held = rows[i * 4 + 3];
+    let queue = rows[i * ROW_WIDTH + 2];
+    let held = rows[i * ROW_WIDTH + 3];
     if queue == 0 {
         let Gate::Seq(highest) = gate else {
             return Rewritten::Accepted;

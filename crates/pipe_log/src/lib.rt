@@ -47,6 +47,9 @@ pub enum Bound {
     At(u64),
 }
 
+// Numbers in the row of an entry record (`specs/Rows.antt`).
+pub const ENTRY_WIDTH: usize = 8;
+
 // Location of a log entry: document 01's entry record.
 pub struct EntryIndex {
     pub index: u64,
