@@ -60,12 +60,12 @@ made-pass Made.started before after e p = Pass.done
 made-pass (Made.replayed {bs = bs} {c = c} b d m h) before after e p =
     let q = made-pass m before (b ∷ after) e (rw (append-assoc bs (b ∷ []) after) at p) in
     let s = stretch before (bs ++ (b ∷ [])) after e p in
-    rw (ok-inj (sym h ∙ next-batch bs b c (s .0) q (s .1))) (s .1)
+    rw (← (ok-inj (sym h ∙ next-batch bs b c (s .0) q (s .1)))) at (s .1)
 made-pass (Made.mergedInto {s = older} {t = newer} {c = c} {d = d} x m n h) before after e p =
     let q = made-pass m before (batchesOf newer ++ after) e (rw (append-assoc (batchesOf older) (batchesOf newer) after) at p) in
     let r = made-pass n (before ++ batchesOf older) after e (rw (append-assoc (batchesOf older) (batchesOf newer) after, ← (append-assoc before (batchesOf older) (batchesOf newer ++ after))) at p) in
     let s = stretch before (batchesOf older ++ batchesOf newer) after e p in
-    rw (ok-inj (sym h ∙ next-merge (batchesOf older) (batchesOf newer) c d (s .0) q r (s .1))) (s .1)
+    rw (← (ok-inj (sym h ∙ next-merge (batchesOf older) (batchesOf newer) c d (s .0) q r (s .1)))) at (s .1)
 made-pass (Made.refusedReplay {c = c} b r m h) before after e p = rw (left-refused c (replay b c) r h) (made-pass m before after e p)
 made-pass (Made.refusedMerge {c = c} d r m h) before after e p = rw (left-refused c (merge d c) r h) (made-pass m before after e p)
 made-pass (Made.refusedJoin {c = c} d r m h) before after e p = rw (left-refused c (join d c) r h) (made-pass m before after e p)
