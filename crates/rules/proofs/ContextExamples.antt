@@ -1,6 +1,6 @@
 -- Facts that tell 01's rules of waiting parts, merge, join, kinds and live writes from others.
 use mathlib.Core.Path.{_≡_, refl}
-use mathlib.Core.Bool.{Bool, false}
+use mathlib.Core.Bool.{Bool, true, false}
 use mathlib.Core.List.{List, [], _∷_, _++_, map}
 use mathlib.Core.Option.{Option, none, some}
 use Prim.Native.Nat.{ℕ}
@@ -14,7 +14,7 @@ use Rattle.rules.specs.Table.{Span, Table}
 use Rattle.rules.specs.TableQueries.{KeyValue, scan}
 use Rattle.rules.specs.Context.{Part, Context, fresh}
 use Rattle.rules.specs.Calls.{replay, merge, join, append, rewrite}
-use Rattle.rules.specs.Queries.{inGroup, lentAfter, isEmpty, liveEntries, takeCleaned, afterTaking}
+use Rattle.rules.specs.Queries.{inGroup, answered, lentAfter, isEmpty, liveEntries, takeCleaned, afterTaking}
 use Rattle.rules.proofs.Opened.{opened}
 use Rattle.rules.proofs.Terms.{entry, several, item, keyPut, mark, batchOf, batch, part, recovered, merged, joined, emptyIndex, appendedTo, held, groupsIn, no, noAt}
 use Rattle.rules.proofs.Examples.{plain, valueAt}
@@ -83,6 +83,12 @@ oneHeld = joined (oneRun Rewrite 1 (listOf Rewrite 1 1 1 ∷ [])) (ok (fresh App
 
 abbrev pub rewrittenBy : Result Context → Batch → Result Context
 rewrittenBy r b = andThen r (rewrite none b)
+
+-- the keys that a scan of the keys 1, 2 and 3, of one byte each, answers
+abbrev pub scanned : Option (List ℕ) → Option (List ℕ) → Bool → ℕ → Result (List (List ℕ))
+scanned from to backwards count =
+    andThen (oneRun Append 1 (keyPut (1 ∷ []) [] Append 1 ∷ keyPut (2 ∷ []) [] Append 1 ∷ keyPut (3 ∷ []) [] Append 1 ∷ []))
+    (λ c. andThen (inGroup 7 (scan from to backwards count) c) (λ rows. ok (map (λ (r : KeyValue). r .key) rows)))
 
 -- a Put of "k" without value and file, and with a value v of one byte
 abbrev pub barePut : Content
@@ -187,9 +193,20 @@ pub record ContextExamples : Type 0 where
   pub rewritten-clean-leaves : held (rewrittenBy oneHeld (batch Rewrite 2 (command clean ∷ []))) ≡ ok (1 ∷ [])
   pub rewritten-clean-makes : groupsIn (rewrittenBy emptyIndex (batch Rewrite 2 (command clean ∷ []))) ≡ ok (7 ∷ [])
   pub live-below : appendedTo (joined (ok (fresh Rewrite)) (oneRun Append 1 (listOf Append 1 5 4 ∷ []))) (batch Append 2 (listOf Append 2 3 1 ∷ []) ∷ []) ≡ noAt 13 0
+  -- reserved keys meet none of 3 to 6: a Del in a live rewrite, a Put of an Append file in Rewrite replay
+  pub reserved-del-rewritten : groupsIn (rewrittenBy emptyIndex (batch Rewrite 2 (kv reservedKey del ∷ []))) ≡ ok []
+  pub reserved-other-queue : groupsIn (oneRun Rewrite 1 (keyPut reservedKey (0 ∷ 0 ∷ []) Append 1 ∷ [])) ≡ ok []
   -- a later Put gives the value and the file
   pub put-again : valueAt plain (oneRun Rewrite 1 (plainPut Rewrite 1 ∷ plainPut Rewrite 2 ∷ [])) ≡ ok (some (2 ∷ []))
   pub put-over-rewrite : liveIn (appendedTo (joined (oneRun Rewrite 1 (plainPut Rewrite 1 ∷ [])) (ok (fresh Append))) (batch Append 1 (plainPut Append 2 ∷ []) ∷ [])) ≡ ok (1 ∷ 0 ∷ [])
+  -- a scan takes its start and leaves its end out, runs either way up to a count, and is empty where they are the same
+  pub scan-bounds : scanned (some (1 ∷ [])) (some (3 ∷ [])) false 9 ≡ ok ((1 ∷ []) ∷ (2 ∷ []) ∷ [])
+  pub scan-back : scanned none (some (3 ∷ [])) true 1 ≡ ok ((2 ∷ []) ∷ [])
+  pub scan-open : scanned (some (2 ∷ [])) none false 9 ≡ ok ((2 ∷ []) ∷ (3 ∷ []) ∷ [])
+  pub scan-same : scanned (some (2 ∷ [])) (some (2 ∷ [])) false 9 ≡ ok []
+  pub scan-above : scanned (some (2 ∷ [])) (some (1 ∷ [])) false 9 ≡ no 10
+  -- a list that is just long enough is taken
+  pub list-full : answered {A = ℕ} (0 ∷ []) (ok (5 ∷ [])) ≡ ok (5 ∷ [])
   -- lent lists: the answer from the first place, and what stands behind it as it was; a refusal leaves all
   pub lent-answer : lentAfter {A = ℕ} (0 ∷ 0 ∷ []) (ok (5 ∷ [])) ≡ 5 ∷ 0 ∷ []
   pub lent-refused : lentAfter {A = ℕ} (0 ∷ 0 ∷ []) (no 9) ≡ 0 ∷ 0 ∷ []
@@ -259,8 +276,16 @@ context-examples =
       rewritten-clean-leaves = refl;
       rewritten-clean-makes = refl;
       live-below = refl;
+      reserved-del-rewritten = refl;
+      reserved-other-queue = refl;
       put-again = refl;
       put-over-rewrite = refl;
+      scan-bounds = refl;
+      scan-back = refl;
+      scan-open = refl;
+      scan-same = refl;
+      scan-above = refl;
+      list-full = refl;
       lent-answer = refl;
       lent-refused = refl;
       absent-first = refl;

@@ -71,6 +71,12 @@ pub record LimitExamples : Type 0 where
   pub number-4 : recovered Append (batch Append 1 (command (compact (2 ^ 63)) ∷ []) ∷ []) ≡ noAt 4 0
   pub number-5 : recovered Append (batch Append 1 (oneEntry Rewrite 1 ∷ []) ∷ []) ≡ noAt 5 0
   pub number-6 : andThen emptyIndex (rewrite none (batch Rewrite 1 (command (compact 1) ∷ []))) ≡ noAt 6 0
+  -- a mark of status 3
+  pub number-7 : recovered Rewrite (part 3 1 1 ∷ []) ≡ noAt 7 0
+  -- the least number of 2 to 7, then the first item that meets it, before anything that depends on what is held
+  pub least-number : recovered Append (batch Append 1 (oneEntry Rewrite 1 ∷ emptyList ∷ kv [] (put none none) ∷ []) ∷ []) ≡ noAt 3 2
+  pub first-item : recovered Append (batch Append 1 (emptyList ∷ kv [] (put none none) ∷ kv [] (put none none) ∷ []) ∷ []) ≡ noAt 3 1
+  pub before-held : recovered Append (batch Append 1 (oneEntry Append 1 ∷ []) ∷ batch Append 1 (oneEntry Append 9 ∷ command (compact (2 ^ 63)) ∷ []) ∷ []) ≡ noAt 4 1
   -- a scan of count 0; 5..8 held: a fetch of [4,6) and of [8,10), a rewrite of 7..8; an answer of one in a list of none
   pub number-10 : scan none none false 0 emptyTable ≡ no 10
   pub number-11 : fetchEntriesTo 4 6 none live ≡ no 11
@@ -130,6 +136,10 @@ limit-examples =
       number-4 = refl;
       number-5 = refl;
       number-6 = refl;
+      number-7 = refl;
+      least-number = refl;
+      first-item = refl;
+      before-held = refl;
       number-10 = refl;
       number-11 = refl;
       number-12 = refl;
