@@ -26,21 +26,20 @@ returns : tie.Need-returns
 returns c =
     let start = c .before .before .before .before .before .before .before .before in
     let find = c .before .before .find in
-    delete-absent (start .args .n) (start .args .rows .now) (start .args .bytes .now) (start .args .key .now) (start .pre) (c .enum-told .given .0 .0) (sym (find .ensures) ∙ c .enum-told .given .1)
+    delete-absent _ _ _ _ (start .pre) (c .enum-told .given .0 .0) (sym (find .ensures) ∙ c .enum-told .given .1)
 
 close-row-requires : tie.Need-close-row-requires
 close-row-requires c κs =
     let start = c .before .before .before .before .before .before .before .before .before .before .before in
     let find = c .before .before .before .before .before .find in
     let i = c .before .before .before .i in
-    let b = at-below (start .args .n) (start .args .rows .now) (start .args .bytes .now) (start .args .key .now) (i .given .0 .0) (sym (find .ensures) ∙ i .given .1) in omega (arith, start .pre)
+    let b = at-below _ _ _ _ (i .given .0 .0) (sym (find .ensures) ∙ i .given .1) in omega (arith, start .pre)
 
 sub-result : tie.Need-sub-result
 sub-result c =
-    let start = c .before .before .before .before .before .before .before .before .before .before .before .before .before .before .before .before in
     let find = c .before .before .before .before .before .before .before .before .before .before .find in
     let i = c .before .before .before .before .before .before .before .before .i in
-    let b = at-below (start .args .n) (start .args .rows .now) (start .args .bytes .now) (start .args .key .now) (i .given .0 .0) (sym (find .ensures) ∙ i .given .1) in omega arith
+    let b = at-below _ _ _ _ (i .given .0 .0) (sym (find .ensures) ∙ i .given .1) in omega arith
 
 same-length-3 : tie.Need-same-length-3
 same-length-3 c = search needs
@@ -54,7 +53,7 @@ returns-2 c =
     let find = c .before .before .before .before .before .before .before .before .before .before .find in
     let i = c .before .before .before .before .before .before .before .before .i in
     let close-row = c .before .before .before .before .close-row in
-    rw (close-row .ensures .0, close-row .ensures .1) (delete-at (start .args .n) (start .args .rows .now) (start .args .bytes .now) (start .args .key .now) (start .pre) (i .given .0 .0) (sym (find .ensures) ∙ i .given .1))
+    rw (close-row .ensures .0, close-row .ensures .1) (delete-at _ _ _ _ (start .pre) (i .given .0 .0) (sym (find .ensures) ∙ i .given .1))
 
 pub delete-spec : {M : Type 1} → statement M
 delete-spec =

@@ -18,7 +18,7 @@ value-at-requires c κs =
     let start = c .before .before .before .before .before .before .before in
     let find = c .before .before .before .find in
     let i = c .before .i in
-    row-in _ _ _ _ (start .pre) (at-below (start .args .n) (start .args .rows .now) (start .args .bytes .now) (start .args .key .now) (i .given .0 .0) (sym (find .ensures) ∙ i .given .1))
+    row-in _ _ _ _ (start .pre) (at-below _ _ _ _ (i .given .0 .0) (sym (find .ensures) ∙ i .given .1))
 
 enum-told : tie.Need-enum-told
 enum-told c = search needs
@@ -37,14 +37,14 @@ returns c =
     let start = c .before .before .before .before .before .before .before .before in
     let find = c .before .before .before .before .find in
     let i = c .before .before .i in
-    get-at (start .args .n) (start .args .rows .now) (start .args .bytes .now) (start .args .key .now) (i .given .0 .0) (start .pre) (sym (find .ensures) ∙ i .given .1) _ (c .value-at .ensures)
+    get-at _ _ _ _ (i .given .0 .0) (start .pre) (sym (find .ensures) ∙ i .given .1) _ (c .value-at .ensures)
 
 returns-2 : tie.Need-returns-2
 returns-2 c =
     let start = c .before .before .before .before .before .before .before in
     let find = c .before .before .before .find in
     let enum-told = c .before .enum-told in
-    get-none (start .args .n) (start .args .rows .now) (start .args .bytes .now) (start .args .key .now) (enum-told .given .0 .0) (start .pre) (sym (find .ensures) ∙ enum-told .given .1) _ refl
+    get-none _ _ _ _ (enum-told .given .0 .0) (start .pre) (sym (find .ensures) ∙ enum-told .given .1) _ refl
 
 pub get-spec : {M : Type 1} → statement M
 get-spec =

@@ -19,7 +19,7 @@ write-row-requires c κs =
     let start = c .before .before .before .before .before .before .before .before .before .before .before .before in
     let find = c .before .before .before .before .before .find in
     let i = c .before .before .before .i in
-    let b = at-below (start .args .n) (start .args .rows .now) (start .args .bytes .now) (start .args .key .now) (i .given .0 .0) (sym (find .ensures) ∙ i .given .1) in omega (arith, start .pre)
+    let b = at-below _ _ _ _ (i .given .0 .0) (sym (find .ensures) ∙ i .given .1) in omega (arith, start .pre)
 
 enum-known-i-2 : tie.Need-enum-known-i-2
 enum-known-i-2 c = search needs
@@ -41,7 +41,7 @@ returns c =
     let start = c .before .before .before .before .before .before .before .before .before .before .before in
     let find = c .before .before .before .before .find in
     let i2 = c .before .before .i2 in
-    put-full (start .args .n) (start .args .rows .now) (start .args .bytes .now) (start .args .key .now) (heldBy (start .args .value .now) (start .args .queue) (start .args .seq)) (start .pre .0) (i2 .given .0 .0) (sym (find .ensures) ∙ i2 .given .1) (no-rows _ _ _ (omega (arith, start .pre)))
+    put-full _ _ _ _ (heldBy _ _ _) (start .pre .0) (i2 .given .0 .0) (sym (find .ensures) ∙ i2 .given .1) (no-rows _ _ _ (omega (arith, start .pre)))
 
 mul-if2 : tie.Need-mul-if2
 mul-if2 c = search needs
@@ -60,14 +60,14 @@ returns-2 c =
     let start = c .before .before .before .before .before .before .before .before .before .before .before .before in
     let find = c .before .before .before .before .before .find in
     let i2 = c .before .before .before .i2 in
-    put-full (start .args .n) (start .args .rows .now) (start .args .bytes .now) (start .args .key .now) (heldBy (start .args .value .now) (start .args .queue) (start .args .seq)) (start .pre .0) (i2 .given .0 .0) (sym (find .ensures) ∙ i2 .given .1) (no-bytes _ _ _ (omega (arith, start .pre)))
+    put-full _ _ _ _ (heldBy _ _ _) (start .pre .0) (i2 .given .0 .0) (sym (find .ensures) ∙ i2 .given .1) (no-bytes _ _ _ (omega (arith, start .pre)))
 
 insert-row-requires : tie.Need-insert-row-requires
 insert-row-requires c κs =
     let start = c .before .before .before .before .before .before .before .before .before .before .before .before .before .before in
     let find = c .before .before .before .before .before .before .before .find in
     let i2 = c .before .before .before .before .before .i2 in
-    let b = before-below (start .args .n) (start .args .rows .now) (start .args .bytes .now) (start .args .key .now) (i2 .given .0 .0) (sym (find .ensures) ∙ i2 .given .1) in omega (arith, start .pre)
+    let b = before-below _ _ _ _ (i2 .given .0 .0) (sym (find .ensures) ∙ i2 .given .1) in omega (arith, start .pre)
 
 add-t21 : tie.Need-add-t21
 add-t21 c = search needs
@@ -84,7 +84,7 @@ returns-3 c =
     let find = c .before .before .before .before .before .before .before .before .before .before .find in
     let i = c .before .before .before .before .before .before .before .before .i in
     let write-row = c .before .before .before .before .write-row in
-    rw (write-row .ensures .0, write-row .ensures .1) (put-at (start .args .n) (start .args .rows .now) (start .args .bytes .now) (start .args .key .now) (heldBy (start .args .value .now) (start .args .queue) (start .args .seq)) (start .pre .0) (start .pre .1 .0) (start .pre .1 .1) (i .given .0 .0) (sym (find .ensures) ∙ i .given .1))
+    rw (write-row .ensures .0, write-row .ensures .1) (put-at _ _ _ _ (heldBy _ _ _) (start .pre .0) (start .pre .1 .0) (start .pre .1 .1) (i .given .0 .0) (sym (find .ensures) ∙ i .given .1))
 
 same-length-7 : tie.Need-same-length-7
 same-length-7 c = search needs
@@ -98,7 +98,7 @@ returns-4 c =
     let find = c .before .before .before .before .before .before .before .before .before .before .before .before .find in
     let i2 = c .before .before .before .before .before .before .before .before .before .before .i2 in
     let insert-row = c .before .before .before .before .insert-row in
-    rw (insert-row .ensures .0, insert-row .ensures .1) (put-before (start .args .n) (start .args .rows .now) (start .args .bytes .now) (start .args .key .now) (heldBy (start .args .value .now) (start .args .queue) (start .args .seq)) (start .pre .0) (start .pre .1 .0) (start .pre .1 .1) (i2 .given .0 .0) (sym (find .ensures) ∙ i2 .given .1) (omega (arith, start .pre)) (omega (arith, start .pre)))
+    rw (insert-row .ensures .0, insert-row .ensures .1) (put-before _ _ _ _ (heldBy _ _ _) (start .pre .0) (start .pre .1 .0) (start .pre .1 .1) (i2 .given .0 .0) (sym (find .ensures) ∙ i2 .given .1) (omega (arith, start .pre)) (omega (arith, start .pre)))
 
 pub put-spec : {M : Type 1} → statement M
 put-spec =

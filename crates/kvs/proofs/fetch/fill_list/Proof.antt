@@ -16,17 +16,15 @@ lesser-requires c κs = search needs
 
 returns : tie.Need-returns
 returns c =
-    let start = c .before .before .before .before .before .before .before .before .before in
     let count-chosen = c .before .before .count-chosen in
     let lesser = c .before .lesser in
-    list-short (start .args .which) (start .args .start .now) (start .args .end .now) (start .args .backwards) (keysIn (start .args .n) (start .args .rows .now) (start .args .bytes .now)) (start .args .count) (lesser .result) (lesser .ensures ∙ ap (min (start .args .count)) (count-chosen .ensures)) _ _ (omega arith)
+    list-short _ _ _ _ (keysIn _ _ _) _ (lesser .result) (lesser .ensures ∙ ap (min _) (count-chosen .ensures)) _ _ (omega arith)
 
 returns-2 : tie.Need-returns-2
 returns-2 c =
-    let start = c .before .before .before .before .before .before .before .before .before .before in
     let count-chosen = c .before .before .before .count-chosen in
     let lesser = c .before .before .lesser in
-    list-short (start .args .which) (start .args .start .now) (start .args .end .now) (start .args .backwards) (keysIn (start .args .n) (start .args .rows .now) (start .args .bytes .now)) (start .args .count) (lesser .result) (lesser .ensures ∙ ap (min (start .args .count)) (count-chosen .ensures)) _ _ (omega arith)
+    list-short _ _ _ _ (keysIn _ _ _) _ (lesser .result) (lesser .ensures ∙ ap (min _) (count-chosen .ensures)) _ _ (omega arith)
 
 copy-chosen-requires : tie.Need-copy-chosen-requires
 copy-chosen-requires c κs = search needs
@@ -39,11 +37,10 @@ same-length-2 c = search needs
 
 returns-3 : tie.Need-returns-3
 returns-3 c =
-    let start = c .before .before .before .before .before .before .before .before .before .before .before .before .before .before .before .before .before in
     let count-chosen = c .before .before .before .before .before .before .before .before .before .before .count-chosen in
     let lesser = c .before .before .before .before .before .before .before .before .before .lesser in
     let copy-chosen = c .before .before .before .before .copy-chosen in
-    list-full (start .args .which) (start .args .start .now) (start .args .end .now) (start .args .backwards) (keysIn (start .args .n) (start .args .rows .now) (start .args .bytes .now)) (start .args .count) (lesser .result) (lesser .ensures ∙ ap (min (start .args .count)) (count-chosen .ensures)) _ _ _ _ (omega arith) (copy-chosen .ensures .0) (copy-chosen .ensures .1)
+    list-full _ _ _ _ (keysIn _ _ _) _ (lesser .result) (lesser .ensures ∙ ap (min _) (count-chosen .ensures)) _ _ _ _ (omega arith) (copy-chosen .ensures .0) (copy-chosen .ensures .1)
 
 pub fill-list-spec : {M : Type 1} → statement M
 fill-list-spec =

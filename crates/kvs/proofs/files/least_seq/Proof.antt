@@ -20,8 +20,7 @@ abbrev μ-loop : tie.MeasureT-loop
 loop-holds : tie.Need-loop-holds Inv-loop μ-loop
 unfolding leastSeq leastAs
 loop-holds c =
-    let start = c .before in
-    (search needs, λ bs. sym (rw (rest-none (start .args .n) (start .args .rows .now) (start .args .queue) bs (start .args .n) (le-refl _))))
+    (search needs, λ bs. sym (rw (rest-none _ _ _ bs _ (le-refl _))))
 
 sub-i : tie.Need-sub-i Inv-loop μ-loop
 sub-i c = search needs
@@ -36,9 +35,8 @@ loop-less c = search needs
 
 loop-again : tie.Need-loop-again Inv-loop μ-loop
 loop-again c =
-    let start = c .before .before .before .before in
     let loop = c .before .before .loop in
-    (search needs, λ bs. least-step (start .args .n) (start .args .rows .now) (start .args .queue) bs (loop .i) _ _ (search needs) (search needs) (loop .inv .1 bs) (c .least-from .ensures))
+    (search needs, λ bs. least-step _ _ _ bs (loop .i) _ _ (search needs) (search needs) (loop .inv .1 bs) (c .least-from .ensures))
 
 returns : tie.Need-returns Inv-loop μ-loop
 returns c =

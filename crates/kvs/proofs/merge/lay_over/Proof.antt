@@ -45,7 +45,7 @@ returns c =
     let loop = c .before .before .before .before .before .before .before .before .before .before .loop in
     let loop-test = c .before .before .before .before .before .before .before .before .before .loop-test in
     let put-row = c .before .before .before .before .before .before .put-row in
-    absurd (never-full (start .args .n) (start .args .rows .now) (start .args .bytes .now) (start .args .m) (start .args .newrows .now) (start .args .newbytes .now) (loop .j) (loop-test .taken) (loop .count) (loop .rows) (loop .bytes) (loop .inv .3) (start .pre .1 .1) (loop .inv .1) (loop .inv .2) (put-row .result) _ _ (put-row .ensures) (c .enum-told .given .1))
+    absurd (never-full _ _ _ _ _ _ (loop .j) (loop-test .taken) (loop .count) (loop .rows) (loop .bytes) (loop .inv .3) (start .pre .1 .1) (loop .inv .1) (loop .inv .2) (put-row .result) _ _ (put-row .ensures) (c .enum-told .given .1))
 
 add-j : tie.Need-add-j Inv-loop μ-loop
 add-j c = search needs
@@ -60,7 +60,7 @@ loop-again c =
     let loop-test = c .before .before .before .before .before .before .before .before .before .before .loop-test in
     let put-row = c .before .before .before .before .before .before .before .put-row in
     let more = c .before .more in
-    (search needs, put-row .kept .1 .0 ∙ loop .inv .1, put-row .kept .1 .1 .0 ∙ loop .inv .2, laying-more (start .args .n) (start .args .rows .now) (start .args .bytes .now) (start .args .m) (start .args .newrows .now) (start .args .newbytes .now) (loop .j) (loop-test .taken) (loop .count) (loop .rows) (loop .bytes) (loop .inv .3) (start .pre .1 .1) (loop .inv .1) (loop .inv .2) (put-row .result) _ _ (put-row .ensures) _ (more .given .1))
+    (search needs, put-row .kept .1 .0 ∙ loop .inv .1, put-row .kept .1 .1 .0 ∙ loop .inv .2, laying-more _ _ _ _ _ _ (loop .j) (loop-test .taken) (loop .count) (loop .rows) (loop .bytes) (loop .inv .3) (start .pre .1 .1) (loop .inv .1) (loop .inv .2) (put-row .result) _ _ (put-row .ensures) _ (more .given .1))
 
 same-length-3 : tie.Need-same-length-3 Inv-loop μ-loop
 same-length-3 c = search needs

@@ -24,7 +24,7 @@ returns : tie.Need-returns
 returns c =
     let start = c .before .before .before .before .before .before .before .before in
     let count-absent = c .before .count-absent in
-    merge-full (start .args .n) (start .args .rows .now) (start .args .bytes .now) (start .args .m) (start .args .newrows .now) (start .args .newbytes .now) (start .pre .0) (start .pre .1) (count-absent .result) (count-absent .ensures .0) (no-rows _ _ _ (c .if1 .taken))
+    merge-full _ _ _ _ _ _ (start .pre .0) (start .pre .1) (count-absent .result) (count-absent .ensures .0) (no-rows _ _ _ (c .if1 .taken))
 
 mul-if2 : tie.Need-mul-if2
 mul-if2 c = search needs
@@ -39,7 +39,7 @@ returns-2 : tie.Need-returns-2
 returns-2 c =
     let start = c .before .before .before .before .before .before .before .before .before in
     let count-absent = c .before .before .count-absent in
-    merge-full (start .args .n) (start .args .rows .now) (start .args .bytes .now) (start .args .m) (start .args .newrows .now) (start .args .newbytes .now) (start .pre .0) (start .pre .1) (count-absent .result) (count-absent .ensures .0) (no-bytes _ _ _ (c .if2 .taken))
+    merge-full _ _ _ _ _ _ (start .pre .0) (start .pre .1) (count-absent .result) (count-absent .ensures .0) (no-bytes _ _ _ (c .if2 .taken))
 
 lay-over-requires : tie.Need-lay-over-requires
 lay-over-requires c κs =
@@ -47,7 +47,7 @@ lay-over-requires c κs =
     let count-absent = c .before .before .before .before .count-absent in
     let if1 = c .before .before .before .if1 in
     let if2 = c .before .before .if2 in
-    (start .pre .0, (start .pre .1, rw (over-length (start .args .n) (start .args .rows .now) (start .args .bytes .now) (start .args .m) (start .args .newrows .now) (start .args .newbytes .now) (start .pre .0) (start .pre .1) (count-absent .result) (count-absent .ensures .0)) (fits-if _ _ _ (if1 .left) (if2 .left))))
+    (start .pre .0, (start .pre .1, rw (over-length _ _ _ _ _ _ (start .pre .0) (start .pre .1) (count-absent .result) (count-absent .ensures .0)) (fits-if _ _ _ (if1 .left) (if2 .left))))
 
 same-length-5 : tie.Need-same-length-5
 same-length-5 c = search needs
@@ -62,7 +62,7 @@ returns-3 c =
     let if1 = c .before .before .before .before .before .before .before .before .if1 in
     let if2 = c .before .before .before .before .before .before .before .if2 in
     let lay-over = c .before .before .before .before .lay-over in
-    merge-done (start .args .n) (start .args .rows .now) (start .args .bytes .now) (start .args .m) (start .args .newrows .now) (start .args .newbytes .now) (start .pre .0) (start .pre .1) (count-absent .result) (count-absent .ensures .0) (fits-if _ _ _ (if1 .left) (if2 .left)) _ _ _ (lay-over .ensures)
+    merge-done _ _ _ _ _ _ (start .pre .0) (start .pre .1) (count-absent .result) (count-absent .ensures .0) (fits-if _ _ _ (if1 .left) (if2 .left)) _ _ _ (lay-over .ensures)
 
 pub merge-keys-spec : {M : Type 1} → statement M
 merge-keys-spec =

@@ -18,13 +18,13 @@ returns : tie.Need-returns
 returns c =
     let start = c .before .before .before .before .before .before in
     let find = c .before .before .find in
-    (rw (absent (start .args .n) (start .args .rows .now) (start .args .bytes .now) (start .args .key .now) (start .pre) (c .enum-told2 .given .0 .0) (sym (find .ensures) ∙ c .enum-told2 .given .1)), search needs)
+    (rw (absent _ _ _ _ (start .pre) (c .enum-told2 .given .0 .0) (sym (find .ensures) ∙ c .enum-told2 .given .1)), search needs)
 
 returns-2 : tie.Need-returns-2
 returns-2 c =
     let start = c .before .before .before .before .before .before in
     let find = c .before .before .find in
-    (rw (present (start .args .n) (start .args .rows .now) (start .args .bytes .now) (start .args .key .now) (start .pre) (c .enum-told .given .0 .0) (sym (find .ensures) ∙ c .enum-told .given .1)), search needs)
+    (rw (present _ _ _ _ (start .pre) (c .enum-told .given .0 .0) (sym (find .ensures) ∙ c .enum-told .given .1)), search needs)
 
 pub one-absent-spec : {M : Type 1} → statement M
 one-absent-spec = tie.close (tie.spec find-requires enum-told enum-told-2 returns returns-2)

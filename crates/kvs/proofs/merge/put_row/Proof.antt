@@ -43,7 +43,7 @@ put-requires c κs =
     let start = c .before .before .before .before .before .before .before .before .before .before .before in
     let key-at = c .before .before .before .before .before .before .key-at in
     let value-at = c .before .before .before .before .before .value-at in
-    (start .pre .0, (rw (key-at .ensures) (length-key (start .args .j) (start .args .newrows .now) (start .args .newbytes .now) (start .pre .1)), rw (value-at .ensures) (length-value (start .args .j) (start .args .newrows .now) (start .args .newbytes .now) (start .pre .1))))
+    (start .pre .0, (rw (key-at .ensures) (length-key _ _ _ (start .pre .1)), rw (value-at .ensures) (length-value _ _ _ (start .pre .1))))
 
 same-length : tie.Need-same-length
 same-length c = search needs
@@ -53,12 +53,11 @@ same-length-2 c = search needs
 
 returns : tie.Need-returns
 returns c =
-    let start = c .before .before .before .before .before .before .before .before .before .before .before .before .before .before .before .before in
     let key-at = c .before .before .before .before .before .before .before .before .before .before .before .key-at in
     let value-at = c .before .before .before .before .before .before .before .before .before .before .value-at in
     let queue-of = c .before .before .before .before .before .before .before .before .queue-of in
     let put = c .before .before .before .before .put in
-    row-put (start .args .n) (start .args .rows .now) (start .args .bytes .now) (start .args .newrows .now) (start .args .newbytes .now) (start .args .j) _ _ _ _ _ _ (key-at .ensures) (value-at .ensures) (queue-of .ensures) (put .ensures)
+    row-put _ _ _ _ _ _ _ _ _ _ _ _ (key-at .ensures) (value-at .ensures) (queue-of .ensures) (put .ensures)
 
 pub put-row-spec : {M : Type 1} → statement M
 put-row-spec =

@@ -20,7 +20,7 @@ shared-slice-read-e c = search needs
 add-e : tie.Need-add-e
 add-e c =
     let start = c .before in
-    omega (arith, key-length (start .args .i) (start .args .rows .now) (start .args .bytes .now) (start .pre))
+    omega (arith, key-length _ _ _ (start .pre))
 
 sub-result : tie.Need-sub-result
 sub-result c = search needs
@@ -31,7 +31,7 @@ part-result-start c = search needs
 part-result-end : tie.Need-part-result-end
 part-result-end c =
     let start = c .before in
-    omega (arith, key-length (start .args .i) (start .args .rows .now) (start .args .bytes .now) (start .pre))
+    omega (arith, key-length _ _ _ (start .pre))
 
 returns : tie.Need-returns
 returns c =

@@ -26,7 +26,7 @@ shared-slice-read-e c = search needs
 add-e-2 : tie.Need-add-e-2
 add-e-2 c =
     let start = c .before in
-    omega (arith, value-length (start .args .i) (start .args .rows .now) (start .args .bytes .now) (start .pre))
+    omega (arith, value-length _ _ _ (start .pre))
 
 sub-result : tie.Need-sub-result
 sub-result c = search needs
@@ -37,7 +37,7 @@ part-result-start c = search needs
 part-result-end : tie.Need-part-result-end
 part-result-end c =
     let start = c .before in
-    omega (arith, value-length (start .args .i) (start .args .rows .now) (start .args .bytes .now) (start .pre))
+    omega (arith, value-length _ _ _ (start .pre))
 
 returns : tie.Need-returns
 returns c =

@@ -73,8 +73,8 @@ returns c =
     let to-u64 = c .before .before .before .before .before .before .before .before .to-u64 in
     let copy-in-u8 = c .before .before .before .before .before .before .copy-in-u8 in
     let copy-in-u82 = c .before .before .copy-in-u82 in (
-      rows-written (start .args .i) (to-u64 .result) (start .args .key .now) (heldBy (start .args .value .now) (start .args .queue) (start .args .seq)) (start .args .rows .now) (to-u64 .ensures) (omega (arith, start .pre)),
-      bytes-written (start .args .i) (start .args .key .now) (heldBy (start .args .value .now) (start .args .queue) (start .args .seq)) (start .args .bytes .now) _ _ (copy-in-u8 .ensures) (copy-in-u82 .ensures),
+      rows-written _ (to-u64 .result) _ (heldBy _ _ _) _ (to-u64 .ensures) (omega (arith, start .pre)),
+      bytes-written _ _ (heldBy _ _ _) _ _ _ (copy-in-u8 .ensures) (copy-in-u82 .ensures),
     )
 
 pub write-row-spec : {M : Type 1} → statement M

@@ -39,22 +39,19 @@ is-of-requires c κs = search needs
 
 returns : tie.Need-returns
 returns c =
-    let start = c .before .before .before .before .before .before .before .before .before in
     let which = c .before .before .before .which in
     let key-at = c .before .key-at in
-    meets-bounds (start .args .i) (start .args .rows .now) (start .args .bytes .now) (start .args .start .now) (start .args .end .now) _ _ _ _ _ (which .given .1) (key-at .ensures) (c .in-bounds .ensures)
+    meets-bounds _ _ _ _ _ _ _ _ _ _ (which .given .1) (key-at .ensures) (c .in-bounds .ensures)
 
 returns-2 : tie.Need-returns-2
 returns-2 c =
-    let start = c .before .before .before .before .before .before .before .before in
     let which2 = c .before .before .which2 in
-    meets-gate (start .args .i) (start .args .rows .now) (start .args .bytes .now) (start .args .start .now) (start .args .end .now) _ _ _ (which2 .given .1) (c .up-to .ensures)
+    meets-gate _ _ _ _ _ _ _ _ (which2 .given .1) (c .up-to .ensures)
 
 returns-3 : tie.Need-returns-3
 returns-3 c =
-    let start = c .before .before .before .before .before .before .before .before in
     let enum-told = c .before .before .enum-told in
-    meets-rewrite (start .args .i) (start .args .rows .now) (start .args .bytes .now) (start .args .start .now) (start .args .end .now) _ _ (enum-told .given .1) (c .is-of .ensures)
+    meets-rewrite _ _ _ _ _ _ _ (enum-told .given .1) (c .is-of .ensures)
 
 pub chosen-spec : {M : Type 1} → statement M
 chosen-spec =

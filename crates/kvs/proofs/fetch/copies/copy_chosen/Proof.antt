@@ -17,8 +17,7 @@ abbrev μ-loop : tie.MeasureT-loop
 
 loop-holds : tie.Need-loop-holds Inv-loop μ-loop
 loop-holds c =
-    let start = c .before .before .before .before .before .before in
-    (search needs, refl, refl, copying-none (start .args .which) (start .args .start .now) (start .args .end .now) (start .args .n) (start .args .rows .now) (start .args .bytes .now) (start .args .backwards) (start .args .limit) (start .args .lens .now) (start .args .out .now))
+    (search needs, refl, refl, copying-none _ _ _ _ _ _ _ _ _ _)
 
 row-of-requires : tie.Need-row-of-requires Inv-loop μ-loop
 row-of-requires c κs = search needs
@@ -38,7 +37,6 @@ loop-less c = search needs
 
 loop-again : tie.Need-loop-again Inv-loop μ-loop
 loop-again c =
-    let start = c .before .before .before .before .before .before .before .before .before .before .before .before .before .before .before .before in
     let loop = c .before .before .before .before .before .before .before .before .before .loop in
     let loop-test = c .before .before .before .before .before .before .before .before .loop-test in
     let row-of = c .before .before .before .before .before .before .before .row-of in
@@ -46,7 +44,7 @@ loop-again c =
       search needs,
       copy-if .kept .1 .1 .1 .1 .1 .1 .1 .0 ∙ loop .inv .1,
       copy-if .kept .1 .1 .1 .1 .1 .1 .1 .1 .0 ∙ loop .inv .2,
-      copying-more (start .args .which) (start .args .start .now) (start .args .end .now) (start .args .n) (start .args .rows .now) (start .args .bytes .now) (start .args .backwards) (start .args .limit) (start .args .lens .now) (start .args .out .now) (loop .s) (loop .j) _ (loop .lens) (loop .out) (loop .inv .3) (loop-test .taken) (row-of .ensures .0) _ _ _ (copy-if .ensures),
+      copying-more _ _ _ _ _ _ _ _ _ _ (loop .s) (loop .j) _ (loop .lens) (loop .out) (loop .inv .3) (loop-test .taken) (row-of .ensures .0) _ _ _ (copy-if .ensures),
     )
 
 same-length : tie.Need-same-length Inv-loop μ-loop
@@ -57,9 +55,8 @@ same-length-2 c = search needs
 
 returns : tie.Need-returns Inv-loop μ-loop
 returns c =
-    let start = c .before .before .before .before .before .before .before .before in
     let loop = c .before .loop in
-    (lens-done (start .args .which) (start .args .start .now) (start .args .end .now) (start .args .n) (start .args .rows .now) (start .args .bytes .now) (start .args .backwards) (start .args .limit) (start .args .lens .now) (start .args .out .now) _ _ _ _ (loop .inv .3) (search needs), bytes-done (start .args .which) (start .args .start .now) (start .args .end .now) (start .args .n) (start .args .rows .now) (start .args .bytes .now) (start .args .backwards) (start .args .limit) (start .args .lens .now) (start .args .out .now) _ _ _ _ (loop .inv .3) (search needs))
+    (lens-done _ _ _ _ _ _ _ _ _ _ _ _ _ _ (loop .inv .3) (search needs), bytes-done _ _ _ _ _ _ _ _ _ _ _ _ _ _ (loop .inv .3) (search needs))
 
 pub copy-chosen-spec : {M : Type 1} → statement M
 copy-chosen-spec =

@@ -41,7 +41,7 @@ copy-in-u8-requires : tie.Need-copy-in-u8-requires
 copy-in-u8-requires c κs =
     let start = c .before .before .before .before .before .before .before in
     let key-at = c .before .before .key-at in
-    omega (arith, length-key (start .args .i) (start .args .rows .now) (start .args .bytes .now) (start .pre .0), (ap length (key-at .ensures)), start .pre .1)
+    omega (arith, length-key _ _ _ (start .pre .0), (ap length (key-at .ensures)), start .pre .1)
 
 mul-copy-in-u8-2 : tie.Need-mul-copy-in-u8-2
 mul-copy-in-u8-2 c = search needs
@@ -54,7 +54,7 @@ copy-in-u8-requires-2 c κs =
     let start = c .before .before .before .before .before .before .before .before .before .before .before in
     let value-at = c .before .before .before .before .before .value-at in
     let copy-in-u8 = c .before .before .before .copy-in-u8 in
-    omega (arith, length-value (start .args .i) (start .args .rows .now) (start .args .bytes .now) (start .pre .0), (ap length (value-at .ensures)), start .pre .1, copy-in-u8 .kept)
+    omega (arith, length-value _ _ _ (start .pre .0), (ap length (value-at .ensures)), start .pre .1, copy-in-u8 .kept)
 
 same-length : tie.Need-same-length
 same-length c = search needs
@@ -70,8 +70,8 @@ returns c =
     let value-at = c .before .before .before .before .before .before .before .before .value-at in
     let copy-in-u8 = c .before .before .before .before .before .before .copy-in-u8 in
     let copy-in-u82 = c .before .before .copy-in-u82 in (
-      two-lens (start .args .j) _ _ (rowOf (pairOf (rowAt (start .args .i) (start .args .rows .now) (start .args .bytes .now)))) (start .args .lens .now) (key-at .ensures) (value-at .ensures) (start .pre .1 .0),
-      two-copies (start .args .j) _ _ (rowOf (pairOf (rowAt (start .args .i) (start .args .rows .now) (start .args .bytes .now)))) (start .args .out .now) _ _ (key-at .ensures) (value-at .ensures) (copy-in-u8 .ensures) (copy-in-u82 .ensures),
+      two-lens _ _ _ (rowOf (pairOf (rowAt _ _ _))) _ (key-at .ensures) (value-at .ensures) (start .pre .1 .0),
+      two-copies _ _ _ (rowOf (pairOf (rowAt _ _ _))) _ _ _ (key-at .ensures) (value-at .ensures) (copy-in-u8 .ensures) (copy-in-u82 .ensures),
     )
 
 pub copy-row-spec : {M : Type 1} → statement M
