@@ -43,18 +43,22 @@ loop-again c =
     let start = c .before .before .before .before .before .before .before .before in
     let loop = c .before .before .before .loop in
     let loop-test = c .before .before .loop-test in
-    let key-at = c .before .key-at in (
-      search needs,
-      omega (arith, c .one-absent .ensures .1),
-      let e = rw (key-at .ensures) at (c .one-absent .ensures .0) in
-          omega (arith, lacks-more (keysIn (start .args .n) (start .args .rows .now) (start .args .bytes .now)) (start .args .m) (start .args .newrows .now) (start .args .newbytes .now) (loop .j) (loop-test .taken), e),
-    )
+    let key-at = c .before .key-at in
+    let args = start .args in
+    let keys = keysIn (args .n) (args .rows .now) (args .bytes .now) in
+    let more = lacks-more keys (args .m) (args .newrows .now) (args .newbytes .now) (loop .j) (loop-test .taken) in
+    let one = rw (key-at .ensures) at (c .one-absent .ensures .0) in
+    (search needs, omega (arith, c .one-absent .ensures .1), omega (arith, more, one))
 
 returns : tie.Need-returns Inv-loop μ-loop
 returns c =
     let start = c .before .before .before .before .before .before in
     let loop = c .before .loop in
-    (omega (arith, lacks-all (keysIn (start .args .n) (start .args .rows .now) (start .args .bytes .now)) (start .args .m) (start .args .newrows .now) (start .args .newbytes .now), lacks-none (keysIn (start .args .n) (start .args .rows .now) (start .args .bytes .now)) (start .args .m) (start .args .newrows .now) (start .args .newbytes .now) (loop .j) (search needs)), search needs)
+    let args = start .args in
+    let keys = keysIn (args .n) (args .rows .now) (args .bytes .now) in
+    let all = lacks-all keys (args .m) (args .newrows .now) (args .newbytes .now) in
+    let rest = lacks-none keys (args .m) (args .newrows .now) (args .newbytes .now) (loop .j) (search needs) in
+    (omega (arith, all, rest), search needs)
 
 pub count-absent-spec : {M : Type 1} → statement M
 count-absent-spec =

@@ -65,7 +65,12 @@ loop-again c =
     let loop = c .before .before .before .before .loop in
     let loop-test = c .before .before .before .loop-test in
     let over-size = c .before .over-size in
-    let p = start .pre .1 (start .args .from + loop .i) (omega arith) (omega (arith, loop-test .taken)) in (search needs, size-fits _ _ _ (sym (over-size .ensures) ∙ c .if1 .left) (start .fits .size .fits) (p .len), size-more _ (start .args .from) (start .args .count) (loop .i) (start .args .size) (loop .sum) _ (loop .inv .2) (loop-test .taken) (sym (over-size .ensures) ∙ c .if1 .left))
+    let row = start .pre .1 (start .args .from + loop .i) (omega arith) (omega (arith, loop-test .taken)) in
+    let fits = sym (over-size .ensures) ∙ c .if1 .left in (
+      search needs,
+      size-fits _ _ _ fits (start .fits .size .fits) (row .len),
+      size-more _ (start .args .from) (start .args .count) (loop .i) (start .args .size) (loop .sum) _ (loop .inv .2) (loop-test .taken) fits,
+    )
 
 returns-2 : tie.Need-returns-2 Inv-loop μ-loop
 returns-2 c =

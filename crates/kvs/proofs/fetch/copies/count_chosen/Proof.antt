@@ -40,17 +40,21 @@ loop-again : tie.Need-loop-again Inv-loop μ-loop
 loop-again c =
     let start = c .before .before .before .before .before .before .before in
     let loop = c .before .before .loop in
-    let loop-test = c .before .loop-test in (
-      search needs,
-      omega (arith, c .one-chosen .ensures .1),
-      omega (arith, count-more (meets (start .args .which) (start .args .start .now) (start .args .end .now)) (start .args .n) (start .args .rows .now) (start .args .bytes .now) (loop .i) (loop-test .taken), c .one-chosen .ensures .0),
-    )
+    let loop-test = c .before .loop-test in
+    let args = start .args in
+    let asked = meets (args .which) (args .start .now) (args .end .now) in
+    let more = count-more asked (args .n) (args .rows .now) (args .bytes .now) (loop .i) (loop-test .taken) in
+    (search needs, omega (arith, c .one-chosen .ensures .1), omega (arith, more, c .one-chosen .ensures .0))
 
 returns : tie.Need-returns Inv-loop μ-loop
 returns c =
     let start = c .before .before .before .before .before .before in
     let loop = c .before .loop in
-    omega (arith, ap length (selected-all (meets (start .args .which) (start .args .start .now) (start .args .end .now)) (start .args .n) (start .args .rows .now) (start .args .bytes .now)), ap length (selected-none (meets (start .args .which) (start .args .start .now) (start .args .end .now)) (start .args .n) (start .args .rows .now) (start .args .bytes .now) (loop .i) (search needs)))
+    let args = start .args in
+    let asked = meets (args .which) (args .start .now) (args .end .now) in
+    let all = selected-all asked (args .n) (args .rows .now) (args .bytes .now) in
+    let rest = selected-none asked (args .n) (args .rows .now) (args .bytes .now) (loop .i) (search needs) in
+    omega (arith, ap length all, ap length rest)
 
 pub count-chosen-spec : {M : Type 1} → statement M
 count-chosen-spec =
