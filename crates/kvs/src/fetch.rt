@@ -3,6 +3,7 @@
 pub mod bounds;
 pub mod copies;
 
+use crate::rows::ROW_BYTES;
 use bounds::start_above_end;
 use copies::copy_chosen;
 use copies::count_chosen;
@@ -59,7 +60,7 @@ fn fill_list(
     if lens.len() / 2 < limit {
         return Fetched::TooShort;
     }
-    if out.len() / 64 < limit {
+    if out.len() / ROW_BYTES < limit {
         return Fetched::TooShort;
     }
     copy_chosen(

@@ -1,5 +1,6 @@
 // The files of a group's keys: how many keys a queue has, and its least sequence number. Only the numbers of the rows are read.
 use crate::Least;
+use crate::rows::ROW_WIDTH;
 use pipe_log::LogQueue;
 ghost use mathlib.Core.Path.{_≡_};
 ghost use mathlib.Core.Bool.{cond};
@@ -50,8 +51,8 @@ fn least_from(rows: &[u64], i: usize, queue: LogQueue, rest: Least) -> Least
     requires { ⌜ i * 4 + 4 ≤ length (now rows) ⌝ }
     ensures { λ r. ⌜ leastAs r ≡ cond (sameQueue (queueAt (getD (now (rows .entry)) (i * 4 + 2) 0)) queue) (least (some (getD (now (rows .entry)) (i * 4 + 3) 0)) (leastAs rest)) (leastAs rest) ⌝ }
 {
-    if is_of(rows[i * 4 + 2], queue) {
-        return lesser(rows[i * 4 + 3], rest);
+    if is_of(rows[i * ROW_WIDTH + 2], queue) {
+        return lesser(rows[i * ROW_WIDTH + 3], rest);
     }
     rest
 }
@@ -78,7 +79,7 @@ pub fn count_of(n: usize, rows: &[u64], queue: LogQueue) -> usize
     let mut count = 0;
     let mut i = 0;
     while i < n {
-        count += one_of(rows[i * 4 + 2], queue);
+        count += one_of(rows[i * ROW_WIDTH + 2], queue);
         i += 1;
     }
     count

@@ -3,6 +3,8 @@ use crate::Outcome;
 use crate::Place;
 use crate::find;
 use crate::put;
+use crate::rows::ROW_BYTES;
+use crate::rows::ROW_WIDTH;
 use crate::rows::key_at;
 use crate::rows::value_at;
 use pipe_log::LogQueue;
@@ -77,8 +79,16 @@ fn put_row(
 {
     let key = key_at(newrows, newbytes, j);
     let value = value_at(newrows, newbytes, j);
-    let queue = queue_of(newrows[j * 4 + 2]);
-    put(n, rows, bytes, key, value, queue, newrows[j * 4 + 3])
+    let queue = queue_of(newrows[j * ROW_WIDTH + 2]);
+    put(
+        n,
+        rows,
+        bytes,
+        key,
+        value,
+        queue,
+        newrows[j * ROW_WIDTH + 3],
+    )
 }
 
 // Puts each of the `m` newer keys, for which there is room.
@@ -121,10 +131,10 @@ pub fn merge_keys(
     ensures { λ r. ⌜ MergeKeys n (now (rows .entry)) (now (bytes .entry)) (keysIn m (now (newrows .entry)) (now (newbytes .entry))) r (now (rows .exit)) (now (bytes .exit)) ⌝ }
 {
     let all = n + count_absent(n, rows, bytes, m, newrows, newbytes);
-    if rows.len() < all * 4 {
+    if rows.len() < all * ROW_WIDTH {
         return Outcome::Full;
     }
-    if bytes.len() < all * 64 {
+    if bytes.len() < all * ROW_BYTES {
         return Outcome::Full;
     }
     Outcome::Done(lay_over(n, rows, bytes, m, newrows, newbytes))

@@ -8,13 +8,20 @@ ghost use Rattle.kvs.specs.Writes.{writtenRows, writtenBytes, opened, cl
 ghost use Rattle.kvs.specs.Calls.{heldBy, movedRows};
 use pipe_log::LogQueue;
 
+// Numbers in a row, bytes in a row, and the place of the value among them.
+pub const ROW_WIDTH: usize = 4;
+
+pub const ROW_BYTES: usize = 64;
+
+pub const VALUE_AT: usize = 32;
+
 // The key of row `i`, as the part of the area that holds it.
 pub fn key_at<'a>(rows: &[u64], bytes: &'a [u8], i: usize) -> &'a [u8]
     requires { ⌜ RowIn i (now rows) (now bytes) ⌝ }
     ensures { λ r. ⌜ now r ≡ keyOf (rowAt i (now (rows .entry)) (now (bytes .entry))) ⌝ }
 {
-    let a = i * 64;
-    let e = a + rows[i * 4] as usize;
+    let a = i * ROW_BYTES;
+    let e = a + rows[i * ROW_WIDTH] as usize;
     &bytes[a..e]
 }
 
@@ -23,8 +30,8 @@ pub fn value_at<'a>(rows: &[u64], bytes: &'a [u8], i: usize) -> &'a [u8]
     requires { ⌜ RowIn i (now rows) (now bytes) ⌝ }
     ensures { λ r. ⌜ now r ≡ valueOf (rowAt i (now (rows .entry)) (now (bytes .entry))) ⌝ }
 {
-    let a = i * 64 + 32;
-    let e = a + rows[i * 4 + 1] as usize;
+    let a = i * ROW_BYTES + VALUE_AT;
+    let e = a + rows[i * ROW_WIDTH + 1] as usize;
     &bytes[a..e]
 }
 
@@ -43,13 +50,13 @@ pub fn write_row(
     ensures { λ _. ⌜ now (rows .exit) ≡ writtenRows i (now (key .entry)) (heldBy (now (value .entry)) queue seq) (now (rows .entry)) ⌝ }
     ensures { λ _. ⌜ now (bytes .exit) ≡ writtenBytes i (now (key .entry)) (heldBy (now (value .entry)) queue seq) (now (bytes .entry)) ⌝ }
 {
-    let at = i * 4;
+    let at = i * ROW_WIDTH;
     rows[at] = key.len() as u64;
     rows[at + 1] = value.len() as u64;
     rows[at + 2] = queue.to_u64();
     rows[at + 3] = seq;
-    cells::copy_in_u8(bytes, i * 64, key);
-    cells::copy_in_u8(bytes, i * 64 + 32, value);
+    cells::copy_in_u8(bytes, i * ROW_BYTES, key);
+    cells::copy_in_u8(bytes, i * ROW_BYTES + VALUE_AT, value);
 }
 
 // Moves the rows from row `i` of `n` up by one.
@@ -59,8 +66,18 @@ pub fn open_row(n: usize, rows: &mut [u64], bytes: &mut [u8], i: usize)
     ensures { λ _. ⌜ now (rows .exit) ≡ opened 4 n i (now (rows .entry)) ⌝ }
     ensures { λ _. ⌜ now (bytes .exit) ≡ opened 64 n i (now (bytes .entry)) ⌝ }
 {
-    cells::shift_up_u64(rows, i * 4, i * 4 + 4, (n - i) * 4);
-    cells::shift_up_u8(bytes, i * 64, i * 64 + 64, (n - i) * 64);
+    cells::shift_up_u64(
+        rows,
+        i * ROW_WIDTH,
+        i * ROW_WIDTH + ROW_WIDTH,
+        (n - i) * ROW_WIDTH,
+    );
+    cells::shift_up_u8(
+        bytes,
+        i * ROW_BYTES,
+        i * ROW_BYTES + ROW_BYTES,
+        (n - i) * ROW_BYTES,
+    );
 }
 
 // Moves the rows after row `i` of `n` down by one.
@@ -71,8 +88,18 @@ pub fn close_row(n: usize, rows: &mut [u64], bytes: &mut [u8], i: usize)
     ensures { λ _. ⌜ now (bytes .exit) ≡ closed 64 n i (now (bytes .entry)) ⌝ }
 {
     let left = n - (i + 1);
-    cells::shift_down_u64(rows, i * 4 + 4, i * 4, left * 4);
-    cells::shift_down_u8(bytes, i * 64 + 64, i * 64, left * 64);
+    cells::shift_down_u64(
+        rows,
+        i * ROW_WIDTH + ROW_WIDTH,
+        i * ROW_WIDTH,
+        left * ROW_WIDTH,
+    );
+    cells::shift_down_u8(
+        bytes,
+        i * ROW_BYTES + ROW_BYTES,
+        i * ROW_BYTES,
+        left * ROW_BYTES,
+    );
 }
 
 // Puts a new row in before row `i` of `n`.
@@ -101,7 +128,7 @@ pub fn move_file(rows: &mut [u64], i: usize, seq: u64)
     requires { ⌜ i * 4 + 4 ≤ length (now rows) ⌝ }
     ensures { λ _. ⌜ now (rows .exit) ≡ movedRows i seq (now (rows .entry)) ⌝ }
 {
-    let at = i * 4 + 2;
+    let at = i * ROW_WIDTH + 2;
     rows[at] = 1;
     rows[at + 1] = seq;
 }

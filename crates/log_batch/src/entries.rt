@@ -8,7 +8,7 @@ ghost use Rattle.pipe_log.specs.Rows.{isRecord, entryOf, entriesOf, queueAt};
 ghost use Rattle.rules.specs.Items.{sameQueue};
 ghost use Rattle.rules.specs.Checks.{consecutive};
 ghost use Rattle.log_batch.specs.Judged.{entryMeets, entriesIncomplete};
-use crate::open::ENTRY_WIDTH;
+use pipe_log::ENTRY_WIDTH;
 use pipe_log::LogQueue;
 
 // The bounds of cause 4.

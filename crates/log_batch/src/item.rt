@@ -3,6 +3,7 @@ ghost use mathlib.Core.Path.{_≡_};
 ghost use Prim.Native.Nat.{_+_, _*_, _≤_};
 ghost use lib.ListN.{length};
 ghost use Rattle.cells.specs.Part.{part};
+use pipe_log::ENTRY_WIDTH;
 use pipe_log::FileId;
 
 pub enum Command {
@@ -59,8 +60,8 @@ pub fn entries_of(entries: &[u64], at: usize, count: usize) -> &[u64]
     ensures { λ r. ⌜ now r ≡ part (at * 8) (count * 8) (now (entries .entry)) ⌝ }
     ensures { λ r. ⌜ length (now r) ≡ count * 8 ⌝ }
 {
-    let start = at * 8;
-    let end = start + count * 8;
+    let start = at * ENTRY_WIDTH;
+    let end = start + count * ENTRY_WIDTH;
     &entries[start..end]
 }
 

@@ -12,13 +12,12 @@ use crate::item::LogItem;
 use crate::item::LogItemContent;
 use crate::item::OpType;
 use crate::item::Value;
+use pipe_log::ENTRY_WIDTH;
 use pipe_log::FileId;
 use pipe_log::LogQueue;
 
-// Numbers in a row of items, and in a row of entries.
+// Numbers in a row of items.
 pub const ITEM_WIDTH: usize = 9;
-
-pub const ENTRY_WIDTH: usize = 8;
 
 // An item, or the group of a row that is none, which every call refuses by 3.
 pub enum Opened {

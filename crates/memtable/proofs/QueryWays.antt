@@ -2,7 +2,7 @@
 use mathlib.Core.Bool.{false}
 use mathlib.Core.List.{List}
 use mathlib.Core.Option.{none, some}
-use mathlib.Core.Path.{_≡_, refl, sym, _∙_}
+use mathlib.Core.Path.{_≡_, refl, sym, ap, _∙_}
 use Prim.Native.Nat.{ℕ, _+_, _-_, _*_, _≤_, _<_, _^_, min}
 use native.Mathlib.Nat.{add-zero}
 use native.Mathlib.Omega.{arith}
@@ -16,7 +16,7 @@ use Rattle.pipe_log.specs.declared.CompressionType.{CompressionType}
 use Rattle.rules.specs.Items.{LogQueue, Append, Rewrite, EntryIndex, fileOf}
 use Rattle.rules.specs.Items as items
 use Rattle.rules.specs.Table.{firstIndex, lastIndex}
-use Rattle.rules.specs.TableQueries.{getEntry, hasAtLeastSomeEntriesBefore, rewriteCount, bySpan}
+use Rattle.rules.specs.TableQueries.{getEntry, hasAtLeastSomeEntriesBefore, runOf, rewriteCount, bySpan}
 use Rattle.memtable.specs.declared.AtomicGroup.{AtomicGroup}
 use Rattle.memtable.specs.declared.AtomicGroup.the-variants as group
 use Rattle.memtable.specs.declared.Head.{Head}
@@ -96,6 +96,12 @@ module _ (h : Head) (xs : List ℕ) (w : Wf h xs) where
 
   -- ---- the front entry of a run
 
+  -- the first record of a run gives its sequence number
+  front-of : (q : LogQueue) (e : EntryIndex) → first (runOf q (window (h .«first_index») (h .len) xs)) ≡ some e
+      → frontSeq q (window (h .«first_index») (h .len) xs) ≡ some (fileOf e .seq)
+  unfolding frontSeq mapOption
+  front-of q e p = ap (mapOption (λ (e : EntryIndex). fileOf e .seq)) p
+
   pub front-append-none : h .len ≤ h .«rewrite_count» → none ≡ frontSeq Append (window (h .«first_index») (h .len) xs)
   unfolding frontSeq mapOption first window
   front-append-none l =
@@ -103,24 +109,25 @@ module _ (h : Head) (xs : List ℕ) (w : Wf h xs) where
       rw (run-append h xs w, e)
 
   pub front-append : h .«rewrite_count» < h .len → some (getD xs (h .«rewrite_count» * 8 + 2) 0) ≡ frontSeq Append (window (h .«first_index») (h .len) xs)
-  unfolding frontSeq mapOption
   front-append l =
+      let front : first (runOf Append (window (h .«first_index») (h .len) xs)) ≡ some (rowAt (h .«first_index») xs (h .«rewrite_count»)) =
       rw (
         run-append h xs w,
         first-window (h .«first_index» + h .«rewrite_count») (h .len - h .«rewrite_count») (drop (h .«rewrite_count» * 8) xs) (omega arith),
         rowAt-drop (h .«first_index») (h .«rewrite_count») xs 0,
         add-zero (h .«rewrite_count»),
-        held-seq (h .«rewrite_count») l,
-      )
+      ) in
+      sym (rw (held-seq (h .«rewrite_count») l) at (front-of Append (rowAt (h .«first_index») xs (h .«rewrite_count»)) front))
 
   pub front-rewrite-none : h .«rewrite_count» ≡ 0 → none ≡ frontSeq Rewrite (window (h .«first_index») (h .len) xs)
   unfolding frontSeq mapOption first window
   front-rewrite-none e = rw (run-rewrite h xs w, e)
 
   pub front-rewrite : (h .«rewrite_count» ≡ 0 → ⊥) → some (getD xs 2 0) ≡ frontSeq Rewrite (window (h .«first_index») (h .len) xs)
-  unfolding frontSeq mapOption
   front-rewrite n =
-      rw (run-rewrite h xs w, first-window (h .«first_index») (h .«rewrite_count») xs (omega arith), held-seq 0 (omega (arith, w .front)))
+      let front : first (runOf Rewrite (window (h .«first_index») (h .len) xs)) ≡ some (rowAt (h .«first_index») xs 0) =
+      rw (run-rewrite h xs w, first-window (h .«first_index») (h .«rewrite_count») xs (omega arith)) in
+      sym (rw (held-seq 0 (omega (arith, w .front))) at (front-of Rewrite (rowAt (h .«first_index») xs 0) front))
 
 -- ---- `first_index`, `last_index`, and numbers of entries
 

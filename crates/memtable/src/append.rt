@@ -10,6 +10,7 @@ ghost use Rattle.memtable.specs.Preparing.{behind, Preparing};
 use crate::Appended;
 use crate::Head;
 use crate::numbers::lesser;
+use pipe_log::ENTRY_WIDTH;
 
 // How many entries stay before rows that are appended, or why the rows are refused.
 enum Prepared {
@@ -58,12 +59,12 @@ impl Head {
         requires { ⌜ (kept ≤ self .len) × (kept ≤ first) × (rewritesBefore rewrite kept ≤ self .«rewrite_count») ⌝ }
         ensures { λ r. ⌜ Laying (λ t. ok (behind kept first (now (part .entry)) (length (now (rows .entry)) / 8) (now (rows .entry)) t)) self (now (part .entry)) (now (rows .entry)) r (now (part .exit)) ⌝ }
     {
-        let at = kept * 8;
+        let at = kept * ENTRY_WIDTH;
         if part.len() - at < rows.len() {
             return Appended::Full;
         }
         cells::copy_in_u64(part, at, rows);
-        let len = kept + rows.len() / 8;
+        let len = kept + rows.len() / ENTRY_WIDTH;
         let start = first - kept as u64;
         if rewrite {
             return Appended::Done(Head {

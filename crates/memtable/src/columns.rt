@@ -9,6 +9,7 @@ ghost use Rattle.memtable.specs.Fetches.{entriesAt};
 ghost use Rattle.memtable.specs.Columns.{columns, SameLength, Answered, column, upFrom};
 use crate::Fetched;
 use crate::Head;
+use pipe_log::ENTRY_WIDTH;
 
 // Copies cell `cell` of `count` rows from row `from` on.
 fn copy_column(part: &[u64], from: usize, cell: usize, count: usize, out: &mut [u64])
@@ -17,7 +18,7 @@ fn copy_column(part: &[u64], from: usize, cell: usize, count: usize, out: &mut [
 {
     let mut i = 0;
     while i < count {
-        out[i] = part[(from + i) * 8 + cell];
+        out[i] = part[(from + i) * ENTRY_WIDTH + cell];
         i += 1;
     }
 }

@@ -4,6 +4,7 @@ ghost use Rattle.memtable.specs.Compaction.{Compaction};
 use crate::Compacted;
 use crate::Head;
 use crate::numbers::lesser;
+use pipe_log::ENTRY_WIDTH;
 
 impl Head {
     // Removes all entries with an index below `index`.
@@ -21,7 +22,7 @@ impl Head {
         let len = self.len;
         let count = lesser((index - first) as usize, len);
         let left = len - count;
-        cells::shift_down_u64(part, count * 8, 0, left * 8);
+        cells::shift_down_u64(part, count * ENTRY_WIDTH, 0, left * ENTRY_WIDTH);
         let old = self.rewrite_count;
         let gone = lesser(count, old);
         let head = Head {

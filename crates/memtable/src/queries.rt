@@ -7,6 +7,7 @@ use crate::FoundEntry;
 use crate::Head;
 use crate::SomeBefore;
 use crate::rows::entry_at;
+use pipe_log::ENTRY_WIDTH;
 
 impl Head {
     // The record at an index, if it is held.
@@ -63,7 +64,7 @@ impl Head {
         if self.len < count {
             return SomeBefore::Is(false);
         }
-        let at = (count - 1) * 8 + 2;
+        let at = (count - 1) * ENTRY_WIDTH + 2;
         SomeBefore::Is(part[at] <= gate)
     }
 }

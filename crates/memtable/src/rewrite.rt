@@ -4,13 +4,15 @@ ghost use mathlib.Core.Path.{_≡_};
 ghost use lib.ListN.{length, drop};
 ghost use Rattle.memtable.specs.Views.{Wf};
 ghost use Rattle.memtable.specs.Appends.{Lent};
-ghost use Rattle.memtable.specs.Rewrites.{gateOf, Rewriting, RunAnswer, Replaced};
-use crate::Gate;
+ghost use Rattle.pipe_log.specs.Numbers.{gateOf};
+ghost use Rattle.memtable.specs.Rewrites.{Rewriting, RunAnswer, Replaced};
 use crate::Head;
 use crate::Rewritten;
 use crate::numbers::beyond;
 use crate::numbers::lesser;
 use crate::scans::count_before;
+use pipe_log::ENTRY_WIDTH;
+use pipe_log::Gate;
 
 // How many entries are replaced, or that a gated rewrite meets a Rewrite entry.
 enum Replacing {
@@ -48,9 +50,9 @@ impl Head {
         requires { ⌜ ((pos + count) * 8 ≤ length (now part)) × ((skip + count) * 8 ≤ length (now rows)) ⌝ }
         ensures { λ r. ⌜ Replaced self (now (part .entry)) (now (rows .entry)) pos skip count r (now (part .exit)) ⌝ }
     {
-        let from = skip * 8;
-        let to = (skip + count) * 8;
-        cells::copy_in_u64(part, pos * 8, &rows[from..to]);
+        let from = skip * ENTRY_WIDTH;
+        let to = (skip + count) * ENTRY_WIDTH;
+        cells::copy_in_u64(part, pos * ENTRY_WIDTH, &rows[from..to]);
         let end = pos + count;
         if self.rewrite_count < end {
             return Head {
@@ -76,7 +78,7 @@ impl Head {
         ensures { λ r. ⌜ Rewriting (gateOf gate) self (now (part .entry)) first (now (rows .entry)) r (now (part .exit)) ⌝ }
     {
         let skip = beyond(self.first_index, first);
-        let most = lesser(self.len - pos, rows.len() / 8 - skip);
+        let most = lesser(self.len - pos, rows.len() / ENTRY_WIDTH - skip);
         let replacing = self.replacing(part, pos, most, gate);
         let Replacing::Rows(count) = replacing else {
             return Rewritten::AlreadyRewritten;
@@ -94,7 +96,7 @@ impl Head {
         if self.len <= pos {
             return Rewritten::Done(self);
         }
-        if rows.len() / 8 <= beyond(self.first_index, first) {
+        if rows.len() / ENTRY_WIDTH <= beyond(self.first_index, first) {
             return Rewritten::Done(self);
         }
         if self.rewrite_count < pos {

@@ -5,6 +5,7 @@ ghost use lib.ListN.{length, drop};
 ghost use Rattle.pipe_log.specs.Rows.{queueAt, compressionAt, entryOf, withIndex};
 ghost use Rattle.memtable.specs.Views.{AnyRow};
 use pipe_log::CompressionType;
+use pipe_log::ENTRY_WIDTH;
 use pipe_log::EntryBlock;
 use pipe_log::EntryIndex;
 use pipe_log::FileBlockHandle;
@@ -35,7 +36,7 @@ pub fn entry_at(part: &[u64], i: usize, index: u64) -> EntryIndex
     requires { ⌜ AnyRow (now part) i ⌝ }
     ensures { λ r. ⌜ r ≡ withIndex index (entryOf (drop (i * 8) (now (part .entry)))) ⌝ }
 {
-    let at = i * 8;
+    let at = i * ENTRY_WIDTH;
     let queue = queue_at(part[at + 1]);
     let id = FileId {
         queue,

@@ -4,6 +4,7 @@ ghost use Prim.Native.Nat.{_+_, _*_, _≤_};
 ghost use lib.ListN.{length, drop};
 ghost use Rattle.memtable.specs.Views.{AnyRows};
 ghost use Rattle.memtable.specs.Scans.{countBefore, stops, sizeCount};
+use pipe_log::ENTRY_WIDTH;
 
 // How many of `count` rows from row `from` on stand before the first with a sequence number above the gate.
 pub fn count_before(part: &[u64], from: usize, count: usize, gate: u64) -> usize
@@ -12,7 +13,7 @@ pub fn count_before(part: &[u64], from: usize, count: usize, gate: u64) -> usize
 {
     let mut i = 0;
     while i < count {
-        if gate < part[(from + i) * 8 + 2] {
+        if gate < part[(from + i) * ENTRY_WIDTH + 2] {
             return i;
         }
         i += 1;
@@ -42,7 +43,7 @@ pub fn count_to_size(part: &[u64], from: usize, count: usize, size: u64) -> usiz
     let mut sum = 0;
     let mut i = 0;
     while i < count {
-        let len = part[(from + i) * 8 + 7];
+        let len = part[(from + i) * ENTRY_WIDTH + 7];
         if over_size(size, sum, len) {
             return i;
         }

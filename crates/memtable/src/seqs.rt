@@ -10,6 +10,7 @@ ghost use Rattle.memtable.specs.Queries.{foundOf, frontSeq, minSeq, entr
 use crate::AtomicGroup;
 use crate::Found;
 use crate::Head;
+use pipe_log::ENTRY_WIDTH;
 use pipe_log::LogQueue;
 
 fn lesser_of(a: Found, b: Found) -> Found
@@ -39,7 +40,7 @@ impl Head {
                 if self.len <= count {
                     return Found::Absent;
                 }
-                Found::At(part[count * 8 + 2])
+                Found::At(part[count * ENTRY_WIDTH + 2])
             }
             LogQueue::Rewrite => {
                 if count == 0 {

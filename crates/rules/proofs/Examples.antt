@@ -6,23 +6,16 @@ use mathlib.Core.Option.{Option, some}
 use Prim.Native.Nat.{ℕ}
 use Rattle.rules.specs.Limits.{reservedKey}
 use Rattle.rules.specs.Causes.{Result, ok, andThen}
-use Rattle.rules.specs.Items.{LogQueue, Append, Rewrite, Batch, entries, command, clean, compact, kv, del}
+use Rattle.rules.specs.Items.{LogQueue, Append, Rewrite, entries, command, clean, compact, kv, del}
 use Rattle.rules.specs.TableQueries.{getKey}
 use Rattle.rules.specs.Context.{Context}
-use Rattle.rules.specs.Queries.{inGroup, groupNumbers}
+use Rattle.rules.specs.Queries.{inGroup}
 use Rattle.rules.proofs.Opened.{opened}
-use Rattle.rules.proofs.Terms.{several, keyPut, mark, batch, recovered, merged, held}
-
--- a marked batch of status b in file seq, with the entry at i
-abbrev pub part : ℕ → ℕ → ℕ → Batch
-part b seq i = batch Rewrite seq (mark b ∷ entries (several Rewrite seq i 1) ∷ [])
+use Rattle.rules.proofs.Terms.{several, keyPut, batch, part, recovered, merged, groupsIn, held}
 
 -- the value of a key of group 7
 abbrev pub valueAt : List ℕ → Result Context → Result (Option (List ℕ))
 valueAt k r = andThen r (λ c. inGroup 7 (λ t. ok (getKey k t)) c)
-
-abbrev pub groupsIn : Result Context → Result (List ℕ)
-groupsIn r = andThen r (λ c. ok (groupNumbers c))
 
 -- a run of one batch that puts a key with the one-byte value v
 abbrev pub putRun : LogQueue → ℕ → List ℕ → ℕ → Result Context

@@ -3,4 +3,6 @@ pub mod Opened
 pub mod Terms
 pub mod Bench
 pub mod Examples
+pub mod LimitExamples
+pub mod ContextExamples
 pub mod Script

@@ -4,10 +4,11 @@ use mathlib.Core.Option.{none, some}
 use Prim.Native.Nat.{ℕ, zero, suc}
 use Rattle.pipe_log.specs.declared.CompressionType.{the-variants.None}
 use Rattle.rules.specs.Limits.{reservedKey}
-use Rattle.rules.specs.Causes.{Result, ok, andThen, inOrder}
-use Rattle.rules.specs.Items.{LogQueue, EntryIndex, At, Content, kv, put, LogItem, Batch}
+use Rattle.rules.specs.Causes.{Result, ok, refused, andThen, inOrder}
+use Rattle.rules.specs.Items.{LogQueue, Append, Rewrite, EntryIndex, At, Content, entries, kv, put, LogItem, Batch}
 use Rattle.rules.specs.Context.{Context, fresh}
-use Rattle.rules.specs.Calls.{replay, merge}
+use Rattle.rules.specs.Calls.{replay, merge, join, append}
+use Rattle.rules.specs.Queries.{groupNumbers}
 use Rattle.maps.specs.Lists.{orElse}
 use Rattle.maps.specs.Maps.{lookup, numbers}
 
@@ -45,12 +46,36 @@ batchOf q seq xs = record { file = record { queue = q; seq = seq }; items = xs }
 abbrev pub batch : LogQueue → ℕ → List Content → Batch
 batch q seq cs = batchOf q seq (map (item 7) cs)
 
+-- a marked batch of status b in file seq, with the entry at i
+abbrev pub part : ℕ → ℕ → ℕ → Batch
+part b seq i = batch Rewrite seq (mark b ∷ entries (several Rewrite seq i 1) ∷ [])
+
 -- a run: batches replayed into a fresh context
 abbrev pub recovered : LogQueue → List Batch → Result Context
 recovered q bs = inOrder replay bs (fresh q)
 
 abbrev pub merged : Result Context → Result Context → Result Context
 merged older newer = andThen older (λ c. andThen newer (λ d. merge d c))
+
+-- a Rewrite context joined with an Append one, and live appends to an index
+abbrev pub joined : Result Context → Result Context → Result Context
+joined older newer = andThen older (λ c. andThen newer (λ d. join d c))
+
+abbrev pub emptyIndex : Result Context
+emptyIndex = joined (ok (fresh Rewrite)) (ok (fresh Append))
+
+abbrev pub appendedTo : Result Context → List Batch → Result Context
+appendedTo r bs = andThen r (inOrder append bs)
+
+-- refusals by 01's number, without and with a position
+abbrev pub no : {A : Type 0} → ℕ → Result A
+no n = refused (record { number = n; place = none })
+
+abbrev pub noAt : {A : Type 0} → ℕ → ℕ → Result A
+noAt n p = refused (record { number = n; place = some p })
+
+abbrev pub groupsIn : Result Context → Result (List ℕ)
+groupsIn r = andThen r (λ c. ok (groupNumbers c))
 
 -- the indexes that group 7 holds
 abbrev pub held : Result Context → Result (List ℕ)

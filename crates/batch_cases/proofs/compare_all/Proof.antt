@@ -26,10 +26,16 @@ enum-known-outcome : tie.Need-enum-known-outcome Inv-loop μ-loop
 enum-known-outcome c = search needs
 
 loop-less : tie.Need-loop-less Inv-loop μ-loop
-loop-less c = let a = (rw (c .before .outcome .given .1) at (c .before .before .before .run-at .ensures)) in omega arith
+loop-less c =
+    let run-at = c .before .before .before .run-at in
+    let outcome = c .before .outcome in
+    let a = (rw (outcome .given .1) at (run-at .ensures)) in omega arith
 
 loop-again : tie.Need-loop-again Inv-loop μ-loop
-loop-again c = let a = (rw (c .before .outcome .given .1) at (c .before .before .before .run-at .ensures)) in search needs
+loop-again c =
+    let run-at = c .before .before .before .run-at in
+    let outcome = c .before .outcome in
+    let a = (rw (outcome .given .1) at (run-at .ensures)) in search needs
 
 enum-known-outcome-2 : tie.Need-enum-known-outcome-2 Inv-loop μ-loop
 enum-known-outcome-2 c = search needs
@@ -44,10 +50,16 @@ add-differ : tie.Need-add-differ Inv-loop μ-loop
 add-differ c = search needs
 
 loop-less-2 : tie.Need-loop-less-2 Inv-loop μ-loop
-loop-less-2 c = let a = (rw (c .before .before .before .outcome2 .given .1) at (c .before .before .before .before .before .run-at .ensures)) in omega arith
+loop-less-2 c =
+    let run-at = c .before .before .before .before .before .run-at in
+    let outcome2 = c .before .before .before .outcome2 in
+    let a = (rw (outcome2 .given .1) at (run-at .ensures)) in omega arith
 
 loop-again-2 : tie.Need-loop-again-2 Inv-loop μ-loop
-loop-again-2 c = let a = (rw (c .before .before .before .outcome2 .given .1) at (c .before .before .before .before .before .run-at .ensures)) in search needs
+loop-again-2 c =
+    let run-at = c .before .before .before .before .before .run-at in
+    let outcome2 = c .before .before .before .outcome2 in
+    let a = (rw (outcome2 .given .1) at (run-at .ensures)) in search needs
 
 enum-told : tie.Need-enum-told Inv-loop μ-loop
 enum-told c = search needs

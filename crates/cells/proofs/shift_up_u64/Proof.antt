@@ -42,13 +42,17 @@ loop-less : tie.Need-loop-less Inv-loop μ-loop
 loop-less c = search needs
 
 loop-again : tie.Need-loop-again Inv-loop μ-loop
-loop-again c = (search needs, up-more _ _ _ (c .before .before .loop .left) 0 (c .before .before .loop .inv .1) (search needs) (search needs) (search needs) (search needs))
+loop-again c =
+    let loop = c .before .before .loop in
+    (search needs, up-more _ _ _ (loop .left) 0 (loop .inv .1) (search needs) (search needs) (search needs) (search needs))
 
 same-length : tie.Need-same-length Inv-loop μ-loop
 same-length c = search needs
 
 returns : tie.Need-returns Inv-loop μ-loop
-returns c = up-all _ _ _ (c .before .loop .left) (c .before .loop .inv .1) (search needs)
+returns c =
+    let loop = c .before .loop in
+    up-all _ _ _ (loop .left) (loop .inv .1) (search needs)
 
 pub shift-up-u64-spec : {M : Type 1} → statement M
 shift-up-u64-spec =

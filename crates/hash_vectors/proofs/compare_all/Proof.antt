@@ -40,13 +40,22 @@ add-differ : tie.Need-add-differ Inv-loop μ-loop
 add-differ c = search needs
 
 add-at : tie.Need-add-at Inv-loop μ-loop
-add-at c = let line = rw (c .before .before .input .given .1) at (c .before .before .before .before .line-at .ensures) in omega arith
+add-at c =
+    let line-at = c .before .before .before .before .line-at in
+    let input = c .before .before .input in
+    let line = rw (input .given .1) at (line-at .ensures) in omega arith
 
 loop-less : tie.Need-loop-less Inv-loop μ-loop
-loop-less c = let line = rw (c .before .before .input .given .1) at (c .before .before .before .before .line-at .ensures) in omega arith
+loop-less c =
+    let line-at = c .before .before .before .before .line-at in
+    let input = c .before .before .input in
+    let line = rw (input .given .1) at (line-at .ensures) in omega arith
 
 loop-again : tie.Need-loop-again Inv-loop μ-loop
-loop-again c = let line = rw (c .before .before .input .given .1) at (c .before .before .before .before .line-at .ensures) in search needs
+loop-again c =
+    let line-at = c .before .before .before .before .line-at in
+    let input = c .before .before .input in
+    let line = rw (input .given .1) at (line-at .ensures) in search needs
 
 say-counts-requires : tie.Need-say-counts-requires Inv-loop μ-loop
 say-counts-requires c κs = search needs

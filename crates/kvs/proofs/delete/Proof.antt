@@ -23,13 +23,23 @@ same-length-2 : tie.Need-same-length-2
 same-length-2 c = search needs
 
 returns : tie.Need-returns
-returns c = delete-absent (c .before .before .before .before .before .before .before .before .args .n) (c .before .before .before .before .before .before .before .before .args .rows .now) (c .before .before .before .before .before .before .before .before .args .bytes .now) (c .before .before .before .before .before .before .before .before .args .key .now) (c .before .before .before .before .before .before .before .before .pre) (c .enum-told .given .0 .0) (sym (c .before .before .find .ensures) ∙ c .enum-told .given .1)
+returns c =
+    let start = c .before .before .before .before .before .before .before .before in
+    let find = c .before .before .find in
+    delete-absent _ _ _ _ (start .pre) (c .enum-told .given .0 .0) (sym (find .ensures) ∙ c .enum-told .given .1)
 
 close-row-requires : tie.Need-close-row-requires
-close-row-requires c κs = let b = at-below (c .before .before .before .before .before .before .before .before .before .before .before .args .n) (c .before .before .before .before .before .before .before .before .before .before .before .args .rows .now) (c .before .before .before .before .before .before .before .before .before .before .before .args .bytes .now) (c .before .before .before .before .before .before .before .before .before .before .before .args .key .now) (c .before .before .before .i .given .0 .0) (sym (c .before .before .before .before .before .find .ensures) ∙ c .before .before .before .i .given .1) in omega (arith, c .before .before .before .before .before .before .before .before .before .before .before .pre)
+close-row-requires c κs =
+    let start = c .before .before .before .before .before .before .before .before .before .before .before in
+    let find = c .before .before .before .before .before .find in
+    let i = c .before .before .before .i in
+    let b = at-below _ _ _ _ (i .given .0 .0) (sym (find .ensures) ∙ i .given .1) in omega (arith, start .pre)
 
 sub-result : tie.Need-sub-result
-sub-result c = let b = at-below (c .before .before .before .before .before .before .before .before .before .before .before .before .before .before .before .before .args .n) (c .before .before .before .before .before .before .before .before .before .before .before .before .before .before .before .before .args .rows .now) (c .before .before .before .before .before .before .before .before .before .before .before .before .before .before .before .before .args .bytes .now) (c .before .before .before .before .before .before .before .before .before .before .before .before .before .before .before .before .args .key .now) (c .before .before .before .before .before .before .before .before .i .given .0 .0) (sym (c .before .before .before .before .before .before .before .before .before .before .find .ensures) ∙ c .before .before .before .before .before .before .before .before .i .given .1) in omega arith
+sub-result c =
+    let find = c .before .before .before .before .before .before .before .before .before .before .find in
+    let i = c .before .before .before .before .before .before .before .before .i in
+    let b = at-below _ _ _ _ (i .given .0 .0) (sym (find .ensures) ∙ i .given .1) in omega arith
 
 same-length-3 : tie.Need-same-length-3
 same-length-3 c = search needs
@@ -38,7 +48,12 @@ same-length-4 : tie.Need-same-length-4
 same-length-4 c = search needs
 
 returns-2 : tie.Need-returns-2
-returns-2 c = rw (c .before .before .before .before .close-row .ensures .0, c .before .before .before .before .close-row .ensures .1) (delete-at (c .before .before .before .before .before .before .before .before .before .before .before .before .before .before .before .before .args .n) (c .before .before .before .before .before .before .before .before .before .before .before .before .before .before .before .before .args .rows .now) (c .before .before .before .before .before .before .before .before .before .before .before .before .before .before .before .before .args .bytes .now) (c .before .before .before .before .before .before .before .before .before .before .before .before .before .before .before .before .args .key .now) (c .before .before .before .before .before .before .before .before .before .before .before .before .before .before .before .before .pre) (c .before .before .before .before .before .before .before .before .i .given .0 .0) (sym (c .before .before .before .before .before .before .before .before .before .before .find .ensures) ∙ c .before .before .before .before .before .before .before .before .i .given .1))
+returns-2 c =
+    let start = c .before .before .before .before .before .before .before .before .before .before .before .before .before .before .before .before in
+    let find = c .before .before .before .before .before .before .before .before .before .before .find in
+    let i = c .before .before .before .before .before .before .before .before .i in
+    let close-row = c .before .before .before .before .close-row in
+    rw (close-row .ensures .0, close-row .ensures .1) (delete-at _ _ _ _ (start .pre) (i .given .0 .0) (sym (find .ensures) ∙ i .given .1))
 
 pub delete-spec : {M : Type 1} → statement M
 delete-spec =

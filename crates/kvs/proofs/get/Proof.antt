@@ -14,7 +14,11 @@ enum-known-i : tie.Need-enum-known-i
 enum-known-i c = search needs
 
 value-at-requires : tie.Need-value-at-requires
-value-at-requires c κs = row-in _ _ _ _ (c .before .before .before .before .before .before .before .pre) (at-below (c .before .before .before .before .before .before .before .args .n) (c .before .before .before .before .before .before .before .args .rows .now) (c .before .before .before .before .before .before .before .args .bytes .now) (c .before .before .before .before .before .before .before .args .key .now) (c .before .i .given .0 .0) (sym (c .before .before .before .find .ensures) ∙ c .before .i .given .1))
+value-at-requires c κs =
+    let start = c .before .before .before .before .before .before .before in
+    let find = c .before .before .before .find in
+    let i = c .before .i in
+    row-in _ _ _ _ (start .pre) (at-below _ _ _ _ (i .given .0 .0) (sym (find .ensures) ∙ i .given .1))
 
 enum-told : tie.Need-enum-told
 enum-told c = search needs
@@ -29,10 +33,18 @@ part-result-end : tie.Need-part-result-end
 part-result-end c = search needs
 
 returns : tie.Need-returns
-returns c = get-at (c .before .before .before .before .before .before .before .before .args .n) (c .before .before .before .before .before .before .before .before .args .rows .now) (c .before .before .before .before .before .before .before .before .args .bytes .now) (c .before .before .before .before .before .before .before .before .args .key .now) (c .before .before .i .given .0 .0) (c .before .before .before .before .before .before .before .before .pre) (sym (c .before .before .before .before .find .ensures) ∙ c .before .before .i .given .1) _ (c .value-at .ensures)
+returns c =
+    let start = c .before .before .before .before .before .before .before .before in
+    let find = c .before .before .before .before .find in
+    let i = c .before .before .i in
+    get-at _ _ _ _ (i .given .0 .0) (start .pre) (sym (find .ensures) ∙ i .given .1) _ (c .value-at .ensures)
 
 returns-2 : tie.Need-returns-2
-returns-2 c = get-none (c .before .before .before .before .before .before .before .args .n) (c .before .before .before .before .before .before .before .args .rows .now) (c .before .before .before .before .before .before .before .args .bytes .now) (c .before .before .before .before .before .before .before .args .key .now) (c .before .enum-told .given .0 .0) (c .before .before .before .before .before .before .before .pre) (sym (c .before .before .before .find .ensures) ∙ c .before .enum-told .given .1) _ refl
+returns-2 c =
+    let start = c .before .before .before .before .before .before .before in
+    let find = c .before .before .before .find in
+    let enum-told = c .before .enum-told in
+    get-none _ _ _ _ (enum-told .given .0 .0) (start .pre) (sym (find .ensures) ∙ enum-told .given .1) _ refl
 
 pub get-spec : {M : Type 1} → statement M
 get-spec =

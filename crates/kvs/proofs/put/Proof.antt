@@ -15,7 +15,11 @@ enum-known-i : tie.Need-enum-known-i
 enum-known-i c = search needs
 
 write-row-requires : tie.Need-write-row-requires
-write-row-requires c κs = let b = at-below (c .before .before .before .before .before .before .before .before .before .before .before .before .args .n) (c .before .before .before .before .before .before .before .before .before .before .before .before .args .rows .now) (c .before .before .before .before .before .before .before .before .before .before .before .before .args .bytes .now) (c .before .before .before .before .before .before .before .before .before .before .before .before .args .key .now) (c .before .before .before .i .given .0 .0) (sym (c .before .before .before .before .before .find .ensures) ∙ c .before .before .before .i .given .1) in omega (arith, c .before .before .before .before .before .before .before .before .before .before .before .before .pre)
+write-row-requires c κs =
+    let start = c .before .before .before .before .before .before .before .before .before .before .before .before in
+    let find = c .before .before .before .before .before .find in
+    let i = c .before .before .before .i in
+    let b = at-below _ _ _ _ (i .given .0 .0) (sym (find .ensures) ∙ i .given .1) in omega (arith, start .pre)
 
 enum-known-i-2 : tie.Need-enum-known-i-2
 enum-known-i-2 c = search needs
@@ -33,7 +37,11 @@ same-length-2 : tie.Need-same-length-2
 same-length-2 c = search needs
 
 returns : tie.Need-returns
-returns c = put-full (c .before .before .before .before .before .before .before .before .before .before .before .args .n) (c .before .before .before .before .before .before .before .before .before .before .before .args .rows .now) (c .before .before .before .before .before .before .before .before .before .before .before .args .bytes .now) (c .before .before .before .before .before .before .before .before .before .before .before .args .key .now) (heldBy (c .before .before .before .before .before .before .before .before .before .before .before .args .value .now) (c .before .before .before .before .before .before .before .before .before .before .before .args .queue) (c .before .before .before .before .before .before .before .before .before .before .before .args .seq)) (c .before .before .before .before .before .before .before .before .before .before .before .pre .0) (c .before .before .i2 .given .0 .0) (sym (c .before .before .before .before .find .ensures) ∙ c .before .before .i2 .given .1) (no-rows _ _ _ (omega (arith, c .before .before .before .before .before .before .before .before .before .before .before .pre)))
+returns c =
+    let start = c .before .before .before .before .before .before .before .before .before .before .before in
+    let find = c .before .before .before .before .find in
+    let i2 = c .before .before .i2 in
+    put-full _ _ _ _ (heldBy _ _ _) (start .pre .0) (i2 .given .0 .0) (sym (find .ensures) ∙ i2 .given .1) (no-rows _ _ _ (omega (arith, start .pre)))
 
 mul-if2 : tie.Need-mul-if2
 mul-if2 c = search needs
@@ -48,10 +56,18 @@ same-length-4 : tie.Need-same-length-4
 same-length-4 c = search needs
 
 returns-2 : tie.Need-returns-2
-returns-2 c = put-full (c .before .before .before .before .before .before .before .before .before .before .before .before .args .n) (c .before .before .before .before .before .before .before .before .before .before .before .before .args .rows .now) (c .before .before .before .before .before .before .before .before .before .before .before .before .args .bytes .now) (c .before .before .before .before .before .before .before .before .before .before .before .before .args .key .now) (heldBy (c .before .before .before .before .before .before .before .before .before .before .before .before .args .value .now) (c .before .before .before .before .before .before .before .before .before .before .before .before .args .queue) (c .before .before .before .before .before .before .before .before .before .before .before .before .args .seq)) (c .before .before .before .before .before .before .before .before .before .before .before .before .pre .0) (c .before .before .before .i2 .given .0 .0) (sym (c .before .before .before .before .before .find .ensures) ∙ c .before .before .before .i2 .given .1) (no-bytes _ _ _ (omega (arith, c .before .before .before .before .before .before .before .before .before .before .before .before .pre)))
+returns-2 c =
+    let start = c .before .before .before .before .before .before .before .before .before .before .before .before in
+    let find = c .before .before .before .before .before .find in
+    let i2 = c .before .before .before .i2 in
+    put-full _ _ _ _ (heldBy _ _ _) (start .pre .0) (i2 .given .0 .0) (sym (find .ensures) ∙ i2 .given .1) (no-bytes _ _ _ (omega (arith, start .pre)))
 
 insert-row-requires : tie.Need-insert-row-requires
-insert-row-requires c κs = let b = before-below (c .before .before .before .before .before .before .before .before .before .before .before .before .before .before .args .n) (c .before .before .before .before .before .before .before .before .before .before .before .before .before .before .args .rows .now) (c .before .before .before .before .before .before .before .before .before .before .before .before .before .before .args .bytes .now) (c .before .before .before .before .before .before .before .before .before .before .before .before .before .before .args .key .now) (c .before .before .before .before .before .i2 .given .0 .0) (sym (c .before .before .before .before .before .before .before .find .ensures) ∙ c .before .before .before .before .before .i2 .given .1) in omega (arith, c .before .before .before .before .before .before .before .before .before .before .before .before .before .before .pre)
+insert-row-requires c κs =
+    let start = c .before .before .before .before .before .before .before .before .before .before .before .before .before .before in
+    let find = c .before .before .before .before .before .before .before .find in
+    let i2 = c .before .before .before .before .before .i2 in
+    let b = before-below _ _ _ _ (i2 .given .0 .0) (sym (find .ensures) ∙ i2 .given .1) in omega (arith, start .pre)
 
 add-t21 : tie.Need-add-t21
 add-t21 c = search needs
@@ -63,7 +79,12 @@ same-length-6 : tie.Need-same-length-6
 same-length-6 c = search needs
 
 returns-3 : tie.Need-returns-3
-returns-3 c = rw (c .before .before .before .before .write-row .ensures .0, c .before .before .before .before .write-row .ensures .1) (put-at (c .before .before .before .before .before .before .before .before .before .before .before .before .before .before .before .before .before .args .n) (c .before .before .before .before .before .before .before .before .before .before .before .before .before .before .before .before .before .args .rows .now) (c .before .before .before .before .before .before .before .before .before .before .before .before .before .before .before .before .before .args .bytes .now) (c .before .before .before .before .before .before .before .before .before .before .before .before .before .before .before .before .before .args .key .now) (heldBy (c .before .before .before .before .before .before .before .before .before .before .before .before .before .before .before .before .before .args .value .now) (c .before .before .before .before .before .before .before .before .before .before .before .before .before .before .before .before .before .args .queue) (c .before .before .before .before .before .before .before .before .before .before .before .before .before .before .before .before .before .args .seq)) (c .before .before .before .before .before .before .before .before .before .before .before .before .before .before .before .before .before .pre .0) (c .before .before .before .before .before .before .before .before .before .before .before .before .before .before .before .before .before .pre .1 .0) (c .before .before .before .before .before .before .before .before .before .before .before .before .before .before .before .before .before .pre .1 .1) (c .before .before .before .before .before .before .before .before .i .given .0 .0) (sym (c .before .before .before .before .before .before .before .before .before .before .find .ensures) ∙ c .before .before .before .before .before .before .before .before .i .given .1))
+returns-3 c =
+    let start = c .before .before .before .before .before .before .before .before .before .before .before .before .before .before .before .before .before in
+    let find = c .before .before .before .before .before .before .before .before .before .before .find in
+    let i = c .before .before .before .before .before .before .before .before .i in
+    let write-row = c .before .before .before .before .write-row in
+    rw (write-row .ensures .0, write-row .ensures .1) (put-at _ _ _ _ (heldBy _ _ _) (start .pre .0) (start .pre .1 .0) (start .pre .1 .1) (i .given .0 .0) (sym (find .ensures) ∙ i .given .1))
 
 same-length-7 : tie.Need-same-length-7
 same-length-7 c = search needs
@@ -72,7 +93,12 @@ same-length-8 : tie.Need-same-length-8
 same-length-8 c = search needs
 
 returns-4 : tie.Need-returns-4
-returns-4 c = rw (c .before .before .before .before .insert-row .ensures .0, c .before .before .before .before .insert-row .ensures .1) (put-before (c .before .before .before .before .before .before .before .before .before .before .before .before .before .before .before .before .before .before .before .args .n) (c .before .before .before .before .before .before .before .before .before .before .before .before .before .before .before .before .before .before .before .args .rows .now) (c .before .before .before .before .before .before .before .before .before .before .before .before .before .before .before .before .before .before .before .args .bytes .now) (c .before .before .before .before .before .before .before .before .before .before .before .before .before .before .before .before .before .before .before .args .key .now) (heldBy (c .before .before .before .before .before .before .before .before .before .before .before .before .before .before .before .before .before .before .before .args .value .now) (c .before .before .before .before .before .before .before .before .before .before .before .before .before .before .before .before .before .before .before .args .queue) (c .before .before .before .before .before .before .before .before .before .before .before .before .before .before .before .before .before .before .before .args .seq)) (c .before .before .before .before .before .before .before .before .before .before .before .before .before .before .before .before .before .before .before .pre .0) (c .before .before .before .before .before .before .before .before .before .before .before .before .before .before .before .before .before .before .before .pre .1 .0) (c .before .before .before .before .before .before .before .before .before .before .before .before .before .before .before .before .before .before .before .pre .1 .1) (c .before .before .before .before .before .before .before .before .before .before .i2 .given .0 .0) (sym (c .before .before .before .before .before .before .before .before .before .before .before .before .find .ensures) ∙ c .before .before .before .before .before .before .before .before .before .before .i2 .given .1) (omega (arith, c .before .before .before .before .before .before .before .before .before .before .before .before .before .before .before .before .before .before .before .pre)) (omega (arith, c .before .before .before .before .before .before .before .before .before .before .before .before .before .before .before .before .before .before .before .pre)))
+returns-4 c =
+    let start = c .before .before .before .before .before .before .before .before .before .before .before .before .before .before .before .before .before .before .before in
+    let find = c .before .before .before .before .before .before .before .before .before .before .before .before .find in
+    let i2 = c .before .before .before .before .before .before .before .before .before .before .i2 in
+    let insert-row = c .before .before .before .before .insert-row in
+    rw (insert-row .ensures .0, insert-row .ensures .1) (put-before _ _ _ _ (heldBy _ _ _) (start .pre .0) (start .pre .1 .0) (start .pre .1 .1) (i2 .given .0 .0) (sym (find .ensures) ∙ i2 .given .1) (omega (arith, start .pre)) (omega (arith, start .pre)))
 
 pub put-spec : {M : Type 1} → statement M
 put-spec =

@@ -2,6 +2,9 @@
 use crate::fetch::Which;
 use crate::fetch::bounds::in_bounds;
 use crate::files::is_of;
+use crate::rows::ROW_BYTES;
+use crate::rows::ROW_WIDTH;
+use crate::rows::VALUE_AT;
 use crate::rows::key_at;
 use crate::rows::value_at;
 use pipe_log::LogQueue;
@@ -23,8 +26,8 @@ fn up_to(rows: &[u64], i: usize, gate: u64) -> bool
     requires { ⌜ i * 4 + 4 ≤ length (now rows) ⌝ }
     ensures { λ r. ⌜ r ≡ (sameQueue (queueAt (getD (now (rows .entry)) (i * 4 + 2) 0)) Append && leb (getD (now (rows .entry)) (i * 4 + 3) 0) gate) ⌝ }
 {
-    if is_of(rows[i * 4 + 2], LogQueue::Append) {
-        return rows[i * 4 + 3] <= gate;
+    if is_of(rows[i * ROW_WIDTH + 2], LogQueue::Append) {
+        return rows[i * ROW_WIDTH + 3] <= gate;
     }
     false
 }
@@ -43,7 +46,7 @@ fn chosen(rows: &[u64], bytes: &[u8], i: usize, which: Which, start: &[u8], end:
             end,
         ),
         Which::UpTo(gate) => up_to(rows, i, gate),
-        Which::OfRewrite => is_of(rows[i * 4 + 2], LogQueue::Rewrite),
+        Which::OfRewrite => is_of(rows[i * ROW_WIDTH + 2], LogQueue::Rewrite),
     }
 }
 
@@ -92,8 +95,8 @@ fn copy_row(rows: &[u64], bytes: &[u8], i: usize, lens: &mut [u64], out: &mut [u
     let at = j * 2;
     lens[at] = key.len() as u64;
     lens[at + 1] = value.len() as u64;
-    cells::copy_in_u8(out, j * 64, key);
-    cells::copy_in_u8(out, j * 64 + 32, value);
+    cells::copy_in_u8(out, j * ROW_BYTES, key);
+    cells::copy_in_u8(out, j * ROW_BYTES + VALUE_AT, value);
 }
 
 // Copies row `i` to row `j` of the list if the query asks for it and the list is to have more than `j` rows; the next row of the list.

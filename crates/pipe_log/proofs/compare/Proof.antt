@@ -10,11 +10,15 @@ returns c = simp (lt-ltb _ _ (c .if1 .taken))
 
 returns-2 : tie.Need-returns-2
 unfolding numberOrder
-returns-2 c = simp (le-ltb _ _ (c .before .if1 .left), lt-ltb _ _ (c .if2 .taken))
+returns-2 c =
+    let if1 = c .before .if1 in
+    simp (le-ltb _ _ (if1 .left), lt-ltb _ _ (c .if2 .taken))
 
 returns-3 : tie.Need-returns-3
 unfolding numberOrder
-returns-3 c = simp (le-ltb _ _ (c .before .if1 .left), le-ltb _ _ (c .if2 .left))
+returns-3 c =
+    let if1 = c .before .if1 in
+    simp (le-ltb _ _ (if1 .left), le-ltb _ _ (c .if2 .left))
 
 pub compare-spec : {M : Type 1} → statement M
 compare-spec = tie.close (tie.spec returns returns-2 returns-3)

@@ -24,7 +24,10 @@ returns : tie.Need-returns Inv-loop μ-loop
 returns c = tt
 
 returns-2 : tie.Need-returns-2 Inv-loop μ-loop
-returns-2 c = record { digits = c .before .before .before .before .loop .inv .2; some = search needs; inside = search needs; ended = c .before .if1 .taken }
+returns-2 c =
+    let loop = c .before .before .before .before .loop in
+    let if1 = c .before .if1 in
+    record { digits = loop .inv .2; some = search needs; inside = search needs; ended = if1 .taken }
 
 returns-3 : tie.Need-returns-3 Inv-loop μ-loop
 returns-3 c = tt
@@ -55,7 +58,9 @@ loop-less c = search needs
 
 loop-again : tie.Need-loop-again Inv-loop μ-loop
 loop-again c =
-    (search needs, search needs, next (c .before .before .before .before .before .before .before .args .text .now) (c .before .before .before .before .before .before .before .args .at) (c .before .before .before .before .before .before .loop .i) (c .before .before .before .before .before .before .loop .value) (c .before .before .before .before .before .before .loop .inv .0) (c .before .before .before .before .before .before .loop .inv .2) (search needs) (search needs))
+    let the-start = c .before .before .before .before .before .before .before in
+    let loop = c .before .before .before .before .before .before .loop in
+    (search needs, search needs, next (the-start .args .text .now) (the-start .args .at) (loop .i) (loop .value) (loop .inv .0) (loop .inv .2) (search needs) (search needs))
 
 returns-6 : tie.Need-returns-6 Inv-loop μ-loop
 returns-6 c = tt

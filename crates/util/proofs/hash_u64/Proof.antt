@@ -12,7 +12,9 @@ wrapping-mul-requires-2 c κs = search needs
 
 returns : tie.Need-returns
 unfolding mixed
-returns c = rw (c .wrapping-mul2 .ensures, c .before .wrapping-mul .ensures)
+returns c =
+    let wrapping-mul = c .before .wrapping-mul in
+    rw (c .wrapping-mul2 .ensures, wrapping-mul .ensures)
 
 pub hash-u64-spec : {M : Type 1} → statement M
 hash-u64-spec = tie.close (tie.spec wrapping-mul-requires wrapping-mul-requires-2 returns)

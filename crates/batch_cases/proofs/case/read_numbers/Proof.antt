@@ -41,7 +41,10 @@ slice-write-out : tie.Need-slice-write-out Inv-loop μ-loop
 slice-write-out c = search needs
 
 add-next : tie.Need-add-next Inv-loop μ-loop
-add-next c = let n = rw (c .before .value .given .1) at (c .before .before .before .number-at .ensures) in omega arith
+add-next c =
+    let number-at = c .before .before .before .number-at in
+    let value = c .before .value in
+    let n = rw (value .given .1) at (number-at .ensures) in omega arith
 
 add-i : tie.Need-add-i Inv-loop μ-loop
 add-i c = search needs
@@ -50,7 +53,10 @@ loop-less : tie.Need-loop-less Inv-loop μ-loop
 loop-less c = search needs
 
 loop-again : tie.Need-loop-again Inv-loop μ-loop
-loop-again c = let n = rw (c .before .value .given .1) at (c .before .before .before .number-at .ensures) in simp length-set (search needs)
+loop-again c =
+    let number-at = c .before .before .before .number-at in
+    let value = c .before .value in
+    let n = rw (value .given .1) at (number-at .ensures) in simp length-set (search needs)
 
 same-length-2 : tie.Need-same-length-2 Inv-loop μ-loop
 same-length-2 c = search needs

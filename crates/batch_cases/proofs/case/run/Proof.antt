@@ -39,9 +39,13 @@ returns-4 c = search needs
 
 read-numbers-requires-2 : tie.Need-read-numbers-requires-2
 read-numbers-requires-2 c κs =
-    let past = c .before .before .before .before .before .before in
-    let a = (rw (c .before .before .after-items .given .1) at (past .read-numbers .ensures)) in
-    omega (arith, past .before .before .before .before .if1 .left, past .before .before .before .if2 .left, past .before .before .if3 .left)
+    let if1 = c .before .before .before .before .before .before .before .before .before .before .if1 in
+    let if2 = c .before .before .before .before .before .before .before .before .before .if2 in
+    let if3 = c .before .before .before .before .before .before .before .before .if3 in
+    let read-numbers = c .before .before .before .before .before .before .read-numbers in
+    let after-items = c .before .before .after-items in
+    let a = (rw (after-items .given .1) at (read-numbers .ensures)) in
+    omega (arith, if1 .left, if2 .left, if3 .left)
 
 enum-known-after-entries : tie.Need-enum-known-after-entries
 enum-known-after-entries c = search needs
@@ -60,9 +64,13 @@ returns-5 c = search needs
 
 read-bytes-requires : tie.Need-read-bytes-requires
 read-bytes-requires c κs =
-    let past = c .before .before .before .before .before .before in
-    let a = (rw (c .before .before .after-entries .given .1) at (past .read-numbers2 .ensures)) in
-    omega (arith, past .before .before .before .before .before .before .before .before .before .before .before .if1 .left, past .before .before .before .before .before .before .before .before .before .before .if2 .left, past .before .before .before .before .before .before .before .before .before .if3 .left)
+    let if1 = c .before .before .before .before .before .before .before .before .before .before .before .before .before .before .before .before .before .if1 in
+    let if2 = c .before .before .before .before .before .before .before .before .before .before .before .before .before .before .before .before .if2 in
+    let if3 = c .before .before .before .before .before .before .before .before .before .before .before .before .before .before .before .if3 in
+    let read-numbers2 = c .before .before .before .before .before .before .read-numbers2 in
+    let after-entries = c .before .before .after-entries in
+    let a = (rw (after-entries .given .1) at (read-numbers2 .ensures)) in
+    omega (arith, if1 .left, if2 .left, if3 .left)
 
 enum-known-end : tie.Need-enum-known-end
 enum-known-end c = search needs
@@ -90,8 +98,13 @@ call-of-requires c κs = search needs
 
 answer-of-requires : tie.Need-answer-of-requires
 answer-of-requires c κs =
-    let past = c .before .before .before .before .before .before .before .before .before in
-    omega (arith, past .before .before .before .before .before .before .before .before .before .before .before .before .before .before .before .before .before .before .if1 .left, past .before .before .before .before .before .before .before .before .before .before .before .before .before .before .before .before .before .if2 .left, past .before .before .before .before .before .before .before .before .before .before .before .before .before .before .before .before .if3 .left, past .before .before .before .before .before .before .before .before .before .before .before .before .before .before .read-numbers .kept, past .before .before .before .before .before .before .before .read-numbers2 .kept, past .read-bytes .kept)
+    let if1 = c .before .before .before .before .before .before .before .before .before .before .before .before .before .before .before .before .before .before .before .before .before .before .before .before .before .before .before .if1 in
+    let if2 = c .before .before .before .before .before .before .before .before .before .before .before .before .before .before .before .before .before .before .before .before .before .before .before .before .before .before .if2 in
+    let if3 = c .before .before .before .before .before .before .before .before .before .before .before .before .before .before .before .before .before .before .before .before .before .before .before .before .before .if3 in
+    let read-numbers = c .before .before .before .before .before .before .before .before .before .before .before .before .before .before .before .before .before .before .before .before .before .before .before .read-numbers in
+    let read-numbers2 = c .before .before .before .before .before .before .before .before .before .before .before .before .before .before .before .before .read-numbers2 in
+    let read-bytes = c .before .before .before .before .before .before .before .before .before .read-bytes in
+    omega (arith, if1 .left, if2 .left, if3 .left, read-numbers .kept, read-numbers2 .kept, read-bytes .kept)
 
 array-read-is-expected : tie.Need-array-read-is-expected
 array-read-is-expected c = search needs
@@ -113,10 +126,15 @@ same-length-9 c = search needs
 
 returns-7 : tie.Need-returns-7
 returns-7 c =
-    let past = c .before .before .before .before .before .before .before .before in
-    let a = (rw (past .before .before .before .before .before .before .before .before .before .before .before .before .before .before .after-items .given .1) at (past .before .before .before .before .before .before .before .before .before .before .before .before .before .before .before .before .before .before .read-numbers .ensures)) in
-    let b = (rw (past .before .before .before .before .before .before .before .after-entries .given .1) at (past .before .before .before .before .before .before .before .before .before .before .before .read-numbers2 .ensures)) in
-    let d = (rw (past .end .given .1) at (past .before .before .before .before .read-bytes .ensures)) in
+    let read-numbers = c .before .before .before .before .before .before .before .before .before .before .before .before .before .before .before .before .before .before .before .before .before .before .before .before .before .before .read-numbers in
+    let after-items = c .before .before .before .before .before .before .before .before .before .before .before .before .before .before .before .before .before .before .before .before .before .before .after-items in
+    let read-numbers2 = c .before .before .before .before .before .before .before .before .before .before .before .before .before .before .before .before .before .before .before .read-numbers2 in
+    let after-entries = c .before .before .before .before .before .before .before .before .before .before .before .before .before .before .before .after-entries in
+    let read-bytes = c .before .before .before .before .before .before .before .before .before .before .before .before .read-bytes in
+    let end = c .before .before .before .before .before .before .before .before .end in
+    let a = (rw (after-items .given .1) at (read-numbers .ensures)) in
+    let b = (rw (after-entries .given .1) at (read-numbers2 .ensures)) in
+    let d = (rw (end .given .1) at (read-bytes .ensures)) in
     omega arith
 
 same-length-10 : tie.Need-same-length-10
@@ -130,10 +148,15 @@ same-length-12 c = search needs
 
 returns-8 : tie.Need-returns-8
 returns-8 c =
-    let past = c .before .before .before .before .before .before .before .before in
-    let a = (rw (past .before .before .before .before .before .before .before .before .before .before .before .before .before .before .after-items .given .1) at (past .before .before .before .before .before .before .before .before .before .before .before .before .before .before .before .before .before .before .read-numbers .ensures)) in
-    let b = (rw (past .before .before .before .before .before .before .before .after-entries .given .1) at (past .before .before .before .before .before .before .before .before .before .before .before .read-numbers2 .ensures)) in
-    let d = (rw (past .end .given .1) at (past .before .before .before .before .read-bytes .ensures)) in
+    let read-numbers = c .before .before .before .before .before .before .before .before .before .before .before .before .before .before .before .before .before .before .before .before .before .before .before .before .before .before .read-numbers in
+    let after-items = c .before .before .before .before .before .before .before .before .before .before .before .before .before .before .before .before .before .before .before .before .before .before .after-items in
+    let read-numbers2 = c .before .before .before .before .before .before .before .before .before .before .before .before .before .before .before .before .before .before .before .read-numbers2 in
+    let after-entries = c .before .before .before .before .before .before .before .before .before .before .before .before .before .before .before .after-entries in
+    let read-bytes = c .before .before .before .before .before .before .before .before .before .before .before .before .read-bytes in
+    let end = c .before .before .before .before .before .before .before .before .end in
+    let a = (rw (after-items .given .1) at (read-numbers .ensures)) in
+    let b = (rw (after-entries .given .1) at (read-numbers2 .ensures)) in
+    let d = (rw (end .given .1) at (read-bytes .ensures)) in
     omega arith
 
 pub run-spec : {M : Type 1} → statement M

@@ -22,7 +22,10 @@ slice-aggregate-read-numbers : tie.Need-slice-aggregate-read-numbers
 slice-aggregate-read-numbers c = search needs
 
 read-numbers-requires : tie.Need-read-numbers-requires
-read-numbers-requires c κs = let a = (rw (c .before .before .named .given .1) at (c .before .before .before .before .skip-line .ensures)) in omega arith
+read-numbers-requires c κs =
+    let skip-line = c .before .before .before .before .skip-line in
+    let named = c .before .before .named in
+    let a = (rw (named .given .1) at (skip-line .ensures)) in omega arith
 
 enum-known-headed : tie.Need-enum-known-headed
 enum-known-headed c = search needs
@@ -43,12 +46,21 @@ slice-aggregate-run-3 : tie.Need-slice-aggregate-run-3
 slice-aggregate-run-3 c = search needs
 
 run-requires : tie.Need-run-requires
-run-requires c κs = let a = (rw (c .before .before .before .before .headed .given .1) at (c .before .before .before .before .before .before .before .read-numbers .ensures)) in omega arith
+run-requires c κs =
+    let read-numbers = c .before .before .before .before .before .before .before .read-numbers in
+    let headed = c .before .before .before .before .headed in
+    let a = (rw (headed .given .1) at (read-numbers .ensures)) in omega arith
 
 returns-3 : tie.Need-returns-3
 returns-3 c =
-    let args = c .before .before .before .before .before .before .before .before .before .before .before .before .before .before .before .before .before .before .args in
-    let a = (rw (c .before .before .before .before .before .before .before .before .before .before .before .before .before .before .named .given .1) at (c .before .before .before .before .before .before .before .before .before .before .before .before .before .before .before .before .skip-line .ensures)) in let b = (rw (c .before .before .before .before .before .before .before .before .headed .given .1) at (c .before .before .before .before .before .before .before .before .before .before .before .read-numbers .ensures)) in moves-on (args .at) (c .before .before .before .before .before .before .before .before .headed .given .0 .0) (length (args .text .now)) (c .before .before .before .run .result) (omega arith) (c .before .before .before .run .ensures)
+    let start = c .before .before .before .before .before .before .before .before .before .before .before .before .before .before .before .before .before .before in
+    let skip-line = c .before .before .before .before .before .before .before .before .before .before .before .before .before .before .before .before .skip-line in
+    let named = c .before .before .before .before .before .before .before .before .before .before .before .before .before .before .named in
+    let read-numbers = c .before .before .before .before .before .before .before .before .before .before .before .read-numbers in
+    let headed = c .before .before .before .before .before .before .before .before .headed in
+    let run = c .before .before .before .run in
+    let args = start .args in
+    let a = (rw (named .given .1) at (skip-line .ensures)) in let b = (rw (headed .given .1) at (read-numbers .ensures)) in moves-on (args .at) (headed .given .0 .0) (length (args .text .now)) (run .result) (omega arith) (run .ensures)
 
 pub run-at-spec : {M : Type 1} → statement M
 run-at-spec =

@@ -17,10 +17,16 @@ returns : tie.Need-returns
 returns c = search needs
 
 add-number-at : tie.Need-add-number-at
-add-number-at c = let input = rw (c .before .input .given .1) at (c .before .before .before .number-at .ensures) in omega arith
+add-number-at c =
+    let number-at = c .before .before .before .number-at in
+    let input = c .before .input in
+    let input = rw (input .given .1) at (number-at .ensures) in omega arith
 
 number-at-requires-2 : tie.Need-number-at-requires-2
-number-at-requires-2 c κs = let input = rw (c .before .input .given .1) at (c .before .before .before .number-at .ensures) in omega arith
+number-at-requires-2 c κs =
+    let number-at = c .before .before .before .number-at in
+    let input = c .before .input in
+    let input = rw (input .given .1) at (number-at .ensures) in omega arith
 
 enum-known-output : tie.Need-enum-known-output
 enum-known-output c = search needs
@@ -33,7 +39,11 @@ returns-2 c = search needs
 
 returns-3 : tie.Need-returns-3
 returns-3 c =
-    record { space = c .before .before .before .before .before .input .given .0 .1 .0; input = rw (c .before .before .before .before .before .input .given .1) at (c .before .before .before .before .before .before .before .number-at .ensures); output = rw (c .before .output .given .1) at (c .before .before .before .number-at2 .ensures) }
+    let number-at = c .before .before .before .before .before .before .before .number-at in
+    let input = c .before .before .before .before .before .input in
+    let number-at2 = c .before .before .before .number-at2 in
+    let output = c .before .output in
+    record { space = input .given .0 .1 .0; input = rw (input .given .1) at (number-at .ensures); output = rw (output .given .1) at (number-at2 .ensures) }
 
 pub line-at-spec : {M : Type 1} → statement M
 line-at-spec =

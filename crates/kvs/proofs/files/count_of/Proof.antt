@@ -35,7 +35,9 @@ one-of-requires : tie.Need-one-of-requires Inv-loop μ-loop
 one-of-requires c κs = search needs
 
 add-count : tie.Need-add-count Inv-loop μ-loop
-add-count c = omega (arith, c .before .before .before .before .before .pre, c .one-of .ensures .1)
+add-count c =
+    let start = c .before .before .before .before .before in
+    omega (arith, start .pre, c .one-of .ensures .1)
 
 add-i : tie.Need-add-i Inv-loop μ-loop
 add-i c = search needs
@@ -44,19 +46,25 @@ loop-less : tie.Need-loop-less Inv-loop μ-loop
 loop-less c = search needs
 
 loop-again : tie.Need-loop-again Inv-loop μ-loop
-loop-again c = (
-  search needs,
-  omega (arith, c .one-of .ensures .1),
-  λ bs.
-      let m = count-rest (c .before .before .before .before .before .args .n) (c .before .before .before .before .before .args .rows .now) (c .before .before .before .before .before .args .queue) bs (c .before .before .before .loop .i) (c .before .before .loop-test .taken) in
-      let e = c .before .before .before .loop .inv .2 bs in
-      omega (arith, m, e, c .one-of .ensures .0),
-)
+loop-again c =
+    let start = c .before .before .before .before .before in
+    let loop = c .before .before .before .loop in
+    let loop-test = c .before .before .loop-test in (
+      search needs,
+      omega (arith, c .one-of .ensures .1),
+      λ bs.
+          let m = count-rest (start .args .n) (start .args .rows .now) (start .args .queue) bs (loop .i) (loop-test .taken) in
+          let e = loop .inv .2 bs in
+          omega (arith, m, e, c .one-of .ensures .0),
+    )
 
 returns : tie.Need-returns Inv-loop μ-loop
-returns c = λ t bs g.
-    let l = ap length (rest-none (c .before .before .before .args .n) (c .before .before .before .args .rows .now) (c .before .before .before .args .queue) bs (c .before .loop .i) (search needs)) in
-    let e = c .before .loop .inv .2 bs in
+returns c =
+    let start = c .before .before .before in
+    let loop = c .before .loop in
+    λ t bs g.
+    let l = ap length (rest-none (start .args .n) (start .args .rows .now) (start .args .queue) bs (loop .i) (search needs)) in
+    let e = loop .inv .2 bs in
     rw (rest-all _ _ _ bs t g) (omega (arith, l, e))
 
 pub count-of-spec : {M : Type 1} → statement M

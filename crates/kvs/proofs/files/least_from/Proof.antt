@@ -35,10 +35,15 @@ lesser-requires : tie.Need-lesser-requires
 lesser-requires c κs = search needs
 
 returns : tie.Need-returns
-returns c = rw (← c .before .before .before .is-of .ensures, c .before .before .if1 .taken) (c .lesser .ensures)
+returns c =
+    let is-of = c .before .before .before .is-of in
+    let if1 = c .before .before .if1 in
+    rw (← is-of .ensures, if1 .taken) (c .lesser .ensures)
 
 returns-2 : tie.Need-returns-2
-returns-2 c = rw (← c .before .is-of .ensures, c .if1 .left)
+returns-2 c =
+    let is-of = c .before .is-of in
+    rw (← is-of .ensures, c .if1 .left)
 
 pub least-from-spec : {M : Type 1} → statement M
 least-from-spec =

@@ -19,24 +19,31 @@ abbrev μ-loop : tie.MeasureT-loop
 
 loop-holds : tie.Need-loop-holds Inv-loop μ-loop
 unfolding leastSeq leastAs
-loop-holds c = (search needs, λ bs. sym (rw (rest-none (c .before .args .n) (c .before .args .rows .now) (c .before .args .queue) bs (c .before .args .n) (le-refl _))))
+loop-holds c =
+    (search needs, λ bs. sym (rw (rest-none _ _ _ bs _ (le-refl _))))
 
 sub-i : tie.Need-sub-i Inv-loop μ-loop
 sub-i c = search needs
 
 least-from-requires : tie.Need-least-from-requires Inv-loop μ-loop
-least-from-requires c κs = omega (arith, c .before .before .before .pre)
+least-from-requires c κs =
+    let start = c .before .before .before in
+    omega (arith, start .pre)
 
 loop-less : tie.Need-loop-less Inv-loop μ-loop
 loop-less c = search needs
 
 loop-again : tie.Need-loop-again Inv-loop μ-loop
-loop-again c = (search needs, λ bs. least-step (c .before .before .before .before .args .n) (c .before .before .before .before .args .rows .now) (c .before .before .before .before .args .queue) bs (c .before .before .loop .i) _ _ (search needs) (search needs) (c .before .before .loop .inv .1 bs) (c .least-from .ensures))
+loop-again c =
+    let loop = c .before .before .loop in
+    (search needs, λ bs. least-step _ _ _ bs (loop .i) _ _ (search needs) (search needs) (loop .inv .1 bs) (c .least-from .ensures))
 
 returns : tie.Need-returns Inv-loop μ-loop
-returns c = λ t bs g.
-    let z : c .before .loop .i ≡ 0 = omega arith in
-    rw (rest-all _ _ _ bs t g) (sym (c .before .loop .inv .1 bs ∙ rw z))
+returns c =
+    let loop = c .before .loop in
+    λ t bs g.
+    let z : loop .i ≡ 0 = omega arith in
+    rw (rest-all _ _ _ bs t g) (sym (loop .inv .1 bs ∙ rw z))
 
 pub least-seq-spec : {M : Type 1} → statement M
 least-seq-spec =

@@ -14,10 +14,14 @@ returns : tie.Need-returns
 returns c = lesser-none _ _ (c .enum-told .given .1)
 
 returns-2 : tie.Need-returns-2
-returns-2 c = lesser-first _ _ _ (c .before .before .other .given .1) (c .if1 .taken)
+returns-2 c =
+    let other = c .before .before .other in
+    lesser-first _ _ _ (other .given .1) (c .if1 .taken)
 
 returns-3 : tie.Need-returns-3
-returns-3 c = lesser-second _ _ _ (c .before .before .other .given .1) (c .if1 .left)
+returns-3 c =
+    let other = c .before .before .other in
+    lesser-second _ _ _ (other .given .1) (c .if1 .left)
 
 pub lesser-spec : {M : Type 1} → statement M
 lesser-spec = tie.close (tie.spec enum-known-other enum-told returns returns-2 returns-3)

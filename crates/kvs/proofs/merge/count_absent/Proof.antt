@@ -20,13 +20,17 @@ loop-holds : tie.Need-loop-holds Inv-loop μ-loop
 loop-holds c = (search needs, search needs, sym (zero-add _))
 
 key-at-requires : tie.Need-key-at-requires Inv-loop μ-loop
-key-at-requires c κs = row-in _ _ _ _ (c .before .before .before .before .before .before .pre .1) (search needs)
+key-at-requires c κs =
+    let start = c .before .before .before .before .before .before in
+    row-in _ _ _ _ (start .pre .1) (search needs)
 
 one-absent-requires : tie.Need-one-absent-requires Inv-loop μ-loop
 one-absent-requires c κs = search needs
 
 add-count : tie.Need-add-count Inv-loop μ-loop
-add-count c = omega (arith, c .before .before .before .before .before .before .before .before .pre, c .before .before .before .before .before .before .before .before .good, c .one-absent .ensures .1)
+add-count c =
+    let start = c .before .before .before .before .before .before .before .before in
+    omega (arith, start .pre, start .good, c .one-absent .ensures .1)
 
 add-j : tie.Need-add-j Inv-loop μ-loop
 add-j c = search needs
@@ -35,15 +39,26 @@ loop-less : tie.Need-loop-less Inv-loop μ-loop
 loop-less c = search needs
 
 loop-again : tie.Need-loop-again Inv-loop μ-loop
-loop-again c = (
-  search needs,
-  omega (arith, c .one-absent .ensures .1),
-  let e = rw (c .before .key-at .ensures) at (c .one-absent .ensures .0) in
-      omega (arith, lacks-more (keysIn (c .before .before .before .before .before .before .before .before .args .n) (c .before .before .before .before .before .before .before .before .args .rows .now) (c .before .before .before .before .before .before .before .before .args .bytes .now)) (c .before .before .before .before .before .before .before .before .args .m) (c .before .before .before .before .before .before .before .before .args .newrows .now) (c .before .before .before .before .before .before .before .before .args .newbytes .now) (c .before .before .before .loop .j) (c .before .before .loop-test .taken), e),
-)
+loop-again c =
+    let start = c .before .before .before .before .before .before .before .before in
+    let loop = c .before .before .before .loop in
+    let loop-test = c .before .before .loop-test in
+    let key-at = c .before .key-at in
+    let args = start .args in
+    let keys = keysIn (args .n) (args .rows .now) (args .bytes .now) in
+    let more = lacks-more keys (args .m) (args .newrows .now) (args .newbytes .now) (loop .j) (loop-test .taken) in
+    let one = rw (key-at .ensures) at (c .one-absent .ensures .0) in
+    (search needs, omega (arith, c .one-absent .ensures .1), omega (arith, more, one))
 
 returns : tie.Need-returns Inv-loop μ-loop
-returns c = (omega (arith, lacks-all (keysIn (c .before .before .before .before .before .before .args .n) (c .before .before .before .before .before .before .args .rows .now) (c .before .before .before .before .before .before .args .bytes .now)) (c .before .before .before .before .before .before .args .m) (c .before .before .before .before .before .before .args .newrows .now) (c .before .before .before .before .before .before .args .newbytes .now), lacks-none (keysIn (c .before .before .before .before .before .before .args .n) (c .before .before .before .before .before .before .args .rows .now) (c .before .before .before .before .before .before .args .bytes .now)) (c .before .before .before .before .before .before .args .m) (c .before .before .before .before .before .before .args .newrows .now) (c .before .before .before .before .before .before .args .newbytes .now) (c .before .loop .j) (search needs)), search needs)
+returns c =
+    let start = c .before .before .before .before .before .before in
+    let loop = c .before .loop in
+    let args = start .args in
+    let keys = keysIn (args .n) (args .rows .now) (args .bytes .now) in
+    let all = lacks-all keys (args .m) (args .newrows .now) (args .newbytes .now) in
+    let rest = lacks-none keys (args .m) (args .newrows .now) (args .newbytes .now) (loop .j) (search needs) in
+    (omega (arith, all, rest), search needs)
 
 pub count-absent-spec : {M : Type 1} → statement M
 count-absent-spec =

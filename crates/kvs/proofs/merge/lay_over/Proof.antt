@@ -17,10 +17,15 @@ abbrev μ-loop : tie.MeasureT-loop
 μ-loop n rows₀ bytes₀ m newrows newbytes count₀ j₀ rows bytes count j = m - j
 
 loop-holds : tie.Need-loop-holds Inv-loop μ-loop
-loop-holds c = (search needs, refl, refl, laying-none _ _ _ _ (c .before .before .before .before .pre .0))
+loop-holds c =
+    let start = c .before .before .before .before in
+    (search needs, refl, refl, laying-none _ _ _ _ (start .pre .0))
 
 put-row-requires : tie.Need-put-row-requires Inv-loop μ-loop
-put-row-requires c κs = (c .before .before .before .loop .inv .3 .wf, row-in _ _ _ _ (c .before .before .before .before .before .before .before .before .pre .1 .0) (search needs))
+put-row-requires c κs =
+    let start = c .before .before .before .before .before .before .before .before in
+    let loop = c .before .before .before .loop in
+    (loop .inv .3 .wf, row-in _ _ _ _ (start .pre .1 .0) (search needs))
 
 enum-known-more : tie.Need-enum-known-more Inv-loop μ-loop
 enum-known-more c = search needs
@@ -35,7 +40,12 @@ same-length-2 : tie.Need-same-length-2 Inv-loop μ-loop
 same-length-2 c = search needs
 
 returns : tie.Need-returns Inv-loop μ-loop
-returns c = absurd (never-full (c .before .before .before .before .before .before .before .before .before .before .before .before .before .before .before .args .n) (c .before .before .before .before .before .before .before .before .before .before .before .before .before .before .before .args .rows .now) (c .before .before .before .before .before .before .before .before .before .before .before .before .before .before .before .args .bytes .now) (c .before .before .before .before .before .before .before .before .before .before .before .before .before .before .before .args .m) (c .before .before .before .before .before .before .before .before .before .before .before .before .before .before .before .args .newrows .now) (c .before .before .before .before .before .before .before .before .before .before .before .before .before .before .before .args .newbytes .now) (c .before .before .before .before .before .before .before .before .before .before .loop .j) (c .before .before .before .before .before .before .before .before .before .loop-test .taken) (c .before .before .before .before .before .before .before .before .before .before .loop .count) (c .before .before .before .before .before .before .before .before .before .before .loop .rows) (c .before .before .before .before .before .before .before .before .before .before .loop .bytes) (c .before .before .before .before .before .before .before .before .before .before .loop .inv .3) (c .before .before .before .before .before .before .before .before .before .before .before .before .before .before .before .pre .1 .1) (c .before .before .before .before .before .before .before .before .before .before .loop .inv .1) (c .before .before .before .before .before .before .before .before .before .before .loop .inv .2) (c .before .before .before .before .before .before .put-row .result) _ _ (c .before .before .before .before .before .before .put-row .ensures) (c .enum-told .given .1))
+returns c =
+    let start = c .before .before .before .before .before .before .before .before .before .before .before .before .before .before .before in
+    let loop = c .before .before .before .before .before .before .before .before .before .before .loop in
+    let loop-test = c .before .before .before .before .before .before .before .before .before .loop-test in
+    let put-row = c .before .before .before .before .before .before .put-row in
+    absurd (never-full _ _ _ _ _ _ (loop .j) (loop-test .taken) (loop .count) (loop .rows) (loop .bytes) (loop .inv .3) (start .pre .1 .1) (loop .inv .1) (loop .inv .2) (put-row .result) _ _ (put-row .ensures) (c .enum-told .given .1))
 
 add-j : tie.Need-add-j Inv-loop μ-loop
 add-j c = search needs
@@ -44,7 +54,13 @@ loop-less : tie.Need-loop-less Inv-loop μ-loop
 loop-less c = search needs
 
 loop-again : tie.Need-loop-again Inv-loop μ-loop
-loop-again c = (search needs, c .before .before .before .before .before .before .before .put-row .kept .1 .0 ∙ c .before .before .before .before .before .before .before .before .before .before .before .loop .inv .1, c .before .before .before .before .before .before .before .put-row .kept .1 .1 .0 ∙ c .before .before .before .before .before .before .before .before .before .before .before .loop .inv .2, laying-more (c .before .before .before .before .before .before .before .before .before .before .before .before .before .before .before .before .args .n) (c .before .before .before .before .before .before .before .before .before .before .before .before .before .before .before .before .args .rows .now) (c .before .before .before .before .before .before .before .before .before .before .before .before .before .before .before .before .args .bytes .now) (c .before .before .before .before .before .before .before .before .before .before .before .before .before .before .before .before .args .m) (c .before .before .before .before .before .before .before .before .before .before .before .before .before .before .before .before .args .newrows .now) (c .before .before .before .before .before .before .before .before .before .before .before .before .before .before .before .before .args .newbytes .now) (c .before .before .before .before .before .before .before .before .before .before .before .loop .j) (c .before .before .before .before .before .before .before .before .before .before .loop-test .taken) (c .before .before .before .before .before .before .before .before .before .before .before .loop .count) (c .before .before .before .before .before .before .before .before .before .before .before .loop .rows) (c .before .before .before .before .before .before .before .before .before .before .before .loop .bytes) (c .before .before .before .before .before .before .before .before .before .before .before .loop .inv .3) (c .before .before .before .before .before .before .before .before .before .before .before .before .before .before .before .before .pre .1 .1) (c .before .before .before .before .before .before .before .before .before .before .before .loop .inv .1) (c .before .before .before .before .before .before .before .before .before .before .before .loop .inv .2) (c .before .before .before .before .before .before .before .put-row .result) _ _ (c .before .before .before .before .before .before .before .put-row .ensures) _ (c .before .more .given .1))
+loop-again c =
+    let start = c .before .before .before .before .before .before .before .before .before .before .before .before .before .before .before .before in
+    let loop = c .before .before .before .before .before .before .before .before .before .before .before .loop in
+    let loop-test = c .before .before .before .before .before .before .before .before .before .before .loop-test in
+    let put-row = c .before .before .before .before .before .before .before .put-row in
+    let more = c .before .more in
+    (search needs, put-row .kept .1 .0 ∙ loop .inv .1, put-row .kept .1 .1 .0 ∙ loop .inv .2, laying-more _ _ _ _ _ _ (loop .j) (loop-test .taken) (loop .count) (loop .rows) (loop .bytes) (loop .inv .3) (start .pre .1 .1) (loop .inv .1) (loop .inv .2) (put-row .result) _ _ (put-row .ensures) _ (more .given .1))
 
 same-length-3 : tie.Need-same-length-3 Inv-loop μ-loop
 same-length-3 c = search needs
@@ -53,7 +69,9 @@ same-length-4 : tie.Need-same-length-4 Inv-loop μ-loop
 same-length-4 c = search needs
 
 returns-2 : tie.Need-returns-2 Inv-loop μ-loop
-returns-2 c = laying-all _ _ _ _ (c .before .loop .j) _ _ _ (rw length-keys (search needs)) (c .before .loop .inv .3)
+returns-2 c =
+    let loop = c .before .loop in
+    laying-all _ _ _ _ (loop .j) _ _ _ (rw length-keys (search needs)) (loop .inv .3)
 
 pub lay-over-spec : {M : Type 1} → statement M
 lay-over-spec =

@@ -21,7 +21,10 @@ same-length-2 : tie.Need-same-length-2
 same-length-2 c = search needs
 
 returns : tie.Need-returns
-returns c = merge-full (c .before .before .before .before .before .before .before .before .args .n) (c .before .before .before .before .before .before .before .before .args .rows .now) (c .before .before .before .before .before .before .before .before .args .bytes .now) (c .before .before .before .before .before .before .before .before .args .m) (c .before .before .before .before .before .before .before .before .args .newrows .now) (c .before .before .before .before .before .before .before .before .args .newbytes .now) (c .before .before .before .before .before .before .before .before .pre .0) (c .before .before .before .before .before .before .before .before .pre .1) (c .before .count-absent .result) (c .before .count-absent .ensures .0) (no-rows _ _ _ (c .if1 .taken))
+returns c =
+    let start = c .before .before .before .before .before .before .before .before in
+    let count-absent = c .before .count-absent in
+    merge-full _ _ _ _ _ _ (start .pre .0) (start .pre .1) (count-absent .result) (count-absent .ensures .0) (no-rows _ _ _ (c .if1 .taken))
 
 mul-if2 : tie.Need-mul-if2
 mul-if2 c = search needs
@@ -33,10 +36,18 @@ same-length-4 : tie.Need-same-length-4
 same-length-4 c = search needs
 
 returns-2 : tie.Need-returns-2
-returns-2 c = merge-full (c .before .before .before .before .before .before .before .before .before .args .n) (c .before .before .before .before .before .before .before .before .before .args .rows .now) (c .before .before .before .before .before .before .before .before .before .args .bytes .now) (c .before .before .before .before .before .before .before .before .before .args .m) (c .before .before .before .before .before .before .before .before .before .args .newrows .now) (c .before .before .before .before .before .before .before .before .before .args .newbytes .now) (c .before .before .before .before .before .before .before .before .before .pre .0) (c .before .before .before .before .before .before .before .before .before .pre .1) (c .before .before .count-absent .result) (c .before .before .count-absent .ensures .0) (no-bytes _ _ _ (c .if2 .taken))
+returns-2 c =
+    let start = c .before .before .before .before .before .before .before .before .before in
+    let count-absent = c .before .before .count-absent in
+    merge-full _ _ _ _ _ _ (start .pre .0) (start .pre .1) (count-absent .result) (count-absent .ensures .0) (no-bytes _ _ _ (c .if2 .taken))
 
 lay-over-requires : tie.Need-lay-over-requires
-lay-over-requires c κs = (c .before .before .before .before .before .before .before .before .before .before .before .pre .0, (c .before .before .before .before .before .before .before .before .before .before .before .pre .1, rw (over-length (c .before .before .before .before .before .before .before .before .before .before .before .args .n) (c .before .before .before .before .before .before .before .before .before .before .before .args .rows .now) (c .before .before .before .before .before .before .before .before .before .before .before .args .bytes .now) (c .before .before .before .before .before .before .before .before .before .before .before .args .m) (c .before .before .before .before .before .before .before .before .before .before .before .args .newrows .now) (c .before .before .before .before .before .before .before .before .before .before .before .args .newbytes .now) (c .before .before .before .before .before .before .before .before .before .before .before .pre .0) (c .before .before .before .before .before .before .before .before .before .before .before .pre .1) (c .before .before .before .before .count-absent .result) (c .before .before .before .before .count-absent .ensures .0)) (fits-if _ _ _ (c .before .before .before .if1 .left) (c .before .before .if2 .left))))
+lay-over-requires c κs =
+    let start = c .before .before .before .before .before .before .before .before .before .before .before in
+    let count-absent = c .before .before .before .before .count-absent in
+    let if1 = c .before .before .before .if1 in
+    let if2 = c .before .before .if2 in
+    (start .pre .0, (start .pre .1, rw (over-length _ _ _ _ _ _ (start .pre .0) (start .pre .1) (count-absent .result) (count-absent .ensures .0)) (fits-if _ _ _ (if1 .left) (if2 .left))))
 
 same-length-5 : tie.Need-same-length-5
 same-length-5 c = search needs
@@ -45,7 +56,13 @@ same-length-6 : tie.Need-same-length-6
 same-length-6 c = search needs
 
 returns-3 : tie.Need-returns-3
-returns-3 c = merge-done (c .before .before .before .before .before .before .before .before .before .before .before .before .before .before .before .before .args .n) (c .before .before .before .before .before .before .before .before .before .before .before .before .before .before .before .before .args .rows .now) (c .before .before .before .before .before .before .before .before .before .before .before .before .before .before .before .before .args .bytes .now) (c .before .before .before .before .before .before .before .before .before .before .before .before .before .before .before .before .args .m) (c .before .before .before .before .before .before .before .before .before .before .before .before .before .before .before .before .args .newrows .now) (c .before .before .before .before .before .before .before .before .before .before .before .before .before .before .before .before .args .newbytes .now) (c .before .before .before .before .before .before .before .before .before .before .before .before .before .before .before .before .pre .0) (c .before .before .before .before .before .before .before .before .before .before .before .before .before .before .before .before .pre .1) (c .before .before .before .before .before .before .before .before .before .count-absent .result) (c .before .before .before .before .before .before .before .before .before .count-absent .ensures .0) (fits-if _ _ _ (c .before .before .before .before .before .before .before .before .if1 .left) (c .before .before .before .before .before .before .before .if2 .left)) _ _ _ (c .before .before .before .before .lay-over .ensures)
+returns-3 c =
+    let start = c .before .before .before .before .before .before .before .before .before .before .before .before .before .before .before .before in
+    let count-absent = c .before .before .before .before .before .before .before .before .before .count-absent in
+    let if1 = c .before .before .before .before .before .before .before .before .if1 in
+    let if2 = c .before .before .before .before .before .before .before .if2 in
+    let lay-over = c .before .before .before .before .lay-over in
+    merge-done _ _ _ _ _ _ (start .pre .0) (start .pre .1) (count-absent .result) (count-absent .ensures .0) (fits-if _ _ _ (if1 .left) (if2 .left)) _ _ _ (lay-over .ensures)
 
 pub merge-keys-spec : {M : Type 1} → statement M
 merge-keys-spec =

@@ -15,10 +15,16 @@ enum-told-2 : tie.Need-enum-told-2
 enum-told-2 c = search needs
 
 returns : tie.Need-returns
-returns c = (rw (absent (c .before .before .before .before .before .before .args .n) (c .before .before .before .before .before .before .args .rows .now) (c .before .before .before .before .before .before .args .bytes .now) (c .before .before .before .before .before .before .args .key .now) (c .before .before .before .before .before .before .pre) (c .enum-told2 .given .0 .0) (sym (c .before .before .find .ensures) ∙ c .enum-told2 .given .1)), search needs)
+returns c =
+    let start = c .before .before .before .before .before .before in
+    let find = c .before .before .find in
+    (rw (absent _ _ _ _ (start .pre) (c .enum-told2 .given .0 .0) (sym (find .ensures) ∙ c .enum-told2 .given .1)), search needs)
 
 returns-2 : tie.Need-returns-2
-returns-2 c = (rw (present (c .before .before .before .before .before .before .args .n) (c .before .before .before .before .before .before .args .rows .now) (c .before .before .before .before .before .before .args .bytes .now) (c .before .before .before .before .before .before .args .key .now) (c .before .before .before .before .before .before .pre) (c .enum-told .given .0 .0) (sym (c .before .before .find .ensures) ∙ c .enum-told .given .1)), search needs)
+returns-2 c =
+    let start = c .before .before .before .before .before .before in
+    let find = c .before .before .find in
+    (rw (present _ _ _ _ (start .pre) (c .enum-told .given .0 .0) (sym (find .ensures) ∙ c .enum-told .given .1)), search needs)
 
 pub one-absent-spec : {M : Type 1} → statement M
 one-absent-spec = tie.close (tie.spec find-requires enum-told enum-told-2 returns returns-2)

@@ -39,7 +39,11 @@ shared-slice-read-put : tie.Need-shared-slice-read-put
 shared-slice-read-put c = search needs
 
 put-requires : tie.Need-put-requires
-put-requires c κs = (c .before .before .before .before .before .before .before .before .before .before .before .pre .0, (rw (c .before .before .before .before .before .before .key-at .ensures) (length-key (c .before .before .before .before .before .before .before .before .before .before .before .args .j) (c .before .before .before .before .before .before .before .before .before .before .before .args .newrows .now) (c .before .before .before .before .before .before .before .before .before .before .before .args .newbytes .now) (c .before .before .before .before .before .before .before .before .before .before .before .pre .1)), rw (c .before .before .before .before .before .value-at .ensures) (length-value (c .before .before .before .before .before .before .before .before .before .before .before .args .j) (c .before .before .before .before .before .before .before .before .before .before .before .args .newrows .now) (c .before .before .before .before .before .before .before .before .before .before .before .args .newbytes .now) (c .before .before .before .before .before .before .before .before .before .before .before .pre .1))))
+put-requires c κs =
+    let start = c .before .before .before .before .before .before .before .before .before .before .before in
+    let key-at = c .before .before .before .before .before .before .key-at in
+    let value-at = c .before .before .before .before .before .value-at in
+    (start .pre .0, (rw (key-at .ensures) (length-key _ _ _ (start .pre .1)), rw (value-at .ensures) (length-value _ _ _ (start .pre .1))))
 
 same-length : tie.Need-same-length
 same-length c = search needs
@@ -48,7 +52,12 @@ same-length-2 : tie.Need-same-length-2
 same-length-2 c = search needs
 
 returns : tie.Need-returns
-returns c = row-put (c .before .before .before .before .before .before .before .before .before .before .before .before .before .before .before .before .args .n) (c .before .before .before .before .before .before .before .before .before .before .before .before .before .before .before .before .args .rows .now) (c .before .before .before .before .before .before .before .before .before .before .before .before .before .before .before .before .args .bytes .now) (c .before .before .before .before .before .before .before .before .before .before .before .before .before .before .before .before .args .newrows .now) (c .before .before .before .before .before .before .before .before .before .before .before .before .before .before .before .before .args .newbytes .now) (c .before .before .before .before .before .before .before .before .before .before .before .before .before .before .before .before .args .j) _ _ _ _ _ _ (c .before .before .before .before .before .before .before .before .before .before .before .key-at .ensures) (c .before .before .before .before .before .before .before .before .before .before .value-at .ensures) (c .before .before .before .before .before .before .before .before .queue-of .ensures) (c .before .before .before .before .put .ensures)
+returns c =
+    let key-at = c .before .before .before .before .before .before .before .before .before .before .before .key-at in
+    let value-at = c .before .before .before .before .before .before .before .before .before .before .value-at in
+    let queue-of = c .before .before .before .before .before .before .before .before .queue-of in
+    let put = c .before .before .before .before .put in
+    row-put _ _ _ _ _ _ _ _ _ _ _ _ (key-at .ensures) (value-at .ensures) (queue-of .ensures) (put .ensures)
 
 pub put-row-spec : {M : Type 1} → statement M
 put-row-spec =

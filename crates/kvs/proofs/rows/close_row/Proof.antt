@@ -48,7 +48,10 @@ same-length-2 c = search needs
 
 returns : tie.Need-returns
 unfolding closed
-returns c = (c .before .before .before .before .before .before .shift-down-u64 .ensures, c .before .before .shift-down-u8 .ensures)
+returns c =
+    let shift-down-u64 = c .before .before .before .before .before .before .shift-down-u64 in
+    let shift-down-u8 = c .before .before .shift-down-u8 in
+    (shift-down-u64 .ensures, shift-down-u8 .ensures)
 
 pub close-row-spec : {M : Type 1} → statement M
 close-row-spec =

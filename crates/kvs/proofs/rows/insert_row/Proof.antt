@@ -18,7 +18,9 @@ same-length-2 c = search needs
 
 returns : tie.Need-returns
 returns c =
-    (rw (← c .before .before .before .before .before .before .before .before .before .before .before .open-row .ensures .0) (c .before .before .before .before .write-row .ensures .0), rw (← c .before .before .before .before .before .before .before .before .before .before .before .open-row .ensures .1) (c .before .before .before .before .write-row .ensures .1))
+    let open-row = c .before .before .before .before .before .before .before .before .before .before .before .open-row in
+    let write-row = c .before .before .before .before .write-row in
+    (rw (← open-row .ensures .0) (write-row .ensures .0), rw (← open-row .ensures .1) (write-row .ensures .1))
 
 pub insert-row-spec : {M : Type 1} → statement M
 insert-row-spec =

@@ -18,7 +18,9 @@ shared-slice-read-e : tie.Need-shared-slice-read-e
 shared-slice-read-e c = search needs
 
 add-e : tie.Need-add-e
-add-e c = omega (arith, key-length (c .before .args .i) (c .before .args .rows .now) (c .before .args .bytes .now) (c .before .pre))
+add-e c =
+    let start = c .before in
+    omega (arith, key-length _ _ _ (start .pre))
 
 sub-result : tie.Need-sub-result
 sub-result c = search needs
@@ -27,10 +29,14 @@ part-result-start : tie.Need-part-result-start
 part-result-start c = search needs
 
 part-result-end : tie.Need-part-result-end
-part-result-end c = omega (arith, key-length (c .before .args .i) (c .before .args .rows .now) (c .before .args .bytes .now) (c .before .pre))
+part-result-end c =
+    let start = c .before in
+    omega (arith, key-length _ _ _ (start .pre))
 
 returns : tie.Need-returns
-returns c = key-part _ _ _ (c .before .before .pre)
+returns c =
+    let start = c .before .before in
+    key-part _ _ _ (start .pre)
 
 pub key-at-spec : {M : Type 1} → statement M
 key-at-spec =

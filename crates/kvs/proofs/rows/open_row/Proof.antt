@@ -48,7 +48,10 @@ same-length-2 c = search needs
 
 returns : tie.Need-returns
 unfolding opened
-returns c = (c .before .before .before .before .before .before .shift-up-u64 .ensures, c .before .before .shift-up-u8 .ensures)
+returns c =
+    let shift-up-u64 = c .before .before .before .before .before .before .shift-up-u64 in
+    let shift-up-u8 = c .before .before .shift-up-u8 in
+    (shift-up-u64 .ensures, shift-up-u8 .ensures)
 
 pub open-row-spec : {M : Type 1} → statement M
 open-row-spec =

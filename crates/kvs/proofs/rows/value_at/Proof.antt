@@ -24,7 +24,9 @@ shared-slice-read-e : tie.Need-shared-slice-read-e
 shared-slice-read-e c = search needs
 
 add-e-2 : tie.Need-add-e-2
-add-e-2 c = omega (arith, value-length (c .before .args .i) (c .before .args .rows .now) (c .before .args .bytes .now) (c .before .pre))
+add-e-2 c =
+    let start = c .before in
+    omega (arith, value-length _ _ _ (start .pre))
 
 sub-result : tie.Need-sub-result
 sub-result c = search needs
@@ -33,10 +35,14 @@ part-result-start : tie.Need-part-result-start
 part-result-start c = search needs
 
 part-result-end : tie.Need-part-result-end
-part-result-end c = omega (arith, value-length (c .before .args .i) (c .before .args .rows .now) (c .before .args .bytes .now) (c .before .pre))
+part-result-end c =
+    let start = c .before in
+    omega (arith, value-length _ _ _ (start .pre))
 
 returns : tie.Need-returns
-returns c = value-part _ _ _ (c .before .before .pre)
+returns c =
+    let start = c .before .before in
+    value-part _ _ _ (start .pre)
 
 pub value-at-spec : {M : Type 1} → statement M
 value-at-spec =

@@ -68,10 +68,14 @@ same-length-2 : tie.Need-same-length-2
 same-length-2 c = search needs
 
 returns : tie.Need-returns
-returns c = (
-  rows-written (c .before .before .before .before .before .before .before .before .before .before .before .before .before .args .i) (c .before .before .before .before .before .before .before .before .to-u64 .result) (c .before .before .before .before .before .before .before .before .before .before .before .before .before .args .key .now) (heldBy (c .before .before .before .before .before .before .before .before .before .before .before .before .before .args .value .now) (c .before .before .before .before .before .before .before .before .before .before .before .before .before .args .queue) (c .before .before .before .before .before .before .before .before .before .before .before .before .before .args .seq)) (c .before .before .before .before .before .before .before .before .before .before .before .before .before .args .rows .now) (c .before .before .before .before .before .before .before .before .to-u64 .ensures) (omega (arith, c .before .before .before .before .before .before .before .before .before .before .before .before .before .pre)),
-  bytes-written (c .before .before .before .before .before .before .before .before .before .before .before .before .before .args .i) (c .before .before .before .before .before .before .before .before .before .before .before .before .before .args .key .now) (heldBy (c .before .before .before .before .before .before .before .before .before .before .before .before .before .args .value .now) (c .before .before .before .before .before .before .before .before .before .before .before .before .before .args .queue) (c .before .before .before .before .before .before .before .before .before .before .before .before .before .args .seq)) (c .before .before .before .before .before .before .before .before .before .before .before .before .before .args .bytes .now) _ _ (c .before .before .before .before .before .before .copy-in-u8 .ensures) (c .before .before .copy-in-u82 .ensures),
-)
+returns c =
+    let start = c .before .before .before .before .before .before .before .before .before .before .before .before .before in
+    let to-u64 = c .before .before .before .before .before .before .before .before .to-u64 in
+    let copy-in-u8 = c .before .before .before .before .before .before .copy-in-u8 in
+    let copy-in-u82 = c .before .before .copy-in-u82 in (
+      rows-written _ (to-u64 .result) _ (heldBy _ _ _) _ (to-u64 .ensures) (omega (arith, start .pre)),
+      bytes-written _ _ (heldBy _ _ _) _ _ _ (copy-in-u8 .ensures) (copy-in-u82 .ensures),
+    )
 
 pub write-row-spec : {M : Type 1} → statement M
 write-row-spec =

@@ -33,19 +33,27 @@ returns c = λ entries bytes. rw (c .enum-told .given .1)
 
 returns-2 : tie.Need-returns-2
 unfolding delOrCompact isTombstone isClean contentOf commandOf
-returns-2 c = λ entries bytes. rw (c .before .before .before .content .given .1, c .enum-told2 .given .1)
+returns-2 c =
+    let content = c .before .before .before .content in
+    λ entries bytes. rw (content .given .1, c .enum-told2 .given .1)
 
 returns-3 : tie.Need-returns-3
 unfolding delOrCompact isTombstone isClean contentOf commandOf
-returns-3 c = λ entries bytes. rw (c .before .before .before .content .given .1, c .enum-told3 .given .1)
+returns-3 c =
+    let content = c .before .before .before .content in
+    λ entries bytes. rw (content .given .1, c .enum-told3 .given .1)
 
 returns-4 : tie.Need-returns-4
 unfolding delOrCompact isTombstone isClean contentOf keyContent keyChange changeOf
-returns-4 c = λ entries bytes. rw (c .before .before .before .content2 .given .1, c .enum-told4 .given .1)
+returns-4 c =
+    let content2 = c .before .before .before .content2 in
+    λ entries bytes. rw (content2 .given .1, c .enum-told4 .given .1)
 
 returns-5 : tie.Need-returns-5
 unfolding delOrCompact isTombstone isClean contentOf keyContent keyChange changeOf
-returns-5 c = λ entries bytes. rw (c .before .before .before .content2 .given .1, c .enum-told5 .given .1)
+returns-5 c =
+    let content2 = c .before .before .before .content2 in
+    λ entries bytes. rw (content2 .given .1, c .enum-told5 .given .1)
 
 pub is-del-or-compact-spec : {M : Type 1} → statement M
 is-del-or-compact-spec =

@@ -17,7 +17,9 @@ returns c = rw (c .enum-told .given .1)
 
 returns-2 : tie.Need-returns-2
 unfolding isOutOfRange commandOf
-returns-2 c = rw (c .before .order .given .1)
+returns-2 c =
+    let order = c .before .order in
+    rw (order .given .1)
 
 pub is-far-compact-spec : {M : Type 1} → statement M
 is-far-compact-spec = tie.close (tie.spec enum-told enum-known-order returns returns-2)

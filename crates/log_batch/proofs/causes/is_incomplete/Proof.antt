@@ -11,7 +11,10 @@ enum-known-content : tie.Need-enum-known-content
 enum-known-content c = search needs
 
 entries-of-requires : tie.Need-entries-of-requires
-entries-of-requires c κs = rw (c .before .content .given .1) at (c .before .before .before .before .pre)
+entries-of-requires c κs =
+    let start = c .before .before .before .before in
+    let content = c .before .content in
+    rw (content .given .1) at (start .pre)
 
 is-incomplete-requires : tie.Need-is-incomplete-requires
 is-incomplete-requires c κs = omega (arith, c .entries-of .ensures .1)
@@ -27,7 +30,10 @@ is-incomplete-key-requires c κs = search needs
 
 returns : tie.Need-returns
 unfolding isIncomplete contentOf entriesIncomplete entryMeets
-returns c = λ bytes. rw (c .before .before .before .content .given .1, ← c .before .entries-of .ensures .0) (c .is-incomplete .ensures)
+returns c =
+    let content = c .before .before .before .content in
+    let entries-of = c .before .entries-of in
+    λ bytes. rw (content .given .1, ← entries-of .ensures .0) (c .is-incomplete .ensures)
 
 returns-2 : tie.Need-returns-2
 unfolding isIncomplete contentOf
@@ -35,7 +41,9 @@ returns-2 c = λ bytes. rw (c .enum-told .given .1)
 
 returns-3 : tie.Need-returns-3
 unfolding contentOf
-returns-3 c = λ bytes. rw (c .before .before .content2 .given .1) (c .is-incomplete-key .ensures bytes)
+returns-3 c =
+    let content2 = c .before .before .content2 in
+    λ bytes. rw (content2 .given .1) (c .is-incomplete-key .ensures bytes)
 
 pub is-incomplete-spec : {M : Type 1} → statement M
 is-incomplete-spec =

@@ -11,21 +11,32 @@ is-live-rewrite-requires c κs = search needs
 
 returns : tie.Need-returns
 unfolding isIncomplete keyContent
-returns c = λ bytes. rw (sym (c .before .is-live-rewrite .ensures) ∙ c .if1 .taken)
+returns c =
+    let is-live-rewrite = c .before .is-live-rewrite in
+    λ bytes. rw (sym (is-live-rewrite .ensures) ∙ c .if1 .taken)
 
 lacks-value-requires : tie.Need-lacks-value-requires
 lacks-value-requires c κs = search needs
 
 returns-2 : tie.Need-returns-2
 unfolding isIncomplete keyContent
-returns-2 c = λ bytes. rw (sym (c .before .before .before .is-live-rewrite .ensures) ∙ c .before .before .if1 .left, sym (c .before .lacks-value .ensures bytes) ∙ c .if2 .taken)
+returns-2 c =
+    let is-live-rewrite = c .before .before .before .is-live-rewrite in
+    let if1 = c .before .before .if1 in
+    let lacks-value = c .before .lacks-value in
+    λ bytes. rw (sym (is-live-rewrite .ensures) ∙ if1 .left, sym (lacks-value .ensures bytes) ∙ c .if2 .taken)
 
 lacks-file-requires : tie.Need-lacks-file-requires
 lacks-file-requires c κs = search needs
 
 returns-3 : tie.Need-returns-3
 unfolding isIncomplete keyContent
-returns-3 c = λ bytes. rw (sym (c .before .before .before .before .is-live-rewrite .ensures) ∙ c .before .before .before .if1 .left, sym (c .before .before .lacks-value .ensures bytes) ∙ c .before .if2 .left) (c .lacks-file .ensures bytes)
+returns-3 c =
+    let is-live-rewrite = c .before .before .before .before .is-live-rewrite in
+    let if1 = c .before .before .before .if1 in
+    let lacks-value = c .before .before .lacks-value in
+    let if2 = c .before .if2 in
+    λ bytes. rw (sym (is-live-rewrite .ensures) ∙ if1 .left, sym (lacks-value .ensures bytes) ∙ if2 .left) (c .lacks-file .ensures bytes)
 
 pub is-incomplete-key-spec : {M : Type 1} → statement M
 is-incomplete-key-spec =

@@ -18,7 +18,9 @@ is-long-key-requires c κs = search needs
 
 returns : tie.Need-returns
 unfolding longPlaces
-returns c = rw (c .before .before .content .given .1)
+returns c =
+    let content = c .before .before .content in
+    rw (content .given .1)
 
 returns-2 : tie.Need-returns-2
 unfolding longPlaces
@@ -26,7 +28,9 @@ returns-2 c = rw (c .enum-told .given .1)
 
 returns-3 : tie.Need-returns-3
 unfolding longPlaces
-returns-3 c = rw (c .before .before .content2 .given .1) (c .is-long-key .ensures)
+returns-3 c =
+    let content2 = c .before .before .content2 in
+    rw (content2 .given .1) (c .is-long-key .ensures)
 
 pub is-long-spec : {M : Type 1} → statement M
 is-long-spec =

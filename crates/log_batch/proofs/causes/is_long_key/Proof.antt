@@ -17,7 +17,9 @@ enum-told-2 c = search needs
 
 returns-2 : tie.Need-returns-2
 unfolding longKey longValue
-returns-2 c = rw (le-ltb _ _ (c .before .before .if1 .left), c .enum-told2 .given .1)
+returns-2 c =
+    let if1 = c .before .before .if1 in
+    rw (le-ltb _ _ (if1 .left), c .enum-told2 .given .1)
 
 enum-known-value : tie.Need-enum-known-value
 enum-known-value c = search needs
@@ -27,11 +29,18 @@ enum-told-3 c = search needs
 
 returns-3 : tie.Need-returns-3
 unfolding longKey longValue
-returns-3 c = rw (le-ltb _ _ (c .before .before .before .before .if1 .left), c .before .before .enum-told .given .1, c .enum-told3 .given .1)
+returns-3 c =
+    let if1 = c .before .before .before .before .if1 in
+    let enum-told = c .before .before .enum-told in
+    rw (le-ltb _ _ (if1 .left), enum-told .given .1, c .enum-told3 .given .1)
 
 returns-4 : tie.Need-returns-4
 unfolding longKey longValue
-returns-4 c = rw (le-ltb _ _ (c .before .before .before .before .before .if1 .left), c .before .before .before .enum-told .given .1, c .before .value .given .1)
+returns-4 c =
+    let if1 = c .before .before .before .before .before .if1 in
+    let enum-told = c .before .before .before .enum-told in
+    let value = c .before .value in
+    rw (le-ltb _ _ (if1 .left), enum-told .given .1, value .given .1)
 
 pub is-long-key-spec : {M : Type 1} → statement M
 is-long-key-spec =

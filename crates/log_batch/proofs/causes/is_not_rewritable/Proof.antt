@@ -12,14 +12,19 @@ is-live-rewrite-requires c κs = search needs
 
 returns : tie.Need-returns
 unfolding isNotRewritable
-returns c = λ entries bytes. rw (sym (c .before .is-live-rewrite .ensures) ∙ not-true _ (c .if1 .taken))
+returns c =
+    let is-live-rewrite = c .before .is-live-rewrite in
+    λ entries bytes. rw (sym (is-live-rewrite .ensures) ∙ not-true _ (c .if1 .taken))
 
 is-del-or-compact-requires : tie.Need-is-del-or-compact-requires
 is-del-or-compact-requires c κs = search needs
 
 returns-2 : tie.Need-returns-2
 unfolding isNotRewritable delOrCompact
-returns-2 c = λ entries bytes. rw (sym (c .before .before .is-live-rewrite .ensures) ∙ not-false _ (c .before .if1 .left)) (c .is-del-or-compact .ensures entries bytes)
+returns-2 c =
+    let is-live-rewrite = c .before .before .is-live-rewrite in
+    let if1 = c .before .if1 in
+    λ entries bytes. rw (sym (is-live-rewrite .ensures) ∙ not-false _ (if1 .left)) (c .is-del-or-compact .ensures entries bytes)
 
 pub is-not-rewritable-spec : {M : Type 1} → statement M
 is-not-rewritable-spec =

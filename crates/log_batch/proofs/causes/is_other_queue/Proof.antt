@@ -14,7 +14,10 @@ writes-requires : tie.Need-writes-requires
 writes-requires c κs = search needs
 
 entries-of-requires : tie.Need-entries-of-requires
-entries-of-requires c κs = rw (c .before .before .content .given .1) at (c .before .before .before .before .before .pre)
+entries-of-requires c κs =
+    let start = c .before .before .before .before .before in
+    let content = c .before .before .content in
+    rw (content .given .1) at (start .pre)
 
 any-entry-requires : tie.Need-any-entry-requires
 any-entry-requires c κs = omega (arith, c .entries-of .ensures .1)
@@ -30,7 +33,11 @@ is-other-key-requires c κs = search needs
 
 returns : tie.Need-returns
 unfolding isOtherQueue contentOf entryMeets
-returns c = λ bytes. rw (c .before .before .before .before .content .given .1, ← c .before .entries-of .ensures .0, ← c .before .before .writes .ensures) (c .any-entry .ensures)
+returns c =
+    let content = c .before .before .before .before .content in
+    let writes = c .before .before .writes in
+    let entries-of = c .before .entries-of in
+    λ bytes. rw (content .given .1, ← entries-of .ensures .0, ← writes .ensures) (c .any-entry .ensures)
 
 returns-2 : tie.Need-returns-2
 unfolding isOtherQueue contentOf
@@ -38,7 +45,9 @@ returns-2 c = λ bytes. rw (c .enum-told .given .1)
 
 returns-3 : tie.Need-returns-3
 unfolding contentOf
-returns-3 c = λ bytes. rw (c .before .before .content2 .given .1) (c .is-other-key .ensures bytes)
+returns-3 c =
+    let content2 = c .before .before .content2 in
+    λ bytes. rw (content2 .given .1) (c .is-other-key .ensures bytes)
 
 pub is-other-queue-spec : {M : Type 1} → statement M
 is-other-queue-spec =

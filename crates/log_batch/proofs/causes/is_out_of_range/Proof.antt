@@ -11,7 +11,10 @@ enum-known-content : tie.Need-enum-known-content
 enum-known-content c = search needs
 
 entries-of-requires : tie.Need-entries-of-requires
-entries-of-requires c κs = rw (c .before .content .given .1) at (c .before .before .before .before .pre)
+entries-of-requires c κs =
+    let start = c .before .before .before .before in
+    let content = c .before .content in
+    rw (content .given .1) at (start .pre)
 
 any-entry-requires : tie.Need-any-entry-requires
 any-entry-requires c κs = omega (arith, c .entries-of .ensures .1)
@@ -27,11 +30,16 @@ enum-told c = search needs
 
 returns : tie.Need-returns
 unfolding isOutOfRange contentOf entryMeets
-returns c = λ bytes. rw (c .before .before .before .content .given .1, ← c .before .entries-of .ensures .0) (c .any-entry .ensures)
+returns c =
+    let content = c .before .before .before .content in
+    let entries-of = c .before .entries-of in
+    λ bytes. rw (content .given .1, ← entries-of .ensures .0) (c .any-entry .ensures)
 
 returns-2 : tie.Need-returns-2
 unfolding contentOf
-returns-2 c = λ bytes. rw (c .before .before .content2 .given .1) (c .is-far-compact .ensures)
+returns-2 c =
+    let content2 = c .before .before .content2 in
+    λ bytes. rw (content2 .given .1) (c .is-far-compact .ensures)
 
 returns-3 : tie.Need-returns-3
 unfolding isOutOfRange contentOf keyContent

@@ -27,7 +27,9 @@ returns-2 c = λ entries bytes. rw (c .enum-told2 .given .1)
 
 returns-3 : tie.Need-returns-3
 unfolding lacksMarkValue contentOf keyContent
-returns-3 c = λ entries bytes. rw (c .before .before .content .given .1) (c .lacks-value .ensures bytes)
+returns-3 c =
+    let content = c .before .before .content in
+    λ entries bytes. rw (content .given .1) (c .lacks-value .ensures bytes)
 
 pub lacks-mark-value-spec : {M : Type 1} → statement M
 lacks-mark-value-spec =

@@ -24,15 +24,26 @@ enum-told c = search needs
 
 returns-2 : tie.Need-returns-2
 unfolding breaksMark isMark itemOf markOf byteAs orElse
-returns-2 c = λ entries. rw (eq-eqb _ _ (c .before .before .before .if1 .left), ← c .before .before .mark-byte .ensures entries, c .enum-told .given .1)
+returns-2 c =
+    let if1 = c .before .before .before .if1 in
+    let mark-byte = c .before .before .mark-byte in
+    λ entries. rw (eq-eqb _ _ (if1 .left), ← mark-byte .ensures entries, c .enum-told .given .1)
 
 returns-3 : tie.Need-returns-3
 unfolding breaksMark isMark itemOf markOf byteAs orElse
-returns-3 c = λ entries. rw (eq-eqb _ _ (c .before .before .before .before .before .before .if1 .left), ← c .before .before .before .before .before .mark-byte .ensures entries, c .before .before .before .byte .given .1, ne-eqb _ _ (c .if2 .taken))
+returns-3 c =
+    let if1 = c .before .before .before .before .before .before .if1 in
+    let mark-byte = c .before .before .before .before .before .mark-byte in
+    let byte = c .before .before .before .byte in
+    λ entries. rw (eq-eqb _ _ (if1 .left), ← mark-byte .ensures entries, byte .given .1, ne-eqb _ _ (c .if2 .taken))
 
 returns-4 : tie.Need-returns-4
 unfolding breaksMark isMark itemOf markOf byteAs orElse
-returns-4 c = λ entries. rw (eq-eqb _ _ (c .before .before .before .before .before .before .if1 .left), ← c .before .before .before .before .before .mark-byte .ensures entries, c .before .before .before .byte .given .1, eq-eqb _ _ (c .if2 .left))
+returns-4 c =
+    let if1 = c .before .before .before .before .before .before .if1 in
+    let mark-byte = c .before .before .before .before .before .mark-byte in
+    let byte = c .before .before .before .byte in
+    λ entries. rw (eq-eqb _ _ (if1 .left), ← mark-byte .ensures entries, byte .given .1, eq-eqb _ _ (c .if2 .left))
 
 pub breaks-mark-spec : {M : Type 1} → statement M
 breaks-mark-spec =

@@ -32,8 +32,13 @@ lesser-requires c κs = search needs
 returns : tie.Need-returns Inv-loop μ-loop
 unfolding checkedAs
 returns c =
-    let turn = c .before .before .before .before .before .loop in
-    refused-2 _ _ _ _ _ _ _ _ (scan-more _ _ _ _ _ _ _ (turn .i) (c .before .before .before .before .loop-test .taken) (turn .inv .2) _ _ (c .before .before .before .least-at .ensures) (c .before .before .lesser .ensures)) (c .before .before .before .before .before .before .before .mark-for .ensures) (c .if1 .taken)
+    let mark-for = c .before .before .before .before .before .before .before .mark-for in
+    let loop = c .before .before .before .before .before .loop in
+    let loop-test = c .before .before .before .before .loop-test in
+    let least-at = c .before .before .before .least-at in
+    let lesser = c .before .before .lesser in
+    let turn = loop in
+    refused-2 _ _ _ _ _ _ _ _ (scan-more _ _ _ _ _ _ _ (turn .i) (loop-test .taken) (turn .inv .2) _ _ (least-at .ensures) (lesser .ensures)) (mark-for .ensures) (c .if1 .taken)
 
 add-i : tie.Need-add-i Inv-loop μ-loop
 add-i c = search needs
@@ -43,20 +48,30 @@ loop-less c = search needs
 
 loop-again : tie.Need-loop-again Inv-loop μ-loop
 loop-again c =
-    let turn = c .before .before .before .before .before .loop in
-    (search needs, turn .inv .1, scan-more _ _ _ _ _ _ _ (turn .i) (c .before .before .before .before .loop-test .taken) (turn .inv .2) _ _ (c .before .before .before .least-at .ensures) (c .before .before .lesser .ensures))
+    let loop = c .before .before .before .before .before .loop in
+    let loop-test = c .before .before .before .before .loop-test in
+    let least-at = c .before .before .before .least-at in
+    let lesser = c .before .before .lesser in
+    let turn = loop in
+    (search needs, turn .inv .1, scan-more _ _ _ _ _ _ _ (turn .i) (loop-test .taken) (turn .inv .2) _ _ (least-at .ensures) (lesser .ensures))
 
 returns-2 : tie.Need-returns-2 Inv-loop μ-loop
 unfolding checkedAs
 returns-2 c =
-    let turn = c .before .before .before .loop in
-    passed-at-end _ _ _ _ _ _ _ (turn .i) (turn .inv .2) (c .before .before .before .before .before .mark-for .ensures) (c .before .before .loop-test .left) (c .if2 .taken)
+    let mark-for = c .before .before .before .before .before .mark-for in
+    let loop = c .before .before .before .loop in
+    let loop-test = c .before .before .loop-test in
+    let turn = loop in
+    passed-at-end _ _ _ _ _ _ _ (turn .i) (turn .inv .2) (mark-for .ensures) (loop-test .left) (c .if2 .taken)
 
 returns-3 : tie.Need-returns-3 Inv-loop μ-loop
 unfolding checkedAs
 returns-3 c =
-    let turn = c .before .before .before .loop in
-    refused-at-end _ _ _ _ _ _ _ (turn .i) (turn .inv .2) (c .before .before .before .before .before .mark-for .ensures) (c .before .before .loop-test .left) (c .if2 .left)
+    let mark-for = c .before .before .before .before .before .mark-for in
+    let loop = c .before .before .before .loop in
+    let loop-test = c .before .before .loop-test in
+    let turn = loop in
+    refused-at-end _ _ _ _ _ _ _ (turn .i) (turn .inv .2) (mark-for .ensures) (loop-test .left) (c .if2 .left)
 
 pub check-spec : {M : Type 1} → statement M
 check-spec =

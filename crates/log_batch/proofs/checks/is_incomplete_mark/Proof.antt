@@ -12,14 +12,19 @@ is-rewrite-replay-requires c κs = search needs
 
 returns : tie.Need-returns
 unfolding incompleteMark
-returns c = λ entries bytes. rw (sym (c .before .is-rewrite-replay .ensures) ∙ not-true _ (c .if1 .taken))
+returns c =
+    let is-rewrite-replay = c .before .is-rewrite-replay in
+    λ entries bytes. rw (sym (is-rewrite-replay .ensures) ∙ not-true _ (c .if1 .taken))
 
 lacks-mark-value-requires : tie.Need-lacks-mark-value-requires
 lacks-mark-value-requires c κs = search needs
 
 returns-2 : tie.Need-returns-2
 unfolding incompleteMark itemOf
-returns-2 c = λ entries bytes. rw (sym (c .before .before .is-rewrite-replay .ensures) ∙ not-false _ (c .before .if1 .left)) (c .lacks-mark-value .ensures entries bytes)
+returns-2 c =
+    let is-rewrite-replay = c .before .before .is-rewrite-replay in
+    let if1 = c .before .if1 in
+    λ entries bytes. rw (sym (is-rewrite-replay .ensures) ∙ not-false _ (if1 .left)) (c .lacks-mark-value .ensures entries bytes)
 
 pub is-incomplete-mark-spec : {M : Type 1} → statement M
 is-incomplete-mark-spec =

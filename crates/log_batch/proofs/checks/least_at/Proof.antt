@@ -23,17 +23,26 @@ returns c = sym (least-item-32 _ _ _ _ (c .if1 .taken))
 
 returns-2 : tie.Need-returns-2
 returns-2 c =
-    let args = c .before .before .before .before .before .before .before .args in
-    rw (item-is (args .entries .now) (args .bytes .now) (drop (args .i * 9) (args .items .now)) _ (sym (c .before .before .before .open-item .ensures .0) ∙ c .before .enum-told .given .1)) (sym (least-refused _ _ _ _ _ _ (c .if1 .left)))
+    let start = c .before .before .before .before .before .before .before in
+    let open-item = c .before .before .before .open-item in
+    let enum-told = c .before .enum-told in
+    let args = start .args in
+    rw (item-is (args .entries .now) (args .bytes .now) (drop (args .i * 9) (args .items .now)) _ (sym (open-item .ensures .0) ∙ enum-told .given .1)) (sym (least-refused _ _ _ _ _ _ (c .if1 .left)))
 
 least-of-requires : tie.Need-least-of-requires
-least-of-requires c κs = rw (c .before .item .given .1) at (c .before .before .before .open-item .ensures .1)
+least-of-requires c κs =
+    let open-item = c .before .before .before .open-item in
+    let item = c .before .item in
+    rw (item .given .1) at (open-item .ensures .1)
 
 returns-3 : tie.Need-returns-3
 unfolding openedOf
 returns-3 c =
-    let args = c .before .before .before .before .before .before .before .before .args in
-    rw (item-is (args .entries .now) (args .bytes .now) (drop (args .i * 9) (args .items .now)) _ (sym (c .before .before .before .before .open-item .ensures .0) ∙ c .before .before .item .given .1)) (c .least-of .ensures)
+    let start = c .before .before .before .before .before .before .before .before in
+    let open-item = c .before .before .before .before .open-item in
+    let item = c .before .before .item in
+    let args = start .args in
+    rw (item-is (args .entries .now) (args .bytes .now) (drop (args .i * 9) (args .items .now)) _ (sym (open-item .ensures .0) ∙ item .given .1)) (c .least-of .ensures)
 
 pub least-at-spec : {M : Type 1} → statement M
 least-at-spec =

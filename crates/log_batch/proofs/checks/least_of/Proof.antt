@@ -15,12 +15,17 @@ is-long-requires c κs = search needs
 returns-2 : tie.Need-returns-2
 unfolding itemOf
 returns-2 c =
-    let args = c .before .before .before .before .before .args in
-    let short = sym (c .before .is-long .ensures ∙ long-is _ (args .entries .now) _ (c .before .before .before .before .before .pre .places)) ∙ c .if2 .taken in
-    sym (least-long _ _ _ _ (c .before .before .if1 .left) short)
+    let start = c .before .before .before .before .before in
+    let if1 = c .before .before .if1 in
+    let is-long = c .before .is-long in
+    let args = start .args in
+    let short = sym (is-long .ensures ∙ long-is _ (args .entries .now) _ (start .pre .places)) ∙ c .if2 .taken in
+    sym (least-long _ _ _ _ (if1 .left) short)
 
 is-reserved-requires : tie.Need-is-reserved-requires
-is-reserved-requires c κs = c .before .before .before .before .before .pre .places
+is-reserved-requires c κs =
+    let start = c .before .before .before .before .before in
+    start .pre .places
 
 is-incomplete-mark-requires : tie.Need-is-incomplete-mark-requires
 is-incomplete-mark-requires c κs = search needs
@@ -28,45 +33,81 @@ is-incomplete-mark-requires c κs = search needs
 returns-3 : tie.Need-returns-3
 unfolding itemOf
 returns-3 c =
-    let args = c .before .before .before .before .before .before .before .before .before .args in
-    let short = sym (c .before .before .before .before .before .is-long .ensures ∙ long-is _ (args .entries .now) _ (c .before .before .before .before .before .before .before .before .before .pre .places)) ∙ c .before .before .before .before .if2 .left in
-    let reserved = sym (c .before .before .before .is-reserved .ensures (args .entries .now)) ∙ c .before .before .if3 .taken in
-    let incomplete = sym (c .before .is-incomplete-mark .ensures (args .entries .now) (args .bytes .now)) ∙ c .if4 .taken in
-    sym (least-reserved-3 _ _ _ _ (c .before .before .before .before .before .before .if1 .left) short reserved incomplete)
+    let start = c .before .before .before .before .before .before .before .before .before in
+    let if1 = c .before .before .before .before .before .before .if1 in
+    let is-long = c .before .before .before .before .before .is-long in
+    let if2 = c .before .before .before .before .if2 in
+    let is-reserved = c .before .before .before .is-reserved in
+    let if3 = c .before .before .if3 in
+    let is-incomplete-mark = c .before .is-incomplete-mark in
+    let args = start .args in
+    let short = sym (is-long .ensures ∙ long-is _ (args .entries .now) _ (start .pre .places)) ∙ if2 .left in
+    let reserved = sym (is-reserved .ensures (args .entries .now)) ∙ if3 .taken in
+    let incomplete = sym (is-incomplete-mark .ensures (args .entries .now) (args .bytes .now)) ∙ c .if4 .taken in
+    sym (least-reserved-3 _ _ _ _ (if1 .left) short reserved incomplete)
 
 least-of-mark-requires : tie.Need-least-of-mark-requires
-least-of-mark-requires c κs = c .before .before .before .before .before .before .before .before .before .pre .places
+least-of-mark-requires c κs =
+    let start = c .before .before .before .before .before .before .before .before .before in
+    start .pre .places
 
 returns-4 : tie.Need-returns-4
 unfolding itemOf
 returns-4 c =
-    let args = c .before .before .before .before .before .before .before .before .before .before .args in
-    let short = sym (c .before .before .before .before .before .before .is-long .ensures ∙ long-is _ (args .entries .now) _ (c .before .before .before .before .before .before .before .before .before .before .pre .places)) ∙ c .before .before .before .before .before .if2 .left in
-    let reserved = sym (c .before .before .before .before .is-reserved .ensures (args .entries .now)) ∙ c .before .before .before .if3 .taken in
-    let incomplete = sym (c .before .before .is-incomplete-mark .ensures (args .entries .now) (args .bytes .now)) ∙ c .before .if4 .left in
-    c .least-of-mark .ensures (args .entries .now) ∙ sym (least-reserved _ _ _ _ (c .before .before .before .before .before .before .before .if1 .left) short reserved incomplete)
+    let start = c .before .before .before .before .before .before .before .before .before .before in
+    let if1 = c .before .before .before .before .before .before .before .if1 in
+    let is-long = c .before .before .before .before .before .before .is-long in
+    let if2 = c .before .before .before .before .before .if2 in
+    let is-reserved = c .before .before .before .before .is-reserved in
+    let if3 = c .before .before .before .if3 in
+    let is-incomplete-mark = c .before .before .is-incomplete-mark in
+    let if4 = c .before .if4 in
+    let args = start .args in
+    let short = sym (is-long .ensures ∙ long-is _ (args .entries .now) _ (start .pre .places)) ∙ if2 .left in
+    let reserved = sym (is-reserved .ensures (args .entries .now)) ∙ if3 .taken in
+    let incomplete = sym (is-incomplete-mark .ensures (args .entries .now) (args .bytes .now)) ∙ if4 .left in
+    c .least-of-mark .ensures (args .entries .now) ∙ sym (least-reserved _ _ _ _ (if1 .left) short reserved incomplete)
 
 least-of-content-requires : tie.Need-least-of-content-requires
-least-of-content-requires c κs = c .before .before .before .before .before .before .before .pre .rows
+least-of-content-requires c κs =
+    let start = c .before .before .before .before .before .before .before in
+    start .pre .rows
 
 returns-5 : tie.Need-returns-5
 unfolding itemOf
 returns-5 c =
-    let args = c .before .before .before .before .before .before .before .before .before .args in
-    let short = sym (c .before .before .before .before .before .is-long .ensures ∙ long-is _ (args .entries .now) _ (c .before .before .before .before .before .before .before .before .before .pre .places)) ∙ c .before .before .before .before .if2 .left in
-    let reserved = sym (c .before .before .before .is-reserved .ensures (args .entries .now)) ∙ c .before .before .if3 .left in
-    least-content _ _ _ _ (c .before .before .before .before .before .before .if1 .left) short reserved _ (c .before .least-of-content .ensures (args .bytes .now)) (c .if5 .taken)
+    let start = c .before .before .before .before .before .before .before .before .before in
+    let if1 = c .before .before .before .before .before .before .if1 in
+    let is-long = c .before .before .before .before .before .is-long in
+    let if2 = c .before .before .before .before .if2 in
+    let is-reserved = c .before .before .before .is-reserved in
+    let if3 = c .before .before .if3 in
+    let least-of-content = c .before .least-of-content in
+    let args = start .args in
+    let short = sym (is-long .ensures ∙ long-is _ (args .entries .now) _ (start .pre .places)) ∙ if2 .left in
+    let reserved = sym (is-reserved .ensures (args .entries .now)) ∙ if3 .left in
+    least-content _ _ _ _ (if1 .left) short reserved _ (least-of-content .ensures (args .bytes .now)) (c .if5 .taken)
 
 least-of-mark-requires-2 : tie.Need-least-of-mark-requires-2
-least-of-mark-requires-2 c κs = c .before .before .before .before .before .before .before .before .before .pre .places
+least-of-mark-requires-2 c κs =
+    let start = c .before .before .before .before .before .before .before .before .before in
+    start .pre .places
 
 returns-6 : tie.Need-returns-6
 unfolding itemOf
 returns-6 c =
-    let args = c .before .before .before .before .before .before .before .before .before .before .args in
-    let short = sym (c .before .before .before .before .before .before .is-long .ensures ∙ long-is _ (args .entries .now) _ (c .before .before .before .before .before .before .before .before .before .before .pre .places)) ∙ c .before .before .before .before .before .if2 .left in
-    let reserved = sym (c .before .before .before .before .is-reserved .ensures (args .entries .now)) ∙ c .before .before .before .if3 .left in
-    let rest = least-rest _ _ _ _ (c .before .before .before .before .before .before .before .if1 .left) short reserved _ (c .before .before .least-of-content .ensures (args .bytes .now)) (c .before .if5 .left) in
+    let start = c .before .before .before .before .before .before .before .before .before .before in
+    let if1 = c .before .before .before .before .before .before .before .if1 in
+    let is-long = c .before .before .before .before .before .before .is-long in
+    let if2 = c .before .before .before .before .before .if2 in
+    let is-reserved = c .before .before .before .before .is-reserved in
+    let if3 = c .before .before .before .if3 in
+    let least-of-content = c .before .before .least-of-content in
+    let if5 = c .before .if5 in
+    let args = start .args in
+    let short = sym (is-long .ensures ∙ long-is _ (args .entries .now) _ (start .pre .places)) ∙ if2 .left in
+    let reserved = sym (is-reserved .ensures (args .entries .now)) ∙ if3 .left in
+    let rest = least-rest _ _ _ _ (if1 .left) short reserved _ (least-of-content .ensures (args .bytes .now)) (if5 .left) in
     c .least-of-mark2 .ensures (args .entries .now) ∙ rest
 
 pub least-of-spec : {M : Type 1} → statement M

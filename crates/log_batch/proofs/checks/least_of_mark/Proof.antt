@@ -13,7 +13,9 @@ is-rewrite-replay-requires c κs = search needs
 
 returns : tie.Need-returns
 unfolding leastMark meets7
-returns c = λ entries. rw (sym (c .before .is-rewrite-replay .ensures) ∙ not-true _ (c .if1 .taken))
+returns c =
+    let is-rewrite-replay = c .before .is-rewrite-replay in
+    λ entries. rw (sym (is-rewrite-replay .ensures) ∙ not-true _ (c .if1 .taken))
 
 enum-known-mark : tie.Need-enum-known-mark
 enum-known-mark c = search needs
@@ -23,18 +25,31 @@ enum-told c = search needs
 
 returns-2 : tie.Need-returns-2
 unfolding leastMark meets7 markAs orElse
-returns-2 c = λ entries. rw (sym (c .before .before .before .is-rewrite-replay .ensures) ∙ not-false _ (c .before .before .if1 .left), c .enum-told .given .1)
+returns-2 c =
+    let is-rewrite-replay = c .before .before .before .is-rewrite-replay in
+    let if1 = c .before .before .if1 in
+    λ entries. rw (sym (is-rewrite-replay .ensures) ∙ not-false _ (if1 .left), c .enum-told .given .1)
 
 breaks-mark-requires : tie.Need-breaks-mark-requires
 breaks-mark-requires c κs = search needs
 
 returns-3 : tie.Need-returns-3
 unfolding leastMark meets7 markAs orElse
-returns-3 c = λ entries. rw (sym (c .before .before .before .before .before .before .is-rewrite-replay .ensures) ∙ not-false _ (c .before .before .before .before .before .if1 .left), c .before .before .before .mark .given .1, sym (c .before .breaks-mark .ensures entries) ∙ c .if2 .taken)
+returns-3 c =
+    let is-rewrite-replay = c .before .before .before .before .before .before .is-rewrite-replay in
+    let if1 = c .before .before .before .before .before .if1 in
+    let mark = c .before .before .before .mark in
+    let breaks-mark = c .before .breaks-mark in
+    λ entries. rw (sym (is-rewrite-replay .ensures) ∙ not-false _ (if1 .left), mark .given .1, sym (breaks-mark .ensures entries) ∙ c .if2 .taken)
 
 returns-4 : tie.Need-returns-4
 unfolding leastMark meets7 markAs orElse
-returns-4 c = λ entries. rw (sym (c .before .before .before .before .before .before .is-rewrite-replay .ensures) ∙ not-false _ (c .before .before .before .before .before .if1 .left), c .before .before .before .mark .given .1, sym (c .before .breaks-mark .ensures entries) ∙ c .if2 .left)
+returns-4 c =
+    let is-rewrite-replay = c .before .before .before .before .before .before .is-rewrite-replay in
+    let if1 = c .before .before .before .before .before .if1 in
+    let mark = c .before .before .before .mark in
+    let breaks-mark = c .before .breaks-mark in
+    λ entries. rw (sym (is-rewrite-replay .ensures) ∙ not-false _ (if1 .left), mark .given .1, sym (breaks-mark .ensures entries) ∙ c .if2 .left)
 
 pub least-of-mark-spec : {M : Type 1} → statement M
 least-of-mark-spec =

@@ -6,11 +6,15 @@ use Rattle.log_batch.proofs.checks.lesser.Tie as tie
 
 returns : tie.Need-returns
 unfolding lesserOf
-returns c = rw (lt-ltb _ _ (c .if1 .taken))
+returns c =
+    let start = c .before .before in
+    rw (lt-ltb (start .args .number) (start .args .best .number) (c .if1 .taken))
 
 returns-2 : tie.Need-returns-2
 unfolding lesserOf
-returns-2 c = rw (le-ltb _ _ (c .if1 .left))
+returns-2 c =
+    let start = c .before .before in
+    rw (le-ltb (start .args .number) (start .args .best .number) (c .if1 .left))
 
 pub lesser-spec : {M : Type 1} → statement M
 lesser-spec = tie.close (tie.spec returns returns-2)

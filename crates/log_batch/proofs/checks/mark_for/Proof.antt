@@ -11,14 +11,19 @@ is-rewrite-replay-requires c κs = search needs
 
 returns : tie.Need-returns
 unfolding markAs markFor
-returns c = rw (sym (c .before .is-rewrite-replay .ensures) ∙ not-true _ (c .if1 .taken))
+returns c =
+    let is-rewrite-replay = c .before .is-rewrite-replay in
+    rw (sym (is-rewrite-replay .ensures) ∙ not-true _ (c .if1 .taken))
 
 first-mark-requires : tie.Need-first-mark-requires
 first-mark-requires c κs = search needs
 
 returns-2 : tie.Need-returns-2
 unfolding markFor
-returns-2 c = rw (sym (c .before .before .is-rewrite-replay .ensures) ∙ not-false _ (c .before .if1 .left)) (c .first-mark .ensures)
+returns-2 c =
+    let is-rewrite-replay = c .before .before .is-rewrite-replay in
+    let if1 = c .before .if1 in
+    rw (sym (is-rewrite-replay .ensures) ∙ not-false _ (if1 .left)) (c .first-mark .ensures)
 
 pub mark-for-spec : {M : Type 1} → statement M
 mark-for-spec =

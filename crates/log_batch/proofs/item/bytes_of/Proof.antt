@@ -17,7 +17,9 @@ part-result-end : tie.Need-part-result-end
 part-result-end c = search needs
 
 returns : tie.Need-returns
-returns c = (lent-part _ _ _, lent-length _ _ _ (c .before .pre))
+returns c =
+    let start = c .before in
+    (lent-part _ _ _, lent-length _ _ _ (start .pre))
 
 pub bytes-of-spec : {M : Type 1} → statement M
 bytes-of-spec = tie.close (tie.spec add-end sub-result part-result-start part-result-end returns)

@@ -28,7 +28,9 @@ part-result-end : tie.Need-part-result-end
 part-result-end c = search needs
 
 returns : tie.Need-returns
-returns c = (lent-part _ _ _, lent-length (c .before .args .at * 8) (c .before .args .count * 8) (c .before .args .entries .now) (omega arith))
+returns c =
+    let start = c .before in
+    (lent-part _ _ _, lent-length (start .args .at * 8) (start .args .count * 8) (start .args .entries .now) (omega arith))
 
 pub entries-of-spec : {M : Type 1} → statement M
 entries-of-spec =

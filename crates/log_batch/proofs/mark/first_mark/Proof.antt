@@ -32,8 +32,12 @@ enum-known-mark c = search needs
 returns : tie.Need-returns Inv-loop μ-loop
 unfolding markAs
 returns c =
-    let turn = c .before .before .before .before .before .loop in
-    sym (turn .inv .2 ∙ mark-found _ _ _ (turn .i) _ _ (c .before .before .before .before .loop-test .taken) (sym (c .before .before .before .mark-at .ensures) ∙ ap markAs (c .before .mark .given .1)))
+    let loop = c .before .before .before .before .before .loop in
+    let loop-test = c .before .before .before .before .loop-test in
+    let mark-at = c .before .before .before .mark-at in
+    let mark = c .before .mark in
+    let turn = loop in
+    sym (turn .inv .2 ∙ mark-found _ _ _ (turn .i) _ _ (loop-test .taken) (sym (mark-at .ensures) ∙ ap markAs (mark .given .1)))
 
 enum-told : tie.Need-enum-told Inv-loop μ-loop
 enum-told c = search needs
@@ -47,12 +51,17 @@ loop-less c = search needs
 loop-again : tie.Need-loop-again Inv-loop μ-loop
 unfolding markAs
 loop-again c =
-    let turn = c .before .before .before .before .loop in
-    (search needs, turn .inv .1, turn .inv .2 ∙ mark-more _ _ _ (turn .i) _ (c .before .before .before .loop-test .taken) (sym (c .before .before .mark-at .ensures) ∙ ap markAs (c .enum-told .given .1)))
+    let loop = c .before .before .before .before .loop in
+    let loop-test = c .before .before .before .loop-test in
+    let mark-at = c .before .before .mark-at in
+    let turn = loop in
+    (search needs, turn .inv .1, turn .inv .2 ∙ mark-more _ _ _ (turn .i) _ (loop-test .taken) (sym (mark-at .ensures) ∙ ap markAs (c .enum-told .given .1)))
 
 returns-2 : tie.Need-returns-2 Inv-loop μ-loop
 unfolding markAs
-returns-2 c = sym (c .before .loop .inv .2 ∙ mark-end _ _ _ (c .before .loop .i) _ (c .loop-test .left))
+returns-2 c =
+    let loop = c .before .loop in
+    sym (loop .inv .2 ∙ mark-end _ _ _ (loop .i) _ (c .loop-test .left))
 
 pub first-mark-spec : {M : Type 1} → statement M
 first-mark-spec =

@@ -15,7 +15,10 @@ enum-known-content : tie.Need-enum-known-content
 enum-known-content c = search needs
 
 is-reserved-key-requires : tie.Need-is-reserved-key-requires
-is-reserved-key-requires c κs = (rw (c .before .content .given .1) at (c .before .before .before .before .pre)) .0
+is-reserved-key-requires c κs =
+    let start = c .before .before .before .before in
+    let content = c .before .content in
+    (rw (content .given .1) at (start .pre)) .0
 
 returns : tie.Need-returns
 unfolding isReserved contentOf
@@ -27,7 +30,9 @@ returns-2 c = λ entries. rw (c .enum-told2 .given .1)
 
 returns-3 : tie.Need-returns-3
 unfolding contentOf
-returns-3 c = λ entries. rw (c .before .before .content .given .1) (c .is-reserved-key .ensures)
+returns-3 c =
+    let content = c .before .before .content in
+    λ entries. rw (content .given .1) (c .is-reserved-key .ensures)
 
 pub is-reserved-spec : {M : Type 1} → statement M
 is-reserved-spec =

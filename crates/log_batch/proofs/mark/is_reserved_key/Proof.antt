@@ -13,7 +13,9 @@ is-internal-key-requires c κs = search needs
 
 returns : tie.Need-returns
 unfolding isReserved keyContent
-returns c = rw (c .before .bytes-of .ensures .0) at (c .is-internal-key .ensures)
+returns c =
+    let bytes-of = c .before .bytes-of in
+    rw (bytes-of .ensures .0) at (c .is-internal-key .ensures)
 
 pub is-reserved-key-spec : {M : Type 1} → statement M
 is-reserved-key-spec = tie.close (tie.spec bytes-of-requires is-internal-key-requires returns)

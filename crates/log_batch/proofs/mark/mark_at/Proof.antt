@@ -23,11 +23,16 @@ enum-told c = search needs
 returns : tie.Need-returns
 unfolding markAs markHere openedOf markByte mapOption
 returns c =
-    let args = c .before .before .before .before .before .before .args in
-    rw (item-is (args .entries .now) (args .bytes .now) (drop (args .i * 9) (args .items .now)) _ (sym (c .before .before .open-item .ensures .0) ∙ c .enum-told .given .1))
+    let start = c .before .before .before .before .before .before in
+    let open-item = c .before .before .open-item in
+    let args = start .args in
+    rw (item-is (args .entries .now) (args .bytes .now) (drop (args .i * 9) (args .items .now)) _ (sym (open-item .ensures .0) ∙ c .enum-told .given .1))
 
 mark-byte-requires : tie.Need-mark-byte-requires
-mark-byte-requires c κs = (rw (c .before .item .given .1) at (c .before .before .before .open-item .ensures .1)) .places
+mark-byte-requires c κs =
+    let open-item = c .before .before .before .open-item in
+    let item = c .before .item in
+    (rw (item .given .1) at (open-item .ensures .1)) .places
 
 enum-known-byte : tie.Need-enum-known-byte
 enum-known-byte c = search needs
@@ -38,14 +43,23 @@ enum-told-2 c = search needs
 returns-2 : tie.Need-returns-2
 unfolding markAs markHere openedOf itemOf byteAs mapOption
 returns-2 c =
-    let args = c .before .before .before .before .before .before .before .before .before .before .args in
-    rw (item-is (args .entries .now) (args .bytes .now) (drop (args .i * 9) (args .items .now)) _ (sym (c .before .before .before .before .before .before .open-item .ensures .0) ∙ c .before .before .before .before .item .given .1), ← c .before .before .mark-byte .ensures (args .entries .now), c .enum-told2 .given .1)
+    let start = c .before .before .before .before .before .before .before .before .before .before in
+    let open-item = c .before .before .before .before .before .before .open-item in
+    let item = c .before .before .before .before .item in
+    let mark-byte = c .before .before .mark-byte in
+    let args = start .args in
+    rw (item-is (args .entries .now) (args .bytes .now) (drop (args .i * 9) (args .items .now)) _ (sym (open-item .ensures .0) ∙ item .given .1), ← mark-byte .ensures (args .entries .now), c .enum-told2 .given .1)
 
 returns-3 : tie.Need-returns-3
 unfolding markAs markOf markHere openedOf itemOf byteAs mapOption
 returns-3 c =
-    let args = c .before .before .before .before .before .before .before .before .before .before .before .args in
-    rw (item-is (args .entries .now) (args .bytes .now) (drop (args .i * 9) (args .items .now)) _ (sym (c .before .before .before .before .before .before .before .open-item .ensures .0) ∙ c .before .before .before .before .before .item .given .1), ← c .before .before .before .mark-byte .ensures (args .entries .now), c .before .byte .given .1)
+    let start = c .before .before .before .before .before .before .before .before .before .before .before in
+    let open-item = c .before .before .before .before .before .before .before .open-item in
+    let item = c .before .before .before .before .before .item in
+    let mark-byte = c .before .before .before .mark-byte in
+    let byte = c .before .byte in
+    let args = start .args in
+    rw (item-is (args .entries .now) (args .bytes .now) (drop (args .i * 9) (args .items .now)) _ (sym (open-item .ensures .0) ∙ item .given .1), ← mark-byte .ensures (args .entries .now), byte .given .1)
 
 pub mark-at-spec : {M : Type 1} → statement M
 mark-at-spec =

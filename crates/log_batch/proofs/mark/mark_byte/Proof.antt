@@ -16,7 +16,10 @@ enum-known-content : tie.Need-enum-known-content
 enum-known-content c = search needs
 
 mark-byte-of-key-requires : tie.Need-mark-byte-of-key-requires
-mark-byte-of-key-requires c κs = rw (c .before .content .given .1) at (c .before .before .before .before .pre)
+mark-byte-of-key-requires c κs =
+    let start = c .before .before .before .before in
+    let content = c .before .content in
+    rw (content .given .1) at (start .pre)
 
 returns : tie.Need-returns
 unfolding byteAs markByte contentOf
@@ -28,7 +31,9 @@ returns-2 c = λ entries. rw (c .enum-told2 .given .1)
 
 returns-3 : tie.Need-returns-3
 unfolding contentOf
-returns-3 c = λ entries. rw (c .before .before .content .given .1) (c .mark-byte-of-key .ensures)
+returns-3 c =
+    let content = c .before .before .content in
+    λ entries. rw (content .given .1) (c .mark-byte-of-key .ensures)
 
 pub mark-byte-spec : {M : Type 1} → statement M
 mark-byte-spec =

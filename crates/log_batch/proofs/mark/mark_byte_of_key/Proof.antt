@@ -23,14 +23,21 @@ is-reserved-key-requires c κs = search needs
 
 returns-2 : tie.Need-returns-2
 unfolding byteAs markByte keyContent keyChange changeOf isReserved
-returns-2 c = rw (c .before .before .enum-told .given .1, sym (c .before .is-reserved-key .ensures) ∙ not-true _ (c .if1 .taken))
+returns-2 c =
+    let enum-told = c .before .before .enum-told in
+    let is-reserved-key = c .before .is-reserved-key in
+    rw (enum-told .given .1, sym (is-reserved-key .ensures) ∙ not-true _ (c .if1 .taken))
 
 one-byte-requires : tie.Need-one-byte-requires
 one-byte-requires c κs = search needs
 
 returns-3 : tie.Need-returns-3
 unfolding byteAs markByte keyContent keyChange changeOf isReserved
-returns-3 c = rw (c .before .before .before .enum-told .given .1, sym (c .before .before .is-reserved-key .ensures) ∙ not-false _ (c .before .if1 .left)) (c .one-byte .ensures)
+returns-3 c =
+    let enum-told = c .before .before .before .enum-told in
+    let is-reserved-key = c .before .before .is-reserved-key in
+    let if1 = c .before .if1 in
+    rw (enum-told .given .1, sym (is-reserved-key .ensures) ∙ not-false _ (if1 .left)) (c .one-byte .ensures)
 
 pub mark-byte-of-key-spec : {M : Type 1} → statement M
 mark-byte-of-key-spec =

@@ -22,14 +22,24 @@ returns c = rw (c .enum-told .given .1)
 
 returns-2 : tie.Need-returns-2
 unfolding byteAs valueOf
-returns-2 c = let w = rw (c .before .before .value .given .1) at (c .before .before .before .before .pre) in rw (c .before .before .value .given .1) (sym (not-one-byte _ (λ e. c .if1 .taken (sym (length-part _ _ _ w) ∙ e))))
+returns-2 c =
+    let start = c .before .before .before .before in
+    let value = c .before .before .value in
+    let w = rw (value .given .1) at (start .pre) in rw (value .given .1) (sym (not-one-byte _ (λ e. c .if1 .taken (sym (length-part _ _ _ w) ∙ e))))
 
 shared-slice-read-t7 : tie.Need-shared-slice-read-t7
-shared-slice-read-t7 c = let w = rw (c .before .before .before .value .given .1) at (c .before .before .before .before .before .pre) in omega arith
+shared-slice-read-t7 c =
+    let start = c .before .before .before .before .before in
+    let value = c .before .before .before .value in
+    let w = rw (value .given .1) at (start .pre) in omega arith
 
 returns-3 : tie.Need-returns-3
 unfolding byteAs valueOf
-returns-3 c = let w = rw (c .before .before .before .value .given .1, c .before .if1 .left) at (c .before .before .before .before .before .pre) in rw (c .before .before .before .value .given .1, c .before .if1 .left) (sym (one-byte-part _ _ w))
+returns-3 c =
+    let start = c .before .before .before .before .before in
+    let value = c .before .before .before .value in
+    let if1 = c .before .if1 in
+    let w = rw (value .given .1, if1 .left) at (start .pre) in rw (value .given .1, if1 .left) (sym (one-byte-part _ _ w))
 
 pub one-byte-spec : {M : Type 1} → statement M
 one-byte-spec =

@@ -17,11 +17,15 @@ returns c = rw (eq-eqb _ _ (c .if1 .taken))
 
 returns-2 : tie.Need-returns-2
 unfolding fileAt
-returns-2 c = rw (ne-eqb _ _ (c .before .if1 .left), eq-eqb _ _ (c .if2 .taken))
+returns-2 c =
+    let if1 = c .before .if1 in
+    rw (ne-eqb _ _ (if1 .left), eq-eqb _ _ (c .if2 .taken))
 
 returns-3 : tie.Need-returns-3
 unfolding fileAt
-returns-3 c = rw (ne-eqb _ _ (c .before .if1 .left), ne-eqb _ _ (c .if2 .left))
+returns-3 c =
+    let if1 = c .before .if1 in
+    rw (ne-eqb _ _ (if1 .left), ne-eqb _ _ (c .if2 .left))
 
 pub file-at-spec : {M : Type 1} → statement M
 file-at-spec =

@@ -7,28 +7,38 @@ use Rattle.log_batch.proofs.open.open_item.Statement.{statement}
 use Rattle.log_batch.proofs.open.open_item.Tie as tie
 
 mul-start : tie.Need-mul-start
-mul-start c = omega (arith, row-begins (c .before .before .before .args .items .now) (c .before .before .before .args .i) (c .before .before .before .pre))
+mul-start c =
+    let start = c .before .before .before in
+    omega (arith, row-begins (start .args .items .now) (start .args .i) (start .pre))
 
 mul-open-row : tie.Need-mul-open-row
-mul-open-row c = omega (arith, row-begins (c .before .before .before .args .items .now) (c .before .before .before .args .i) (c .before .before .before .pre))
+mul-open-row c =
+    let start = c .before .before .before in
+    omega (arith, row-begins (start .args .items .now) (start .args .i) (start .pre))
 
 sub-open-row : tie.Need-sub-open-row
-sub-open-row c = omega (arith, row-begins (c .before .before .before .args .items .now) (c .before .before .before .args .i) (c .before .before .before .pre))
+sub-open-row c =
+    let start = c .before .before .before in
+    omega (arith, row-begins (start .args .items .now) (start .args .i) (start .pre))
 
 part-open-row-start : tie.Need-part-open-row-start
-part-open-row-start c = omega (arith, row-begins (c .before .before .before .args .items .now) (c .before .before .before .args .i) (c .before .before .before .pre))
+part-open-row-start c =
+    let start = c .before .before .before in
+    omega (arith, row-begins (start .args .items .now) (start .args .i) (start .pre))
 
 part-open-row-end : tie.Need-part-open-row-end
 part-open-row-end c = search needs
 
 open-row-requires : tie.Need-open-row-requires
 open-row-requires c κs =
-    let args = c .before .before .before .before .args in
-    rw (lent-back (args .i * 9) (args .items .now)) (row-left _ _ (c .before .before .before .before .pre))
+    let start = c .before .before .before .before in
+    let args = start .args in
+    rw (lent-back (args .i * 9) (args .items .now)) (row-left _ _ (start .pre))
 
 returns : tie.Need-returns
 returns c =
-    let args = c .before .before .before .before .before .args in
+    let start = c .before .before .before .before .before in
+    let args = start .args in
     let e = rw (lent-back (args .i * 9) (args .items .now)) at (c .open-row .ensures) in (e, rw e (opened-within _ _ _))
 
 pub open-item-spec : {M : Type 1} → statement M

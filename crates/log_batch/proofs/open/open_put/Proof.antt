@@ -20,14 +20,20 @@ within-requires c κs = search needs
 
 returns : tie.Need-returns
 unfolding openedPut itemIf
-returns c = rw (sym (c .before .within .ensures) ∙ not-true _ (c .if1 .taken))
+returns c =
+    let within = c .before .within in
+    rw (sym (within .ensures) ∙ not-true _ (c .if1 .taken))
 
 value-fits-requires : tie.Need-value-fits-requires
 value-fits-requires c κs = search needs
 
 returns-2 : tie.Need-returns-2
 unfolding openedPut itemIf
-returns-2 c = rw (sym (c .before .before .before .within .ensures) ∙ not-false _ (c .before .before .if1 .left), sym (c .before .value-fits .ensures) ∙ not-true _ (c .if2 .taken))
+returns-2 c =
+    let within = c .before .before .before .within in
+    let if1 = c .before .before .if1 in
+    let value-fits = c .before .value-fits in
+    rw (sym (within .ensures) ∙ not-false _ (if1 .left), sym (value-fits .ensures) ∙ not-true _ (c .if2 .taken))
 
 value-at-requires : tie.Need-value-at-requires
 value-at-requires c κs = search needs
@@ -37,7 +43,13 @@ file-at-requires c κs = search needs
 
 returns-3 : tie.Need-returns-3
 unfolding openedPut itemIf
-returns-3 c = rw (sym (c .before .before .before .before .before .within .ensures) ∙ not-false _ (c .before .before .before .before .if1 .left), sym (c .before .before .before .value-fits .ensures) ∙ not-false _ (c .before .before .if2 .left), c .before .value-at .ensures, c .file-at .ensures)
+returns-3 c =
+    let within = c .before .before .before .before .before .within in
+    let if1 = c .before .before .before .before .if1 in
+    let value-fits = c .before .before .before .value-fits in
+    let if2 = c .before .before .if2 in
+    let value-at = c .before .value-at in
+    rw (sym (within .ensures) ∙ not-false _ (if1 .left), sym (value-fits .ensures) ∙ not-false _ (if2 .left), value-at .ensures, c .file-at .ensures)
 
 pub open-put-spec : {M : Type 1} → statement M
 open-put-spec =

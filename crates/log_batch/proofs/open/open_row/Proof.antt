@@ -35,27 +35,44 @@ open-del-requires c κs = search needs
 
 returns-2 : tie.Need-returns-2
 unfolding openedRow
-returns-2 c = rw (le-ltb _ _ (c .before .before .before .if1 .left), c .before .match .keys1) (c .open-entries .ensures)
+returns-2 c =
+    let if1 = c .before .before .before .if1 in
+    let match = c .before .match in
+    rw (le-ltb _ _ (if1 .left), match .keys1) (c .open-entries .ensures)
 
 returns-3 : tie.Need-returns-3
 unfolding openedRow itemIf
-returns-3 c = rw (le-ltb _ _ (c .before .before .before .if1 .left), c .before .match .keys2) (c .open-command .ensures)
+returns-3 c =
+    let if1 = c .before .before .before .if1 in
+    let match = c .before .match in
+    rw (le-ltb _ _ (if1 .left), match .keys2) (c .open-command .ensures)
 
 returns-4 : tie.Need-returns-4
 unfolding openedRow itemIf
-returns-4 c = rw (le-ltb _ _ (c .before .before .before .before .if1 .left), c .before .before .match .keys3) (c .open-command2 .ensures)
+returns-4 c =
+    let if1 = c .before .before .before .before .if1 in
+    let match = c .before .before .match in
+    rw (le-ltb _ _ (if1 .left), match .keys3) (c .open-command2 .ensures)
 
 returns-5 : tie.Need-returns-5
 unfolding openedRow
-returns-5 c = rw (le-ltb _ _ (c .before .before .before .if1 .left), c .before .match .keys4) (c .open-put .ensures)
+returns-5 c =
+    let if1 = c .before .before .before .if1 in
+    let match = c .before .match in
+    rw (le-ltb _ _ (if1 .left), match .keys4) (c .open-put .ensures)
 
 returns-6 : tie.Need-returns-6
 unfolding openedRow
-returns-6 c = rw (le-ltb _ _ (c .before .before .before .if1 .left), c .before .match .keys5) (c .open-del .ensures)
+returns-6 c =
+    let if1 = c .before .before .before .if1 in
+    let match = c .before .match in
+    rw (le-ltb _ _ (if1 .left), match .keys5) (c .open-del .ensures)
 
 returns-7 : tie.Need-returns-7
 unfolding openedRow
-returns-7 c = rw (le-ltb _ _ (c .before .before .if1 .left), ne-eqb _ _ (c .match .rest .0 .0 .0 .0 .1), ne-eqb _ _ (c .match .rest .0 .0 .0 .1), ne-eqb _ _ (c .match .rest .0 .0 .1), ne-eqb _ _ (c .match .rest .0 .1), ne-eqb _ _ (c .match .rest .1))
+returns-7 c =
+    let if1 = c .before .before .if1 in
+    rw (le-ltb _ _ (if1 .left), ne-eqb _ _ (c .match .rest .0 .0 .0 .0 .1), ne-eqb _ _ (c .match .rest .0 .0 .0 .1), ne-eqb _ _ (c .match .rest .0 .0 .1), ne-eqb _ _ (c .match .rest .0 .1), ne-eqb _ _ (c .match .rest .1))
 
 pub open-row-spec : {M : Type 1} → statement M
 open-row-spec =

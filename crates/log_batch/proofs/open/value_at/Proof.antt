@@ -20,7 +20,9 @@ shared-slice-read-t8 c = search needs
 
 returns-2 : tie.Need-returns-2
 unfolding valueAt
-returns-2 c = rw (ne-eqb _ _ (c .before .before .if1 .left))
+returns-2 c =
+    let if1 = c .before .before .if1 in
+    rw (ne-eqb _ _ (if1 .left))
 
 pub value-at-spec : {M : Type 1} → statement M
 value-at-spec =

@@ -23,11 +23,16 @@ within-requires c κs = search needs
 
 returns-2 : tie.Need-returns-2
 unfolding valueFits
-returns-2 c = rw (ne-eqb _ _ (c .before .before .before .before .if1 .left), eq-eqb _ _ (c .before .before .before .if2 .taken)) (c .within .ensures)
+returns-2 c =
+    let if1 = c .before .before .before .before .if1 in
+    let if2 = c .before .before .before .if2 in
+    rw (ne-eqb _ _ (if1 .left), eq-eqb _ _ (if2 .taken)) (c .within .ensures)
 
 returns-3 : tie.Need-returns-3
 unfolding valueFits
-returns-3 c = rw (ne-eqb _ _ (c .before .if1 .left), ne-eqb _ _ (c .if2 .left))
+returns-3 c =
+    let if1 = c .before .if1 in
+    rw (ne-eqb _ _ (if1 .left), ne-eqb _ _ (c .if2 .left))
 
 pub value-fits-spec : {M : Type 1} → statement M
 value-fits-spec =

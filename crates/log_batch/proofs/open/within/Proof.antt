@@ -8,7 +8,9 @@ use Rattle.log_batch.proofs.open.within.Statement.{statement}
 use Rattle.log_batch.proofs.open.within.Tie as tie
 
 returns : tie.Need-returns
-returns c = sym (lt-leb (c .before .args .at + c .before .args .len) (c .before .args .end) (omega arith))
+returns c =
+    let start = c .before in
+    sym (lt-leb (start .args .at + start .args .len) (start .args .end) (omega arith))
 
 returns-2 : tie.Need-returns-2
 returns-2 c = leb-after _ _ _ (c .if1 .left)

@@ -11,7 +11,10 @@ same-length : tie.Need-same-length
 same-length c = search needs
 
 returns : tie.Need-returns
-returns c = laying-by (λ keys counted. by-append (c .before .before .before .before .before .before .args .live) _ _) (c .before .before .lay .ensures)
+returns c =
+    let start = c .before .before .before .before .before .before in
+    let lay = c .before .before .lay in
+    laying-by (λ keys counted. by-append (start .args .live) _ _) (lay .ensures)
 
 pub append-spec : {M : Type 1} → statement M
 append-spec = tie.close (tie.spec lay-requires same-length returns)

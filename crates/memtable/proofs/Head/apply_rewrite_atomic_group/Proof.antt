@@ -14,16 +14,23 @@ with-span-requires : tie.Need-with-span-requires
 with-span-requires c κs = search needs
 
 returns : tie.Need-returns
-returns c = span-first _ _ _ _ (c .with-span .ensures) (c .before .enum-told .given .1)
+returns c =
+    let enum-told = c .before .enum-told in
+    span-first _ _ _ _ (c .with-span .ensures) (enum-told .given .1)
 
 returns-2 : tie.Need-returns-2
-returns-2 c = span-back _ _ _ _ _ (c .before .before .group .given .1) (c .if1 .taken)
+returns-2 c =
+    let group = c .before .before .group in
+    span-back _ _ _ _ _ (group .given .1) (c .if1 .taken)
 
 with-span-requires-2 : tie.Need-with-span-requires-2
 with-span-requires-2 c κs = search needs
 
 returns-3 : tie.Need-returns-3
-returns-3 c = span-next _ _ _ _ (c .with-span2 .ensures) _ _ (c .before .before .before .group .given .1) (c .before .if1 .left)
+returns-3 c =
+    let group = c .before .before .before .group in
+    let if1 = c .before .if1 in
+    span-next _ _ _ _ (c .with-span2 .ensures) _ _ (group .given .1) (if1 .left)
 
 pub apply-rewrite-atomic-group-spec : {M : Type 1} → statement M
 apply-rewrite-atomic-group-spec =

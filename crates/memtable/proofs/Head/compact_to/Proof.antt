@@ -5,7 +5,9 @@ use Rattle.memtable.proofs.Head.compact_to.Statement.{statement}
 use Rattle.memtable.proofs.Head.compact_to.Tie as tie
 
 returns : tie.Need-returns
-returns c = compact-none _ _ _ (c .before .before .pre) (c .if1 .taken)
+returns c =
+    let start = c .before .before in
+    compact-none _ _ _ (start .pre) (c .if1 .taken)
 
 sub-lesser : tie.Need-sub-lesser
 sub-lesser c = search needs
@@ -38,7 +40,11 @@ same-length : tie.Need-same-length
 same-length c = search needs
 
 returns-2 : tie.Need-returns-2
-returns-2 c = compact-some _ _ _ (c .before .before .before .before .before .before .before .before .pre) _ _ (c .before .before .before .before .before .lesser .ensures) (c .lesser2 .ensures) _ (c .before .before .before .shift-down-u64 .ensures)
+returns-2 c =
+    let start = c .before .before .before .before .before .before .before .before in
+    let lesser = c .before .before .before .before .before .lesser in
+    let shift-down-u64 = c .before .before .before .shift-down-u64 in
+    compact-some _ _ _ (start .pre) _ _ (lesser .ensures) (c .lesser2 .ensures) _ (shift-down-u64 .ensures)
 
 pub compact-to-spec : {M : Type 1} → statement M
 compact-to-spec =

@@ -14,7 +14,9 @@ enum-told-2 : tie.Need-enum-told-2
 enum-told-2 c = search needs
 
 returns : tie.Need-returns
-returns c = rw (c .before .enum-told .given .1) (append-entries _)
+returns c =
+    let enum-told = c .before .enum-told in
+    rw (enum-told .given .1) (append-entries _)
 
 returns-2 : tie.Need-returns-2
 returns-2 c = rw (c .enum-told2 .given .1) (rewrite-entries _)

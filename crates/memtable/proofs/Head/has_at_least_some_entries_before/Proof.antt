@@ -5,10 +5,15 @@ use Rattle.memtable.proofs.Head.has_at_least_some_entries_before.Statem
 use Rattle.memtable.proofs.Head.has_at_least_some_entries_before.Tie as tie
 
 returns : tie.Need-returns
-returns c = some-bad _ _ (c .before .pre) _ _ (c .if1 .taken)
+returns c =
+    let start = c .before in
+    some-bad _ _ (start .pre) _ _ (c .if1 .taken)
 
 returns-2 : tie.Need-returns-2
-returns-2 c = some-short _ _ (c .before .before .before .pre) _ _ (c .before .before .if1 .left) (c .if2 .taken)
+returns-2 c =
+    let start = c .before .before .before in
+    let if1 = c .before .before .if1 in
+    some-short _ _ (start .pre) _ _ (if1 .left) (c .if2 .taken)
 
 sub-at : tie.Need-sub-at
 sub-at c = search needs
@@ -26,7 +31,11 @@ shared-slice-read-t10 : tie.Need-shared-slice-read-t10
 shared-slice-read-t10 c = search needs
 
 returns-3 : tie.Need-returns-3
-returns-3 c = some-is _ _ (c .before .before .before .before .pre) _ _ (c .before .before .before .if1 .left) (c .before .if2 .left)
+returns-3 c =
+    let start = c .before .before .before .before in
+    let if1 = c .before .before .before .if1 in
+    let if2 = c .before .if2 in
+    some-is _ _ (start .pre) _ _ (if1 .left) (if2 .left)
 
 pub has-at-least-some-entries-before-spec : {M : Type 1} → statement M
 has-at-least-some-entries-before-spec =

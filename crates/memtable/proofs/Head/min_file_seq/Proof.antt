@@ -17,13 +17,22 @@ enum-told : tie.Need-enum-told
 enum-told c = search needs
 
 returns : tie.Need-returns
-returns c = min-none _ _ _ (c .before .before .before .before .before .args .keys) (c .before .before .before .min-entry-seq .result) _ (c .before .before .before .min-entry-seq .ensures) (c .before .before .lesser-of .ensures) (c .enum-told .given .1)
+returns c =
+    let start = c .before .before .before .before .before in
+    let min-entry-seq = c .before .before .before .min-entry-seq in
+    let lesser-of = c .before .before .lesser-of in
+    min-none _ _ _ (start .args .keys) (min-entry-seq .result) _ (min-entry-seq .ensures) (lesser-of .ensures) (c .enum-told .given .1)
 
 by-span-requires : tie.Need-by-span-requires
 by-span-requires c κs = search needs
 
 returns-2 : tie.Need-returns-2
-returns-2 c = min-some _ _ _ (c .before .before .before .before .before .before .before .args .keys) (c .before .before .before .before .before .min-entry-seq .result) _ (c .before .before .before .before .before .min-entry-seq .ensures) (c .before .before .before .before .lesser-of .ensures) _ _ (c .before .before .both .given .1) (c .by-span .ensures)
+returns-2 c =
+    let start = c .before .before .before .before .before .before .before in
+    let min-entry-seq = c .before .before .before .before .before .min-entry-seq in
+    let lesser-of = c .before .before .before .before .lesser-of in
+    let both = c .before .before .both in
+    min-some _ _ _ (start .args .keys) (min-entry-seq .result) _ (min-entry-seq .ensures) (lesser-of .ensures) _ _ (both .given .1) (c .by-span .ensures)
 
 pub min-file-seq-spec : {M : Type 1} → statement M
 min-file-seq-spec =

@@ -83,7 +83,11 @@ cast-t25 : tie.Need-cast-t25
 cast-t25 c = search needs
 
 returns : tie.Need-returns
-returns c = entry-is _ _ _ _ _ (c .before .before .before .before .before .before .before .before .before .before .pre .1) (c .before .before .before .before .before .before .before .queue-at .ensures) (c .before .before .compression-at .ensures)
+returns c =
+    let start = c .before .before .before .before .before .before .before .before .before .before in
+    let queue-at = c .before .before .before .before .before .before .before .queue-at in
+    let compression-at = c .before .before .compression-at in
+    entry-is _ _ _ _ _ (start .pre .1) (queue-at .ensures) (compression-at .ensures)
 
 pub entry-at-spec : {M : Type 1} → statement M
 entry-at-spec =

@@ -34,7 +34,11 @@ shared-slice-read-if1 : tie.Need-shared-slice-read-if1 Inv-loop μ-loop
 shared-slice-read-if1 c = search needs
 
 returns : tie.Need-returns Inv-loop μ-loop
-returns c = (before-stop _ (c .before .before .before .before .args .from) (c .before .before .before .before .args .count) (c .before .before .before .loop .i) (c .before .before .before .before .args .gate) _ (c .before .before .before .loop .inv .1) (c .before .before .loop-test .taken) (c .if1 .taken), search needs)
+returns c =
+    let start = c .before .before .before .before in
+    let loop = c .before .before .before .loop in
+    let loop-test = c .before .before .loop-test in
+    (before-stop _ (start .args .from) (start .args .count) (loop .i) (start .args .gate) _ (loop .inv .1) (loop-test .taken) (c .if1 .taken), search needs)
 
 add-i : tie.Need-add-i Inv-loop μ-loop
 add-i c = search needs
@@ -43,10 +47,17 @@ loop-less : tie.Need-loop-less Inv-loop μ-loop
 loop-less c = search needs
 
 loop-again : tie.Need-loop-again Inv-loop μ-loop
-loop-again c = (search needs, before-more _ (c .before .before .before .before .args .from) (c .before .before .before .before .args .count) (c .before .before .before .loop .i) (c .before .before .before .before .args .gate) _ (c .before .before .before .loop .inv .1) (c .before .before .loop-test .taken) (c .if1 .left))
+loop-again c =
+    let start = c .before .before .before .before in
+    let loop = c .before .before .before .loop in
+    let loop-test = c .before .before .loop-test in
+    (search needs, before-more _ (start .args .from) (start .args .count) (loop .i) (start .args .gate) _ (loop .inv .1) (loop-test .taken) (c .if1 .left))
 
 returns-2 : tie.Need-returns-2 Inv-loop μ-loop
-returns-2 c = (before-end (c .before .before .args .part .now) (c .before .before .args .from) (c .before .before .args .count) (c .before .loop .i) (c .before .before .args .gate) _ (c .before .loop .inv .1) (c .loop-test .left), search needs)
+returns-2 c =
+    let start = c .before .before in
+    let loop = c .before .loop in
+    (before-end (start .args .part .now) (start .args .from) (start .args .count) (loop .i) (start .args .gate) _ (loop .inv .1) (c .loop-test .left), search needs)
 
 pub count-before-spec : {M : Type 1} → statement M
 count-before-spec =

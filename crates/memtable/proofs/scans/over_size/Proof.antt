@@ -7,10 +7,14 @@ returns : tie.Need-returns
 returns c = over-none _ _ _ (c .if1 .taken)
 
 returns-2 : tie.Need-returns-2
-returns-2 c = over-sum _ _ _ (c .before .if1 .left) (c .if2 .taken)
+returns-2 c =
+    let if1 = c .before .if1 in
+    over-sum _ _ _ (if1 .left) (c .if2 .taken)
 
 returns-3 : tie.Need-returns-3
-returns-3 c = over-len _ _ _ (c .before .if1 .left) (c .if2 .left)
+returns-3 c =
+    let if1 = c .before .if1 in
+    over-len _ _ _ (if1 .left) (c .if2 .left)
 
 pub over-size-spec : {M : Type 1} → statement M
 over-size-spec = tie.close (tie.spec returns returns-2 returns-3)

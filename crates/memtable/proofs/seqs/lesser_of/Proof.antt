@@ -11,7 +11,9 @@ enum-told : tie.Need-enum-told
 enum-told c = search needs
 
 returns : tie.Need-returns
-returns c = least-left (c .before .before .args .a) (c .before .before .args .b) (c .enum-told .given .1)
+returns c =
+    let start = c .before .before in
+    least-left (start .args .a) (start .args .b) (c .enum-told .given .1)
 
 enum-known-b : tie.Need-enum-known-b
 enum-known-b c = search needs
@@ -20,13 +22,21 @@ enum-told-2 : tie.Need-enum-told-2
 enum-told-2 c = search needs
 
 returns-2 : tie.Need-returns-2
-returns-2 c = least-right _ _ _ (c .before .before .before .a .given .1) (c .enum-told2 .given .1)
+returns-2 c =
+    let a = c .before .before .before .a in
+    least-right _ _ _ (a .given .1) (c .enum-told2 .given .1)
 
 returns-3 : tie.Need-returns-3
-returns-3 c = least-first _ _ _ (c .before .before .before .before .before .a .given .1) _ (c .before .before .b .given .1) (c .if1 .taken)
+returns-3 c =
+    let a = c .before .before .before .before .before .a in
+    let b = c .before .before .b in
+    least-first _ _ _ (a .given .1) _ (b .given .1) (c .if1 .taken)
 
 returns-4 : tie.Need-returns-4
-returns-4 c = least-second _ _ _ (c .before .before .before .before .before .a .given .1) _ (c .before .before .b .given .1) (c .if1 .left)
+returns-4 c =
+    let a = c .before .before .before .before .before .a in
+    let b = c .before .before .b in
+    least-second _ _ _ (a .given .1) _ (b .given .1) (c .if1 .left)
 
 pub lesser-of-spec : {M : Type 1} → statement M
 lesser-of-spec =

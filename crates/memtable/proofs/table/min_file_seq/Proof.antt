@@ -16,7 +16,10 @@ min-file-seq-requires : tie.Need-min-file-seq-requires
 min-file-seq-requires c κs = search needs
 
 returns : tie.Need-returns
-returns c = λ bs counted. c .min-file-seq .ensures ∙ ap (minSeq _ _ _) (c .before .found .ensures) ∙ min-of-keys _ _ _ _ _ (c .before .before .least-seq .result) (c .before .before .least-seq .ensures) bs counted
+returns c =
+    let least-seq = c .before .before .least-seq in
+    let found = c .before .found in
+    λ bs counted. c .min-file-seq .ensures ∙ ap (minSeq _ _ _) (found .ensures) ∙ min-of-keys _ _ _ _ _ (least-seq .result) (least-seq .ensures) bs counted
 
 pub min-file-seq-spec : {M : Type 1} → statement M
 min-file-seq-spec = tie.close (tie.spec least-seq-requires found-requires min-file-seq-requires returns)

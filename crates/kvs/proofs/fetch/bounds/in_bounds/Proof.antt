@@ -12,11 +12,16 @@ to-end-requires c κs = search needs
 
 returns : tie.Need-returns
 unfolding inBounds
-returns c = rw (← c .before .before .from-start .ensures, c .before .if1 .taken) (c .to-end .ensures)
+returns c =
+    let from-start = c .before .before .from-start in
+    let if1 = c .before .if1 in
+    rw (← from-start .ensures, if1 .taken) (c .to-end .ensures)
 
 returns-2 : tie.Need-returns-2
 unfolding inBounds
-returns-2 c = rw (← c .before .from-start .ensures, c .if1 .left)
+returns-2 c =
+    let from-start = c .before .from-start in
+    rw (← from-start .ensures, c .if1 .left)
 
 pub in-bounds-spec : {M : Type 1} → statement M
 in-bounds-spec = tie.close (tie.spec from-start-requires to-end-requires returns returns-2)

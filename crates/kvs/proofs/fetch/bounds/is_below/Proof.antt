@@ -19,13 +19,19 @@ enum-told-3 : tie.Need-enum-told-3
 enum-told-3 c = search needs
 
 returns : tie.Need-returns
-returns c = sym (below-is (c .before .before .before .before .before .args .a .now) (c .before .before .before .before .before .args .b .now) _ (c .before .before .compare-u8 .ensures) ∙ ap isLess (c .enum-told .given .1))
+returns c =
+    let compare-u8 = c .before .before .compare-u8 in
+    sym (below-is _ _ _ (compare-u8 .ensures) ∙ ap isLess (c .enum-told .given .1))
 
 returns-2 : tie.Need-returns-2
-returns-2 c = sym (below-is (c .before .before .before .before .before .args .a .now) (c .before .before .before .before .before .args .b .now) _ (c .before .before .compare-u8 .ensures) ∙ ap isLess (c .enum-told2 .given .1))
+returns-2 c =
+    let compare-u8 = c .before .before .compare-u8 in
+    sym (below-is _ _ _ (compare-u8 .ensures) ∙ ap isLess (c .enum-told2 .given .1))
 
 returns-3 : tie.Need-returns-3
-returns-3 c = sym (below-is (c .before .before .before .before .before .args .a .now) (c .before .before .before .before .before .args .b .now) _ (c .before .before .compare-u8 .ensures) ∙ ap isLess (c .enum-told3 .given .1))
+returns-3 c =
+    let compare-u8 = c .before .before .compare-u8 in
+    sym (below-is _ _ _ (compare-u8 .ensures) ∙ ap isLess (c .enum-told3 .given .1))
 
 pub is-below-spec : {M : Type 1} → statement M
 is-below-spec =

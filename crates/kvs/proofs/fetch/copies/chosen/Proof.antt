@@ -38,13 +38,20 @@ is-of-requires : tie.Need-is-of-requires
 is-of-requires c κs = search needs
 
 returns : tie.Need-returns
-returns c = meets-bounds (c .before .before .before .before .before .before .before .before .before .args .i) (c .before .before .before .before .before .before .before .before .before .args .rows .now) (c .before .before .before .before .before .before .before .before .before .args .bytes .now) (c .before .before .before .before .before .before .before .before .before .args .start .now) (c .before .before .before .before .before .before .before .before .before .args .end .now) _ _ _ _ _ (c .before .before .before .which .given .1) (c .before .key-at .ensures) (c .in-bounds .ensures)
+returns c =
+    let which = c .before .before .before .which in
+    let key-at = c .before .key-at in
+    meets-bounds _ _ _ _ _ _ _ _ _ _ (which .given .1) (key-at .ensures) (c .in-bounds .ensures)
 
 returns-2 : tie.Need-returns-2
-returns-2 c = meets-gate (c .before .before .before .before .before .before .before .before .args .i) (c .before .before .before .before .before .before .before .before .args .rows .now) (c .before .before .before .before .before .before .before .before .args .bytes .now) (c .before .before .before .before .before .before .before .before .args .start .now) (c .before .before .before .before .before .before .before .before .args .end .now) _ _ _ (c .before .before .which2 .given .1) (c .up-to .ensures)
+returns-2 c =
+    let which2 = c .before .before .which2 in
+    meets-gate _ _ _ _ _ _ _ _ (which2 .given .1) (c .up-to .ensures)
 
 returns-3 : tie.Need-returns-3
-returns-3 c = meets-rewrite (c .before .before .before .before .before .before .before .before .args .i) (c .before .before .before .before .before .before .before .before .args .rows .now) (c .before .before .before .before .before .before .before .before .args .bytes .now) (c .before .before .before .before .before .before .before .before .args .start .now) (c .before .before .before .before .before .before .before .before .args .end .now) _ _ (c .before .before .enum-told .given .1) (c .is-of .ensures)
+returns-3 c =
+    let enum-told = c .before .before .enum-told in
+    meets-rewrite _ _ _ _ _ _ _ (enum-told .given .1) (c .is-of .ensures)
 
 pub chosen-spec : {M : Type 1} → statement M
 chosen-spec =

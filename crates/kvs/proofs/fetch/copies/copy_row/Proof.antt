@@ -38,7 +38,10 @@ mul-copy-in-u8 : tie.Need-mul-copy-in-u8
 mul-copy-in-u8 c = search needs
 
 copy-in-u8-requires : tie.Need-copy-in-u8-requires
-copy-in-u8-requires c κs = omega (arith, length-key (c .before .before .before .before .before .before .before .args .i) (c .before .before .before .before .before .before .before .args .rows .now) (c .before .before .before .before .before .before .before .args .bytes .now) (c .before .before .before .before .before .before .before .pre .0), (ap length (c .before .before .key-at .ensures)), c .before .before .before .before .before .before .before .pre .1)
+copy-in-u8-requires c κs =
+    let start = c .before .before .before .before .before .before .before in
+    let key-at = c .before .before .key-at in
+    omega (arith, length-key _ _ _ (start .pre .0), (ap length (key-at .ensures)), start .pre .1)
 
 mul-copy-in-u8-2 : tie.Need-mul-copy-in-u8-2
 mul-copy-in-u8-2 c = search needs
@@ -47,7 +50,11 @@ add-copy-in-u8 : tie.Need-add-copy-in-u8
 add-copy-in-u8 c = search needs
 
 copy-in-u8-requires-2 : tie.Need-copy-in-u8-requires-2
-copy-in-u8-requires-2 c κs = omega (arith, length-value (c .before .before .before .before .before .before .before .before .before .before .before .args .i) (c .before .before .before .before .before .before .before .before .before .before .before .args .rows .now) (c .before .before .before .before .before .before .before .before .before .before .before .args .bytes .now) (c .before .before .before .before .before .before .before .before .before .before .before .pre .0), (ap length (c .before .before .before .before .before .value-at .ensures)), c .before .before .before .before .before .before .before .before .before .before .before .pre .1, c .before .before .before .copy-in-u8 .kept)
+copy-in-u8-requires-2 c κs =
+    let start = c .before .before .before .before .before .before .before .before .before .before .before in
+    let value-at = c .before .before .before .before .before .value-at in
+    let copy-in-u8 = c .before .before .before .copy-in-u8 in
+    omega (arith, length-value _ _ _ (start .pre .0), (ap length (value-at .ensures)), start .pre .1, copy-in-u8 .kept)
 
 same-length : tie.Need-same-length
 same-length c = search needs
@@ -57,10 +64,15 @@ same-length-2 c = search needs
 
 returns : tie.Need-returns
 unfolding rowOf pairOf heldOf
-returns c = (
-  two-lens (c .before .before .before .before .before .before .before .before .before .before .before .before .before .before .args .j) _ _ (rowOf (pairOf (rowAt (c .before .before .before .before .before .before .before .before .before .before .before .before .before .before .args .i) (c .before .before .before .before .before .before .before .before .before .before .before .before .before .before .args .rows .now) (c .before .before .before .before .before .before .before .before .before .before .before .before .before .before .args .bytes .now)))) (c .before .before .before .before .before .before .before .before .before .before .before .before .before .before .args .lens .now) (c .before .before .before .before .before .before .before .before .before .key-at .ensures) (c .before .before .before .before .before .before .before .before .value-at .ensures) (c .before .before .before .before .before .before .before .before .before .before .before .before .before .before .pre .1 .0),
-  two-copies (c .before .before .before .before .before .before .before .before .before .before .before .before .before .before .args .j) _ _ (rowOf (pairOf (rowAt (c .before .before .before .before .before .before .before .before .before .before .before .before .before .before .args .i) (c .before .before .before .before .before .before .before .before .before .before .before .before .before .before .args .rows .now) (c .before .before .before .before .before .before .before .before .before .before .before .before .before .before .args .bytes .now)))) (c .before .before .before .before .before .before .before .before .before .before .before .before .before .before .args .out .now) _ _ (c .before .before .before .before .before .before .before .before .before .key-at .ensures) (c .before .before .before .before .before .before .before .before .value-at .ensures) (c .before .before .before .before .before .before .copy-in-u8 .ensures) (c .before .before .copy-in-u82 .ensures),
-)
+returns c =
+    let start = c .before .before .before .before .before .before .before .before .before .before .before .before .before .before in
+    let key-at = c .before .before .before .before .before .before .before .before .before .key-at in
+    let value-at = c .before .before .before .before .before .before .before .before .value-at in
+    let copy-in-u8 = c .before .before .before .before .before .before .copy-in-u8 in
+    let copy-in-u82 = c .before .before .copy-in-u82 in (
+      two-lens _ _ _ (rowOf (pairOf (rowAt _ _ _))) _ (key-at .ensures) (value-at .ensures) (start .pre .1 .0),
+      two-copies _ _ _ (rowOf (pairOf (rowAt _ _ _))) _ _ _ (key-at .ensures) (value-at .ensures) (copy-in-u8 .ensures) (copy-in-u82 .ensures),
+    )
 
 pub copy-row-spec : {M : Type 1} → statement M
 copy-row-spec =

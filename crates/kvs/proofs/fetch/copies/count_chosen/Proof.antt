@@ -21,10 +21,14 @@ loop-holds : tie.Need-loop-holds Inv-loop μ-loop
 loop-holds c = (search needs, search needs, sym (zero-add _))
 
 one-chosen-requires : tie.Need-one-chosen-requires Inv-loop μ-loop
-one-chosen-requires c κs = row-in _ _ _ _ (c .before .before .before .before .before .before .pre) (search needs)
+one-chosen-requires c κs =
+    let start = c .before .before .before .before .before .before in
+    row-in _ _ _ _ (start .pre) (search needs)
 
 add-count : tie.Need-add-count Inv-loop μ-loop
-add-count c = omega (arith, c .before .before .before .before .before .before .before .pre, c .before .before .before .before .before .before .before .good, c .one-chosen .ensures .1)
+add-count c =
+    let start = c .before .before .before .before .before .before .before in
+    omega (arith, start .pre, start .good, c .one-chosen .ensures .1)
 
 add-i : tie.Need-add-i Inv-loop μ-loop
 add-i c = search needs
@@ -33,14 +37,24 @@ loop-less : tie.Need-loop-less Inv-loop μ-loop
 loop-less c = search needs
 
 loop-again : tie.Need-loop-again Inv-loop μ-loop
-loop-again c = (
-  search needs,
-  omega (arith, c .one-chosen .ensures .1),
-  omega (arith, count-more (meets (c .before .before .before .before .before .before .before .args .which) (c .before .before .before .before .before .before .before .args .start .now) (c .before .before .before .before .before .before .before .args .end .now)) (c .before .before .before .before .before .before .before .args .n) (c .before .before .before .before .before .before .before .args .rows .now) (c .before .before .before .before .before .before .before .args .bytes .now) (c .before .before .loop .i) (c .before .loop-test .taken), c .one-chosen .ensures .0),
-)
+loop-again c =
+    let start = c .before .before .before .before .before .before .before in
+    let loop = c .before .before .loop in
+    let loop-test = c .before .loop-test in
+    let args = start .args in
+    let asked = meets (args .which) (args .start .now) (args .end .now) in
+    let more = count-more asked (args .n) (args .rows .now) (args .bytes .now) (loop .i) (loop-test .taken) in
+    (search needs, omega (arith, c .one-chosen .ensures .1), omega (arith, more, c .one-chosen .ensures .0))
 
 returns : tie.Need-returns Inv-loop μ-loop
-returns c = omega (arith, ap length (selected-all (meets (c .before .before .before .before .before .before .args .which) (c .before .before .before .before .before .before .args .start .now) (c .before .before .before .before .before .before .args .end .now)) (c .before .before .before .before .before .before .args .n) (c .before .before .before .before .before .before .args .rows .now) (c .before .before .before .before .before .before .args .bytes .now)), ap length (selected-none (meets (c .before .before .before .before .before .before .args .which) (c .before .before .before .before .before .before .args .start .now) (c .before .before .before .before .before .before .args .end .now)) (c .before .before .before .before .before .before .args .n) (c .before .before .before .before .before .before .args .rows .now) (c .before .before .before .before .before .before .args .bytes .now) (c .before .loop .i) (search needs)))
+returns c =
+    let start = c .before .before .before .before .before .before in
+    let loop = c .before .loop in
+    let args = start .args in
+    let asked = meets (args .which) (args .start .now) (args .end .now) in
+    let all = selected-all asked (args .n) (args .rows .now) (args .bytes .now) in
+    let rest = selected-none asked (args .n) (args .rows .now) (args .bytes .now) (loop .i) (search needs) in
+    omega (arith, ap length all, ap length rest)
 
 pub count-chosen-spec : {M : Type 1} → statement M
 count-chosen-spec =

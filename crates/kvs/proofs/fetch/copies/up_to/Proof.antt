@@ -31,10 +31,15 @@ shared-slice-read-result : tie.Need-shared-slice-read-result
 shared-slice-read-result c = search needs
 
 returns : tie.Need-returns
-returns c = rw (← c .before .before .is-of .ensures, c .before .if1 .taken)
+returns c =
+    let is-of = c .before .before .is-of in
+    let if1 = c .before .if1 in
+    rw (← is-of .ensures, if1 .taken)
 
 returns-2 : tie.Need-returns-2
-returns-2 c = rw (← c .before .is-of .ensures, c .if1 .left)
+returns-2 c =
+    let is-of = c .before .is-of in
+    rw (← is-of .ensures, c .if1 .left)
 
 pub up-to-spec : {M : Type 1} → statement M
 up-to-spec =
