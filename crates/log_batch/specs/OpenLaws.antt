@@ -9,7 +9,7 @@ use lib.ListN.{length, getD, take, drop}
 use lib.Seq.{drop-drop, getD-take}
 use borrow.Author.Tests.{le-leb, leb-true, le-ltb}
 use Rattle.cells.specs.Part.{part}
-use Rattle.cells.specs.PartLaws.{part-take}
+use Rattle.cells.specs.PartLaws.{part-of-front, part-of-back}
 use Rattle.maps.specs.BoolLaws.{both-left, both-right, both}
 use Rattle.pipe_log.specs.Rows.{entriesOf}
 use Rattle.rules.specs.Items as rules
@@ -166,31 +166,57 @@ rows-open-same row row′ r b e = sym (row-front row r b) ∙ ap (λ (l : List �
 
 -- ---- an item's meaning depends on its own places alone
 
-pub part-of-front : {A : Type 0} (a n m : ℕ) (l l′ : List A) → take m l ≡ take m l′ → a + n ≤ m → part a n l ≡ part a n l′
-part-of-front a n m l l′ e h = sym (part-take a n m l h) ∙ ap (part a n) e ∙ part-take a n m l′ h
+-- the places of an item's rows and of its bytes, each the first and how many
+abbrev pub ValueIn : (ℕ → ℕ → Type 0) → value.Value → Type 0
+ValueIn B value.the-variants.Absent = Unit
+ValueIn B (value.the-variants.At a n) = B a n
 
-module _ (ne nb : ℕ) (es bs es′ bs′ : List ℕ) (e : take ne es ≡ take ne es′) (b : take nb bs ≡ take nb bs′) where
-  value-same : (v : value.Value) → valueWithin v nb → valueOf v bs ≡ valueOf v bs′
+abbrev pub PlacesIn : (ℕ → ℕ → Type 0) → (ℕ → ℕ → Type 0) → content.LogItemContent → Type 0
+PlacesIn R B (content.the-variants.EntryIndexes e) = R (e .at * 8) (e .count * 8)
+PlacesIn R B (content.the-variants.Command c) = Unit
+PlacesIn R B (content.the-variants.Kv k) = B (k .«key_at») (k .«key_len») × ValueIn B (k .value)
+
+module _ (R B : ℕ → ℕ → Type 0) (es bs es′ bs′ : List ℕ) (e : (a n : ℕ) → R a n → part a n es ≡ part a n es′) (b : (a n : ℕ) → B a n → part a n bs ≡ part a n bs′) where
+  value-same : (v : value.Value) → ValueIn B v → valueOf v bs ≡ valueOf v bs′
   unfolding valueOf
   value-same value.the-variants.Absent w = refl
-  value-same (value.the-variants.At a n) w = rw (part-of-front a n nb bs bs′ b w)
+  value-same (value.the-variants.At a n) w = rw (b a n w)
 
-  change-same : (o : op.OpType) (v : value.Value) (f : KeyFile) → valueWithin v nb → changeOf o v f bs ≡ changeOf o v f bs′
+  change-same : (o : op.OpType) (v : value.Value) (f : KeyFile) → ValueIn B v → changeOf o v f bs ≡ changeOf o v f bs′
   unfolding changeOf
   change-same op.the-variants.Put v f w = rw (value-same v w)
   change-same op.the-variants.Del v f w = refl
 
-  content-same : (c : content.LogItemContent) → Within c ne nb → contentOf c es bs ≡ contentOf c es′ bs′
+  content-same : (c : content.LogItemContent) → PlacesIn R B c → contentOf c es bs ≡ contentOf c es′ bs′
   unfolding contentOf keyContent keyChange
-  content-same (content.the-variants.EntryIndexes x) w =
-      let h = w .rows in rw (part-of-front (x .at * 8) (x .count * 8) ne es es′ e (omega arith))
+  content-same (content.the-variants.EntryIndexes x) w = rw (e (x .at * 8) (x .count * 8) w)
   content-same (content.the-variants.Command c) w = refl
   content-same (content.the-variants.Kv k) w =
-      rw (part-of-front (k .«key_at») (k .«key_len») nb bs bs′ b (w .places .0), change-same (k .«op_type») (k .value) (k .«file_id») (w .places .1))
+      rw (b (k .«key_at») (k .«key_len») (w .0), change-same (k .«op_type») (k .value) (k .«file_id») (w .1))
 
-  pub item-same : (it : LogItem) → Within (it .content) ne nb → itemOf it es bs ≡ itemOf it es′ bs′
+  pub item-same : (it : LogItem) → PlacesIn R B (it .content) → itemOf it es bs ≡ itemOf it es′ bs′
   unfolding itemOf
   item-same it w = rw (content-same (it .content) w)
+
+-- where the fronts are the same
+module _ (ne nb : ℕ) where
+  value-in-front : (v : value.Value) → valueWithin v nb → ValueIn (λ a n. a + n ≤ nb) v
+  value-in-front value.the-variants.Absent w = tt
+  value-in-front (value.the-variants.At a n) w = w
+
+  in-front : (c : content.LogItemContent) → Within c ne nb → PlacesIn (λ a n. a + n ≤ ne) (λ a n. a + n ≤ nb) c
+  in-front (content.the-variants.EntryIndexes x) w = let h = w .rows in omega arith
+  in-front (content.the-variants.Command c) w = tt
+  in-front (content.the-variants.Kv k) w = (w .places .0, value-in-front (k .value) (w .places .1))
+
+  pub item-front : (es bs es′ bs′ : List ℕ) → take ne es ≡ take ne es′ → take nb bs ≡ take nb bs′ → (it : LogItem) → Within (it .content) ne nb → itemOf it es bs ≡ itemOf it es′ bs′
+  item-front es bs es′ bs′ e b it w =
+      item-same (λ a n. a + n ≤ ne) (λ a n. a + n ≤ nb) es bs es′ bs′ (λ a n h. part-of-front a n ne es es′ e h) (λ a n h. part-of-front a n nb bs bs′ b h) it (in-front (it .content) w)
+
+-- where the backs are the same
+pub item-back : (ne nb : ℕ) (es bs es′ bs′ : List ℕ) → drop ne es ≡ drop ne es′ → drop nb bs ≡ drop nb bs′ → (it : LogItem) → PlacesIn (λ a n. ne ≤ a) (λ a n. nb ≤ a) (it .content) → itemOf it es bs ≡ itemOf it es′ bs′
+item-back ne nb es bs es′ bs′ e b it w =
+    item-same (λ a n. ne ≤ a) (λ a n. nb ≤ a) es bs es′ bs′ (λ a n h. part-of-back a n ne es es′ e h) (λ a n h. part-of-back a n nb bs bs′ b h) it w
 
 pub length-entries : (n : ℕ) (xs : List ℕ) → length (entriesOf n xs) ≡ n
 unfolding entriesOf

@@ -10,14 +10,14 @@ use lib.Dec.{ltb}
 use lib.ListN.{length, drop}
 use borrow.Author.Tests.{ltb-true, leb-true, le-ltb, lt-ltb, lt-leb, le-leb}
 use Rattle.cells.specs.Part.{put}
-use Rattle.cells.specs.PartLaws.{length-put, take-put, from-put}
+use Rattle.cells.specs.PartLaws.{length-put, take-put, from-put, drop-put}
 use Rattle.maps.specs.BoolLaws.{both-left, both-right}
 use Rattle.log_batch.specs.declared.item.LogItem.{LogItem}
 use Rattle.log_batch.specs.declared.open.Opened.{the-variants.Item}
 use Rattle.log_batch.specs.Lent.{openedRow, itemOf, itemAt}
 use Rattle.stores.specs.declared.Store.{Store}
 use Rattle.stores.specs.Written.{rowFor, placed, bytesOf, rowsOf, countOf, Lent}
-use Rattle.stores.specs.Stores.{Area, area, storeItems, entriesBefore, Held, Stored, Kept, Sized, hasRoom, oneMore, Added}
+use Rattle.stores.specs.Stores.{Area, area, storeItems, entriesBefore, Held, Stored, Kept, Rest, Sized, hasRoom, oneMore, Added}
 use Rattle.log_batch.specs.OpenLaws.{open-longer, item-opened, items-snoc}
 use Rattle.stores.specs.StoreLaws.{before-more, before-same, held-same, entries-count, kept-items}
 use Rattle.stores.proofs.WrittenLaws.{length-row, length-rows-of, length-bytes-of, written-opens, written-entries, written-item}
@@ -74,6 +74,21 @@ module _ (s : Store) (a : Area) (it : LogItem) (es bs : List ℕ) where
           rows = take-put (s .items * 9) (a .items) (s .items * 9) _ (omega arith) (omega arith);
           lists = take-put (s .entries * 8) (a .entries) (s .entries * 8) _ (omega arith) (omega arith);
           places = take-put (s .items * 64) (a .bytes) (s .items * 64) _ (omega arith) (omega arith);
+        }
+
+    -- the written row, rows of entries and bytes end where the store with the item ends
+    added-rest : Rest (oneMore (countOf (it .content)) s) a written
+    added-rest =
+        let p = row-fits s a w (countOf (it .content)) room in
+        let q = bytes-fit s a w (countOf (it .content)) room in
+        let r = w .lists in
+        let n = length-row it (s .entries) (s .items * 64) in
+        let k = length-rows-of (it .content) es (l .within .rows) in
+        let m = length-bytes-of (it .content) bs (l .within .places) (l .short) in
+        record {
+          rows = drop-put ((s .items + 1) * 9) (a .items) (s .items * 9) _ (omega arith) (omega arith);
+          lists = drop-put ((s .entries + countOf (it .content)) * 8) (a .entries) (s .entries * 8) _ (omega arith) (omega arith);
+          places = drop-put ((s .items + 1) * 64) (a .bytes) (s .items * 64) _ (omega arith) (omega arith);
         }
 
     added-sized : Sized a written
@@ -151,6 +166,7 @@ module _ (s : Store) (a : Area) (it : LogItem) (es bs : List ℕ) where
           items = added-items (kept-items s a written w added-kept);
           wf = added-stored;
           kept = added-kept;
+          rest = added-rest;
           sized = added-sized;
         }
 

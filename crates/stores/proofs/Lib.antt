@@ -1,3 +1,4 @@
 -- The laws that the functions' proofs cite.
 pub mod WrittenLaws
 pub mod AddLaws
+pub mod TakingLaws

@@ -9,7 +9,7 @@ use lib.Dec.{ltb}
 use lib.ListN.{length, length-append}
 use borrow.Author.Tests.{le-leb, le-ltb}
 use Rattle.cells.specs.Part.{part, put}
-use Rattle.cells.specs.PartLaws.{length-part, part-all, part-left, part-right, part-put-within, part-put-same, put-append}
+use Rattle.cells.specs.PartLaws.{length-part, part-all, part-left, part-right, part-put-within, part-put-same, part-put-after, length-put, put-append}
 use Rattle.rules.specs.Items as rules
 use Rattle.log_batch.specs.declared.item.Command as command
 use Rattle.log_batch.specs.declared.item.Value as value
@@ -20,7 +20,8 @@ use Rattle.log_batch.specs.declared.item.LogItemContent as content
 use Rattle.log_batch.specs.declared.item.LogItem.{LogItem}
 use Rattle.log_batch.specs.declared.open.Opened.{the-variants.Item}
 use Rattle.log_batch.specs.Lent.{itemIf, valueFits, valueAt, fileAt, openedEntries, openedPut, openedDel, openedRow, contentOf, itemOf, keyContent, keyChange, changeOf, valueOf, valueWithin, rowsWithin, bytesWithin}
-use Rattle.stores.specs.Written.{keyLength, fileNumber, fileSeq, valueTold, valueLength, commandRow, keyRow, contentRow, rowFor, placedValue, placedKey, placedContent, placed, valueBytes, keyBytes, bytesOf, rowsOf, countOf, valueShort, contentShort}
+use Rattle.log_batch.specs.OpenLaws.{ValueIn, PlacesIn}
+use Rattle.stores.specs.Written.{keyLength, fileNumber, fileSeq, valueTold, valueLength, commandRow, keyRow, contentRow, rowFor, placedValue, placedKey, placedContent, placed, valueBytes, keyBytes, bytesOf, rowsOf, countOf, valueShort, contentShort, valueBehind, bytesBehind, Behind}
 use Rattle.stores.specs.Stores.{rowEntries}
 
 -- ---- lengths
@@ -221,3 +222,54 @@ module _ (k : KeyValue) (at : ℕ) (xs bs ys : List ℕ) (e : ys ≡ put xs at (
       let q = put-append xs at (part (k .«key_at») (k .«key_len») bs) (part a n bs) l in
       let m = length-part (k .«key_at») (k .«key_len») bs w in
       rw (h, q, m, ← e) f
+
+-- the same where they move down within one list
+module _ (k : KeyValue) (to : ℕ) (xs ys : List ℕ) (e : ys ≡ put xs to (part (k .«key_at») (k .«key_len») xs)) (w : k .«key_at» + k .«key_len» ≤ length xs) (l : to ≤ k .«key_at») where
+  pub value-stays : (a n : ℕ) → to + k .«key_len» ≤ a → part a n ys ≡ part a n xs
+  value-stays a n h =
+      let m = length-part (k .«key_at») (k .«key_len») xs w in
+      rw e (part-put-after a n xs to (part (k .«key_at») (k .«key_len») xs) (omega arith) (omega arith))
+
+  pub moved-length : length ys ≡ length xs
+  moved-length =
+      let m = length-part (k .«key_at») (k .«key_len») xs w in
+      rw e (length-put xs to (part (k .«key_at») (k .«key_len») xs) (omega arith))
+
+  pub value-moved : (a n : ℕ) (zs : List ℕ) → k .value ≡ value.the-variants.At a n → to + k .«key_len» ≤ a → zs ≡ put ys (to + k .«key_len») (part a n ys) → zs ≡ put xs to (keyBytes k xs)
+  value-moved a n zs h b f = value-copied k to xs xs ys e a n zs h w (omega arith) (rw (value-stays a n b) at f)
+
+-- ---- the places of an item lie at or behind where it was placed
+
+behind-value : (v : value.Value) (b d : ℕ) → d ≤ b → valueBehind (placedValue v b) d
+behind-value value.the-variants.Absent b d h = tt
+behind-value (value.the-variants.At a n) b d h = h
+
+behind-key : (o : op.OpType) (k : KeyValue) (b d : ℕ) → d ≤ b → bytesBehind (content.the-variants.Kv (placedKey o k b)) d
+behind-key op.the-variants.Put k b d h = (h, behind-value (k .value) (b + k .«key_len») (d + k .«key_len») (omega arith))
+behind-key op.the-variants.Del k b d h = (h, tt)
+
+behind-content : (c : content.LogItemContent) (r b q d : ℕ) → q ≤ r → d ≤ b → Behind (placedContent c r b) q d
+behind-content (content.the-variants.EntryIndexes x) r b q d g h = record { rows = g; places = tt }
+behind-content (content.the-variants.Command c) r b q d g h = record { rows = tt; places = tt }
+behind-content (content.the-variants.Kv k) r b q d g h = record { rows = tt; places = behind-key (k .«op_type») k b d h }
+
+pub placed-behind : (it : LogItem) (r b q d : ℕ) → q ≤ r → d ≤ b → Behind (placed it r b .content) q d
+unfolding placed
+placed-behind it r b q d g h = behind-content (it .content) r b q d g h
+
+back-value : (v : value.Value) (b d : ℕ) → d ≤ b → ValueIn (λ a n. d ≤ a) (placedValue v b)
+back-value value.the-variants.Absent b d h = tt
+back-value (value.the-variants.At a n) b d h = h
+
+back-key : (o : op.OpType) (k : KeyValue) (b : ℕ) (R : ℕ → ℕ → Type 0) → PlacesIn R (λ a n. b ≤ a) (content.the-variants.Kv (placedKey o k b))
+back-key op.the-variants.Put k b R = (omega arith, back-value (k .value) (b + k .«key_len») b (omega arith))
+back-key op.the-variants.Del k b R = (omega arith, tt)
+
+back-content : (c : content.LogItemContent) (r b : ℕ) → PlacesIn (λ a n. r * 8 ≤ a) (λ a n. b ≤ a) (placedContent c r b)
+back-content (content.the-variants.EntryIndexes x) r b = omega arith
+back-content (content.the-variants.Command c) r b = tt
+back-content (content.the-variants.Kv k) r b = back-key (k .«op_type») k b (λ a n. r * 8 ≤ a)
+
+pub placed-back : (it : LogItem) (r b : ℕ) → PlacesIn (λ a n. r * 8 ≤ a) (λ a n. b ≤ a) (placed it r b .content)
+unfolding placed
+placed-back it r b = back-content (it .content) r b

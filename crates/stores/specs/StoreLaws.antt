@@ -1,15 +1,16 @@
 -- The laws of a store: its items open within the fronts in use, so they stay where the fronts stay. Assumes nothing.
 use mathlib.Core.Bool.{Bool, true, false, cond}
 use mathlib.Core.Path.{_≡_, refl, sym, ap, _∙_}
-use mathlib.Core.List.{List}
+use mathlib.Core.List.{List, []}
 use Prim.Native.Nat.{ℕ, zero, suc, _+_, _*_, _/_, _≤_, _<_}
 use native.Mathlib.Decide.{decLe}
 use native.Mathlib.Omega.{arith}
 use native.Mathlib.Nat.{add-zero}
 use lib.Dec.{eqb, ltb}
-use lib.ListN.{length, getD, take, drop, length-take}
-use lib.Seq.{length-take-le, getD-take, take-take}
+use lib.ListN.{length, getD, take, drop}
+use lib.Seq.{getD-take}
 use Rattle.cells.specs.Part.{part}
+use Rattle.cells.specs.PartLaws.{part-of-front, shorter-front, shorter-back, front-length}
 use Rattle.maps.specs.Lists.{sum}
 use Rattle.maps.specs.ListLaws.{sum-append}
 use Rattle.rules.specs.Items as rules
@@ -20,22 +21,13 @@ use Rattle.log_batch.specs.declared.item.KeyValue.{KeyValue}
 use Rattle.log_batch.specs.declared.item.LogItemContent as content
 use Rattle.log_batch.specs.declared.item.LogItem.{LogItem}
 use Rattle.log_batch.specs.declared.open.Opened.{Opened, the-variants.Item, the-variants.Refused}
-use Rattle.log_batch.specs.Lent.{itemIf, openedEntries, openedPut, openedDel, openedRow, contentOf, keyContent, itemOf, itemAt, itemsFrom, Within}
+use Rattle.log_batch.specs.Lent.{rowCount, itemIf, openedEntries, openedPut, openedDel, openedRow, contentOf, keyContent, itemOf, itemAt, itemsFrom, Within}
 use Rattle.stores.specs.declared.Store.{Store}
 use Rattle.stores.specs.Written.{placed, placedValue, placedKey, placedContent, countOf, valueShort, contentShort, Lent}
-use Rattle.stores.specs.Stores.{Area, storeItems, rowEntries, entriesBefore, Held, Stored, Kept, Sized}
-use Rattle.log_batch.specs.OpenLaws.{opened-within, refused-item, open-longer, rows-open-same, part-of-front, item-same, item-opened, length-entries, items-snoc, length-items, items-at, items-same}
+use Rattle.stores.specs.Stores.{Area, storeItems, rowEntries, entriesBefore, firstItems, Held, Stored, Kept, Rest, Sized, ItemAt}
+use Rattle.log_batch.specs.OpenLaws.{opened-within, refused-item, open-longer, rows-open-same, item-front, item-opened, length-entries, items-snoc, length-items, items-at, items-same}
 
 -- ---- fronts
-
-front-length : {A : Type 0} (m : ℕ) (l l′ : List A) → take m l′ ≡ take m l → m ≤ length l → m ≤ length l′
-front-length m l l′ e h =
-    let p : length (take m l′) ≡ m = ap length e ∙ length-take-le m l h in
-    let q = length-take m l′ in
-    omega arith
-
-shorter-front : {A : Type 0} (k m : ℕ) (l l′ : List A) → k ≤ m → take m l ≡ take m l′ → take k l ≡ take k l′
-shorter-front k m l l′ h e = sym (take-take k m l h) ∙ ap (take k) e ∙ take-take k m l′ h
 
 -- row j of the first n
 front-row : (n j : ℕ) (xs ys : List ℕ) → take (n * 9) ys ≡ take (n * 9) xs → j < n → take 9 (drop (j * 9) ys) ≡ take 9 (drop (j * 9) xs)
@@ -184,7 +176,7 @@ module _ (s : Store) (a : Area) (w : Stored s a) (j : ℕ) (h : j < s .items) wh
     pub kept-item : itemAt (b .entries) (b .bytes) (drop (j * 9) (b .items)) ≡ itemOf heldItem (a .entries) (a .bytes)
     kept-item =
         item-opened (b .entries) (b .bytes) (drop (j * 9) (b .items)) heldItem kept-opens
-        ∙ item-same (s .entries * 8) (s .items * 64) (b .entries) (b .bytes) (a .entries) (a .bytes) (k .lists) (k .places) heldItem within-in-use
+        ∙ item-front (s .entries * 8) (s .items * 64) (b .entries) (b .bytes) (a .entries) (a .bytes) (k .lists) (k .places) heldItem within-in-use
 
     -- it meets what `push` asks, in whichever parts the fronts are kept
     pub kept-lent : Lent heldItem (length (b .entries)) (length (b .bytes))
@@ -206,6 +198,14 @@ kept-then s t a b c h l p q =
       rows = shorter-front (s .items * 9) (t .items * 9) (c .items) (b .items) (omega arith) (q .rows) ∙ p .rows;
       lists = shorter-front (s .entries * 8) (t .entries * 8) (c .entries) (b .entries) (omega arith) (q .lists) ∙ p .lists;
       places = shorter-front (s .items * 64) (t .items * 64) (c .bytes) (b .bytes) (omega arith) (q .places) ∙ p .places;
+    }
+
+pub rest-then : (s t : Store) (a b c : Area) → s .items ≤ t .items → s .entries ≤ t .entries → Rest s a b → Rest t b c → Rest t a c
+rest-then s t a b c h l p q =
+    record {
+      rows = q .rows ∙ shorter-back (s .items * 9) (t .items * 9) (b .items) (a .items) (omega arith) (p .rows);
+      lists = q .lists ∙ shorter-back (s .entries * 8) (t .entries * 8) (b .entries) (a .entries) (omega arith) (p .lists);
+      places = q .places ∙ shorter-back (s .items * 64) (t .items * 64) (b .bytes) (a .bytes) (omega arith) (p .places);
     }
 
 pub sized-then : (a b c : Area) → Sized a b → Sized b c → Sized a c
@@ -245,6 +245,26 @@ module _ (s : Store) (a : Area) (w : Stored s a) where
   unfolding storeItems
   stored-at j h z = items-at (a .entries) (a .bytes) (s .items) (a .items) j z h ∙ kept-item s a w j h a (kept-all s a)
 
+  pub stored-opens : (j : ℕ) (h : j < s .items) → openedRow (drop (j * 9) (a .items)) (length (a .entries) / 8) (length (a .bytes)) ≡ Item (heldItem s a w j h)
+  stored-opens j h = kept-opens s a w j h a (kept-all s a)
+
+  pub stored-row : (j : ℕ) → j < s .items → j < rowCount (a .items)
+  unfolding rowCount
+  stored-row j h = let r = w .rows in omega arith
+
+  -- what row j opens into is item j
+  pub stored-item : (j : ℕ) → j < s .items → (it : LogItem) → openedRow (drop (j * 9) (a .items)) (length (a .entries) / 8) (length (a .bytes)) ≡ Item it → ItemAt s a j it
+  stored-item j h it e =
+      let same : heldItem s a w j h ≡ it = cc (sym (stored-opens j h) ∙ e) in
+      record {
+        opens = e;
+        is = λ z. rw same at (stored-at j h z);
+        lent = rw same at (kept-lent s a w j h a (kept-all s a));
+      }
+
+  pub stored-not-refused : (j : ℕ) → j < s .items → (g : ℕ) → openedRow (drop (j * 9) (a .items)) (length (a .entries) / 8) (length (a .bytes)) ≡ Refused g → ⊥
+  stored-not-refused j h g e = refused-item g (heldItem s a w j h) (sym e ∙ stored-opens j h)
+
   total-of : (n : ℕ) → n ≤ s .items → sum entriesIn (itemsFrom (a .entries) (a .bytes) n (a .items)) ≡ entriesBefore n (a .items)
   unfolding entriesBefore itemsFrom sum
   total-of zero h = refl
@@ -261,3 +281,22 @@ module _ (s : Store) (a : Area) (w : Stored s a) where
   pub stored-total : sum entriesIn (storeItems s a) ≡ s .entries
   unfolding storeItems
   stored-total = total-of (s .items) (omega arith) ∙ w .total
+
+  -- the first n items alone
+  pub stored-first : (n : ℕ) → n ≤ s .items → Stored (firstItems n a) a
+  stored-first n h =
+      let l = before-below n (s .items) (a .items) h in
+      let r = w .rows in
+      let e = w .lists in
+      let t = w .total in
+      record { rows = omega arith; lists = omega arith; places = w .places; each = λ j k. w .each j (omega arith); total = refl }
+
+-- no items
+pub stored-none : (a : Area) → length (a .items) / 9 * 64 ≤ length (a .bytes) → Stored (record { items = 0; entries = 0 }) a
+unfolding entriesBefore
+stored-none a h =
+    record { rows = omega arith; lists = omega arith; places = h; each = λ j k. absurd (omega arith); total = refl }
+
+pub none-stored : (a : Area) → storeItems (record { items = 0; entries = 0 }) a ≡ []
+unfolding storeItems itemsFrom
+none-stored a = refl

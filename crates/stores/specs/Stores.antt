@@ -10,10 +10,10 @@ use Rattle.rules.specs.Items as rules
 use Rattle.rules.specs.Context.{entriesIn}
 use Rattle.log_batch.specs.declared.item.LogItem.{LogItem}
 use Rattle.log_batch.specs.declared.open.Opened.{the-variants.Item}
-use Rattle.log_batch.specs.Lent.{openedRow, itemsFrom}
+use Rattle.log_batch.specs.Lent.{openedRow, itemOf, itemsFrom}
 use Rattle.stores.specs.declared.Store.{Store}
 use Rattle.stores.specs.declared.Pushed.{Pushed, the-variants.Done, the-variants.NoRoom}
-use Rattle.stores.specs.Written.{contentShort, placed}
+use Rattle.stores.specs.Written.{contentShort, placed, Lent}
 
 -- the three lent parts of a store
 pub record Area : Type 0 where
@@ -39,6 +39,10 @@ unfoldable pub entriesBefore : ℕ → List ℕ → ℕ
 entriesBefore zero xs = 0
 entriesBefore (suc n) xs = entriesBefore n xs + rowEntries (drop (n * 9) xs)
 
+-- the store of the first n items
+abbrev pub firstItems : ℕ → Area → Store
+firstItems n a = record { items = n; entries = entriesBefore n (a .items) }
+
 -- row j opens into an item with the places of item j
 pub record Held (j : ℕ) (items : List ℕ) : Type 0 where
   pub item : LogItem
@@ -58,6 +62,12 @@ pub record Kept (s : Store) (a b : Area) : Type 0 where
   pub rows : take (s .items * 9) (b .items) ≡ take (s .items * 9) (a .items)
   pub lists : take (s .entries * 8) (b .entries) ≡ take (s .entries * 8) (a .entries)
   pub places : take (s .items * 64) (b .bytes) ≡ take (s .items * 64) (a .bytes)
+
+-- what lies behind the fronts in use is the same
+pub record Rest (s : Store) (a b : Area) : Type 0 where
+  pub rows : drop (s .items * 9) (b .items) ≡ drop (s .items * 9) (a .items)
+  pub lists : drop (s .entries * 8) (b .entries) ≡ drop (s .entries * 8) (a .entries)
+  pub places : drop (s .items * 64) (b .bytes) ≡ drop (s .items * 64) (a .bytes)
 
 -- the parts have the lengths that they had
 pub record Sized (a b : Area) : Type 0 where
@@ -81,9 +91,17 @@ pub record Added (s : Store) (a : Area) (it : rules.LogItem) (t : Store) (b : Ar
   pub items : storeItems t b ≡ storeItems s a ++ (it ∷ [])
   pub wf : Stored t b
   pub kept : Kept s a b
+  pub rest : Rest t a b
   pub sized : Sized a b
 
 -- the answer of a push: the store with the item, or no room and all as it was
 abbrev pub Pushing : Store → Area → rules.LogItem → Pushed → Area → Type 0
 Pushing s a it (Done t) b = Added s a it t b
 Pushing s a it NoRoom b = (hasRoom (entriesIn it) s (length (a .items)) (length (a .entries)) ≡ false) × (b ≡ a)
+
+-- ---- item j, as it is read
+
+pub record ItemAt (s : Store) (a : Area) (j : ℕ) (it : LogItem) : Type 0 where
+  pub opens : openedRow (drop (j * 9) (a .items)) (length (a .entries) / 8) (length (a .bytes)) ≡ Item it
+  pub is : (z : rules.LogItem) → getD (storeItems s a) j z ≡ itemOf it (a .entries) (a .bytes)
+  pub lent : Lent it (length (a .entries)) (length (a .bytes))

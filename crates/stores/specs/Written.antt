@@ -121,3 +121,23 @@ contentShort (content.the-variants.Kv k) = (k .«key_len» ≤ 32) × valueShort
 pub record Lent (it : LogItem) (entries bytes : ℕ) : Type 0 where
   pub within : Within (it .content) entries bytes
   pub short : contentShort (it .content)
+
+-- ---- its places lie at or behind row r and place b; a value lies behind the key that moves there
+
+abbrev pub valueBehind : value.Value → ℕ → Type 0
+valueBehind value.the-variants.Absent b = Unit
+valueBehind (value.the-variants.At a n) b = b ≤ a
+
+abbrev pub bytesBehind : content.LogItemContent → ℕ → Type 0
+bytesBehind (content.the-variants.EntryIndexes x) b = Unit
+bytesBehind (content.the-variants.Command c) b = Unit
+bytesBehind (content.the-variants.Kv k) b = (b ≤ k .«key_at») × valueBehind (k .value) (b + k .«key_len»)
+
+abbrev pub rowsBehind : content.LogItemContent → ℕ → Type 0
+rowsBehind (content.the-variants.EntryIndexes x) r = r ≤ x .at
+rowsBehind (content.the-variants.Command c) r = Unit
+rowsBehind (content.the-variants.Kv k) r = Unit
+
+pub record Behind (c : content.LogItemContent) (r b : ℕ) : Type 0 where
+  pub rows : rowsBehind c r
+  pub places : bytesBehind c b

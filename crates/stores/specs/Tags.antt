@@ -1,0 +1,63 @@
+-- Items with tags, one number an item in a list of their own: an item's tag is the waiting part that it belongs to.
+use mathlib.Core.Bool.{Bool, true, false, not}
+use mathlib.Core.List.{List, [], _∷_}
+use mathlib.Core.Path.{_≡_}
+use Prim.Native.Nat.{ℕ, _*_, _/_, _<_}
+use lib.Dec.{eqb}
+use lib.ListN.{length, getD, set, drop}
+use Rattle.maps.specs.Lists.{select}
+use Rattle.rules.specs.Items as rules
+use Rattle.log_batch.specs.declared.item.LogItem.{LogItem}
+use Rattle.log_batch.specs.declared.open.Opened.{the-variants.Item}
+use Rattle.log_batch.specs.Lent.{rowCount, openedRow, itemAt}
+use Rattle.stores.specs.declared.Store.{Store}
+use Rattle.stores.specs.Written.{countOf, Behind, Lent}
+use Rattle.stores.specs.Stores.{Area, storeItems, Stored, Sized, hasRoom, Added}
+
+pub record Tagged : Type 0 where
+  pub tag : ℕ
+  pub item : rules.LogItem
+
+-- each item with its tag; there may be more tags than items
+unfoldable pub tagged : List ℕ → List rules.LogItem → List Tagged
+tagged ts [] = []
+tagged [] (x ∷ xs) = []
+tagged (t ∷ ts) (x ∷ xs) = record { tag = t; item = x } ∷ tagged ts xs
+
+-- the tagged items that a store with tags ts stands for
+unfoldable pub storeTagged : Store → Area → List ℕ → List Tagged
+storeTagged s a ts = tagged ts (storeItems s a)
+
+-- whether an item has tag t, or another
+unfoldable pub hasTag : ℕ → Tagged → Bool
+hasTag t x = eqb (x .tag) t
+
+unfoldable pub hasOther : ℕ → Tagged → Bool
+hasOther t x = not (hasTag t x)
+
+-- ---- taking out a tag
+
+-- row j opens into an item that may move down behind store s
+pub record Movable (s : Store) (j : ℕ) (a : Area) : Type 0 where
+  pub row : j < rowCount (a .items)
+  pub item : LogItem
+  pub opens : openedRow (drop (j * 9) (a .items)) (length (a .entries) / 8) (length (a .bytes)) ≡ Item item
+  pub lent : Lent item (length (a .entries)) (length (a .bytes))
+  pub room : hasRoom (countOf (item .content)) s (length (a .items)) (length (a .entries)) ≡ true
+  pub behind : Behind (item .content) (s .entries) (s .items * 64)
+
+-- the item that row j stands for is added
+abbrev pub Moved : Store → Area → ℕ → Store → Area → Type 0
+Moved s a j t b = Added s a (itemAt (a .entries) (a .bytes) (drop (j * 9) (a .items))) t b
+
+-- where item j has the tag, all is as it was; otherwise it is added with its tag
+abbrev pub Keeping : Bool → Store → Area → List ℕ → ℕ → Store → Area → List ℕ → Type 0
+Keeping true s a ts j t b us = (t ≡ s) × (b ≡ a) × (us ≡ ts)
+Keeping false s a ts j t b us = Moved s a j t b × (us ≡ set ts (s .items) (getD ts j 0))
+
+-- the items of other tags are left, in order
+pub record TakenOut (s : Store) (a : Area) (ts : List ℕ) (tag : ℕ) (t : Store) (b : Area) (us : List ℕ) : Type 0 where
+  pub items : storeTagged t b us ≡ select (hasOther tag) (storeTagged s a ts)
+  pub wf : Stored t b
+  pub sized : Sized a b
+  pub tags : length us ≡ length ts
