@@ -2,3 +2,4 @@
 pub mod WrittenLaws
 pub mod AddLaws
 pub mod TakingLaws
+pub mod CopyLaws

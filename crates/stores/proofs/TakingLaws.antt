@@ -209,11 +209,13 @@ module _ (o : Area) (os : List ℕ) (tag n : ℕ) where
   unfolding storeTagged storeItems
   whole-is s e = rw e
 
-  pub taking-end : (s : Store) (j : ℕ) (left : Store) (a : Area) (ts : List ℕ) → s .items ≡ n → n ≤ j → Taking j left a ts → TakenOut s o os tag left a ts
-  taking-end s j left a ts e h t =
+  pub taking-end : (s : Store) (j : ℕ) (left : Store) (a : Area) (ts : List ℕ) → s .items ≡ n → n ≤ j → j ≤ n → Taking j left a ts → TakenOut s o os tag left a ts
+  taking-end s j left a ts e h g t =
+      let f = t .fewer in
       record {
         items = t .items ∙ ap (select (hasOther tag)) (all-taken j h (t .began) (t .tags) ∙ whole-is s e);
         wf = t .wf;
+        fewer = omega arith;
         sized = t .sized;
         tags = t .tags-sized;
       }

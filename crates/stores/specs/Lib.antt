@@ -5,3 +5,4 @@ pub mod Tags
 pub mod StoreLaws
 pub mod CheckedLaws
 pub mod TagLaws
+pub mod CountLaws

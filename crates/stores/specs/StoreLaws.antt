@@ -265,17 +265,19 @@ module _ (s : Store) (a : Area) (w : Stored s a) where
   pub stored-not-refused : (j : ℕ) → j < s .items → (g : ℕ) → openedRow (drop (j * 9) (a .items)) (length (a .entries) / 8) (length (a .bytes)) ≡ Refused g → ⊥
   stored-not-refused j h g e = refused-item g (heldItem s a w j h) (sym e ∙ stored-opens j h)
 
+  -- row j says how many entries item j has
+  pub stored-entries : (j : ℕ) → j < s .items → entriesIn (itemAt (a .entries) (a .bytes) (drop (j * 9) (a .items))) ≡ rowEntries (drop (j * 9) (a .items))
+  stored-entries j h =
+      let e = opened-entries (drop (j * 9) (a .items)) (heldItem s a w j h) _ _ ((w .each j h) .opens) in
+      rw (kept-item s a w j h a (kept-all s a), e) (entries-count (heldItem s a w j h) (a .entries) (a .bytes))
+
   total-of : (n : ℕ) → n ≤ s .items → sum entriesIn (itemsFrom (a .entries) (a .bytes) n (a .items)) ≡ entriesBefore n (a .items)
   unfolding entriesBefore itemsFrom sum
   total-of zero h = refl
   total-of (suc n) h =
-      let j : n < s .items = omega arith in
-      let e = opened-entries (drop (n * 9) (a .items)) (heldItem s a w n j) _ _ ((w .each n j) .opens) in
-      let c = entries-count (heldItem s a w n j) (a .entries) (a .bytes) in
-      let i = kept-item s a w n j a (kept-all s a) in
       ap (sum entriesIn) (items-snoc (a .entries) (a .bytes) n (a .items))
       ∙ sum-append entriesIn (itemsFrom (a .entries) (a .bytes) n (a .items)) _
-      ∙ rw (total-of n (omega arith), i, add-zero, c, ← e)
+      ∙ rw (total-of n (omega arith), add-zero, stored-entries n (omega arith))
 
   -- its number of entries is the sum of the items' own
   pub stored-total : sum entriesIn (storeItems s a) ≡ s .entries

@@ -105,3 +105,25 @@ pub record ItemAt (s : Store) (a : Area) (j : ℕ) (it : LogItem) : Type 0 where
   pub opens : openedRow (drop (j * 9) (a .items)) (length (a .entries) / 8) (length (a .bytes)) ≡ Item it
   pub is : (z : rules.LogItem) → getD (storeItems s a) j z ≡ itemOf it (a .entries) (a .bytes)
   pub lent : Lent it (length (a .entries)) (length (a .bytes))
+
+-- ---- a copy
+
+-- list d with the first n elements of another: what lies behind them is as it was
+pub record FrontCopied (n : ℕ) (from d e : List ℕ) : Type 0 where
+  pub front : take n e ≡ take n from
+  pub back : drop n e ≡ drop n d
+  pub sized : length e ≡ length d
+
+-- parts that the store fits into
+pub record Fitting (s : Store) (d : Area) : Type 0 where
+  pub rows : s .items * 9 ≤ length (d .items)
+  pub lists : s .entries * 8 ≤ length (d .entries)
+  pub places : length (d .items) / 9 * 64 ≤ length (d .bytes)
+
+-- store s of parts a, copied to the front of parts d, which are then b
+pub record Copied (s : Store) (a d b : Area) : Type 0 where
+  pub items : storeItems s b ≡ storeItems s a
+  pub wf : Stored s b
+  pub kept : Kept s a b
+  pub rest : Rest s d b
+  pub sized : Sized d b

@@ -1,15 +1,19 @@
 -- The laws of tagged items. Assumes nothing.
-use mathlib.Core.Bool.{Bool, true, false}
-use mathlib.Core.Path.{_≡_, refl, ap, _∙_}
-use mathlib.Core.List.{List, [], _∷_, _++_, map, append-nil}
+use mathlib.Core.Bool.{Bool, true, false, not, _&&_}
+use mathlib.Core.Path.{_≡_, refl, sym, ap, _∙_}
+use mathlib.Core.List.{List, [], _∷_, _++_, map, append-nil, map-append}
 use Prim.Native.Nat.{ℕ, zero, suc, _≤_, _<_}
 use native.Mathlib.Omega.{arith}
+use borrow.Author.Tests.{eq-eqb, ne-eqb, eqb-true}
+use lib.Dec.{eqb}
 use lib.ListN.{length, getD, set, length-set}
 use lib.Seq.{getD-set-same}
 use Rattle.maps.specs.Lists.{select}
-use Rattle.maps.specs.ListLaws.{select-append}
+use Rattle.maps.specs.ListLaws.{select-append, select-select, select-same, select-none, every-all}
+use Rattle.maps.specs.BoolLaws.{and-false}
+use Rattle.maps.specs.OrderLaws.{split}
 use Rattle.rules.specs.Items as rules
-use Rattle.stores.specs.Tags.{Tagged, tagged}
+use Rattle.stores.specs.Tags.{Tagged, tagged, hasTag, hasOther, itemsWith}
 
 pub length-tagged : (ts : List ℕ) (xs : List rules.LogItem) → length xs ≤ length ts → length (tagged ts xs) ≡ length xs
 unfolding tagged
@@ -63,3 +67,38 @@ module _ {A : Type 0} (p : A → Bool) (xs : List A) (x : A) where
   pub select-out : p x ≡ false → select p (xs ++ (x ∷ [])) ≡ select p xs
   unfolding select
   select-out e = select-append p xs (x ∷ []) ∙ rw (e, append-nil)
+
+-- ---- the items of one tag
+
+tag-in : (t : ℕ) (x : Tagged) → x .tag ≡ t → hasTag t x ≡ true
+unfolding hasTag
+tag-in t x e = eq-eqb (x .tag) t e
+
+tag-out : (t : ℕ) (x : Tagged) → (x .tag ≡ t → ⊥) → hasTag t x ≡ false
+unfolding hasTag
+tag-out t x e = ne-eqb (x .tag) t e
+
+-- with one more item of the tag, and of another
+pub with-same : (t : ℕ) (xs : List Tagged) (x : rules.LogItem) → itemsWith t (xs ++ (record { tag = t; item = x } ∷ [])) ≡ itemsWith t xs ++ (x ∷ [])
+unfolding itemsWith
+with-same t xs x = rw (select-in (hasTag t) xs (record { tag = t; item = x }) (tag-in t (record { tag = t; item = x }) refl)) (map-append (λ (y : Tagged). y .item) (select (hasTag t) xs) (record { tag = t; item = x } ∷ []))
+
+pub with-other : (t u : ℕ) (xs : List Tagged) (x : rules.LogItem) → (u ≡ t → ⊥) → itemsWith t (xs ++ (record { tag = u; item = x } ∷ [])) ≡ itemsWith t xs
+unfolding itemsWith
+with-other t u xs x h = rw (select-out (hasTag t) xs (record { tag = u; item = x }) (tag-out t (record { tag = u; item = x }) h))
+
+-- with the items of a tag taken out: none of that tag, and of another all
+pub with-taken : (t : ℕ) (xs : List Tagged) → itemsWith t (select (hasOther t) xs) ≡ []
+unfolding itemsWith hasOther
+with-taken t xs =
+    rw (select-select (hasTag t) (hasOther t) xs)
+    (ap (map (λ (y : Tagged). y .item)) (select-none (λ y. not (hasTag t y) && hasTag t y) xs (every-all _ xs (λ y. split (hasTag t y) (λ e. rw e) (λ e. rw e)))))
+
+pub with-left : (t u : ℕ) (xs : List Tagged) → (u ≡ t → ⊥) → itemsWith u (select (hasOther t) xs) ≡ itemsWith u xs
+unfolding itemsWith hasOther hasTag
+with-left t u xs h =
+    rw (select-select (hasTag u) (hasOther t) xs)
+    (ap (map (λ (y : Tagged). y .item))
+    (select-same (λ y. not (eqb (y .tag) t) && eqb (y .tag) u) (λ y. eqb (y .tag) u) xs (λ y. split (eqb (y .tag) u)
+    (λ e. let q = eqb-true (y .tag) u e in rw (e, ne-eqb (y .tag) t (λ z. h (sym q ∙ z))))
+    (λ e. rw (e, and-false)))))

@@ -1,18 +1,19 @@
 -- Items with tags, one number an item in a list of their own: an item's tag is the waiting part that it belongs to.
-use mathlib.Core.Bool.{Bool, true, false, not}
-use mathlib.Core.List.{List, [], _∷_}
+use mathlib.Core.Bool.{Bool, true, false, cond, not}
+use mathlib.Core.List.{List, [], _∷_, map}
 use mathlib.Core.Path.{_≡_}
-use Prim.Native.Nat.{ℕ, _*_, _/_, _<_}
+use Prim.Native.Nat.{ℕ, zero, suc, _*_, _/_, _<_, _≤_}
 use lib.Dec.{eqb}
 use lib.ListN.{length, getD, set, drop}
-use Rattle.maps.specs.Lists.{select}
+use Rattle.maps.specs.Lists.{select, sum}
 use Rattle.rules.specs.Items as rules
+use Rattle.rules.specs.Context.{entriesIn}
 use Rattle.log_batch.specs.declared.item.LogItem.{LogItem}
 use Rattle.log_batch.specs.declared.open.Opened.{the-variants.Item}
 use Rattle.log_batch.specs.Lent.{rowCount, openedRow, itemAt}
 use Rattle.stores.specs.declared.Store.{Store}
 use Rattle.stores.specs.Written.{countOf, Behind, Lent}
-use Rattle.stores.specs.Stores.{Area, storeItems, Stored, Sized, hasRoom, Added}
+use Rattle.stores.specs.Stores.{Area, storeItems, rowEntries, Stored, Sized, hasRoom, oneMore, Added}
 
 pub record Tagged : Type 0 where
   pub tag : ℕ
@@ -59,5 +60,24 @@ Keeping false s a ts j t b us = Moved s a j t b × (us ≡ set ts (s .items) (ge
 pub record TakenOut (s : Store) (a : Area) (ts : List ℕ) (tag : ℕ) (t : Store) (b : Area) (us : List ℕ) : Type 0 where
   pub items : storeTagged t b us ≡ select (hasOther tag) (storeTagged s a ts)
   pub wf : Stored t b
+  pub fewer : t .items ≤ s .items
   pub sized : Sized a b
   pub tags : length us ≡ length ts
+
+-- ---- counting a tag
+
+-- the counts so far, with row j if it has the tag
+unfoldable pub countOne : ℕ → ℕ → List ℕ → List ℕ → Store → Store
+countOne tag j items ts c = cond (eqb (getD ts j 0) tag) (oneMore (rowEntries (drop (j * 9) items)) c) c
+
+unfoldable pub countTag : ℕ → ℕ → List ℕ → List ℕ → Store
+countTag tag zero items ts = record { items = 0; entries = 0 }
+countTag tag (suc n) items ts = countOne tag n items ts (countTag tag n items ts)
+
+-- the counts of a list of items
+unfoldable pub countsOf : List Tagged → Store
+countsOf xs = record { items = length xs; entries = sum (λ (x : Tagged). entriesIn (x .item)) xs }
+
+-- the items of one tag, in order
+unfoldable pub itemsWith : ℕ → List Tagged → List rules.LogItem
+itemsWith t xs = map (λ (x : Tagged). x .item) (select (hasTag t) xs)

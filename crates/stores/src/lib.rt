@@ -1,5 +1,7 @@
 // Items kept in the layout of a lent batch, with their entries and bytes: tombstones and waiting parts.
 pub mod add;
+pub mod copy;
+pub mod count;
 pub mod parts;
 pub mod read;
 pub mod row;

@@ -34,8 +34,7 @@ copy-in-u64-requires c κs =
     let parts = area (start .args .items .now) (start .args .entries .now) (start .args .bytes .now) in
     let room = room-is _ _ _ _ (start .pre .1 .1) in
     let l = row-fits (start .args .store) parts (start .pre .0) (countOf (start .args .item .content)) room in
-    let k = length-row (start .args .item) (start .args .store .entries) (start .args .store .items * 64) in
-    rw (row-for .ensures, k) l
+    rw (row-for .ensures, length-row) l
 
 copy-rows-requires : tie.Need-copy-rows-requires
 copy-rows-requires c κs =

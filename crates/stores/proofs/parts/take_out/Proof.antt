@@ -76,7 +76,7 @@ returns c =
     let loop = c .before .loop in
     let loop-test = c .loop-test in
     let began = area (start .args .items .now) (start .args .entries .now) (start .args .bytes .now) in
-    taking-end began (start .args .tags .now) (start .args .tag) (start .args .store .items) (start .args .store) (loop .j) (loop .left) (area (loop .items) (loop .entries) (loop .bytes)) (loop .tags) refl (loop-test .left) (loop .inv .1)
+    taking-end began (start .args .tags .now) (start .args .tag) (start .args .store .items) (start .args .store) (loop .j) (loop .left) (area (loop .items) (loop .entries) (loop .bytes)) (loop .tags) refl (loop-test .left) (loop .inv .0) (loop .inv .1)
 
 pub take-out-spec : {M : Type 1} → statement M
 take-out-spec =
