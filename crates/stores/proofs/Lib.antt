@@ -3,3 +3,4 @@ pub mod WrittenLaws
 pub mod AddLaws
 pub mod TakingLaws
 pub mod CopyLaws
+pub mod AppendLaws

@@ -1,23 +1,26 @@
 -- The counts of tagged items. Assumes nothing.
+use mathlib.Core.Bool.{Bool, true, cond}
 use mathlib.Core.Path.{_≡_, refl, sym, ap, _∙_}
 use mathlib.Core.List.{List, [], _∷_, _++_}
 use Prim.Native.Nat.{ℕ, zero, suc, _+_, _*_, _≤_, _<_}
 use native.Mathlib.Nat.{add-zero}
 use native.Mathlib.Omega.{arith}
 use lib.Dec.{eqb}
-use lib.ListN.{length, getD, drop, length-append}
-use Rattle.maps.specs.Lists.{select, sum}
-use Rattle.maps.specs.ListLaws.{length-select-not, sum-append, sum-select-not}
+use borrow.Author.Tests.{eqb-true}
+use lib.ListN.{length, getD, set, drop, length-append}
+use Rattle.maps.specs.Lists.{select, every, sum}
+use Rattle.maps.specs.ListLaws.{every-head, every-tail, length-select-not, sum-append, sum-same, sum-add, sum-select-not}
 use Rattle.maps.specs.OrderLaws.{split}
 use Rattle.rules.specs.Items as rules
 use Rattle.rules.specs.Context.{entriesIn}
-use Rattle.log_batch.specs.Lent.{itemAt, itemsFrom}
+use Rattle.log_batch.specs.declared.item.LogItem.{LogItem}
+use Rattle.log_batch.specs.Lent.{itemOf, itemAt, itemsFrom}
 use Rattle.log_batch.specs.OpenLaws.{items-snoc, length-items}
 use Rattle.stores.specs.declared.Store.{Store}
-use Rattle.stores.specs.Stores.{Area, storeItems, entriesBefore, Stored, oneMore}
-use Rattle.stores.specs.Tags.{Tagged, tagged, storeTagged, hasTag, hasOther, TakenOut, countOne, countTag, countsOf}
+use Rattle.stores.specs.Stores.{Area, storeItems, entriesBefore, Stored, oneMore, Added, ItemAt}
+use Rattle.stores.specs.Tags.{Tagged, tagged, storeTagged, hasTag, hasOther, TakenOut, countOne, countTag, countsOf, itemsWith}
 use Rattle.stores.specs.StoreLaws.{before-more, length-stored, stored-total, stored-entries}
-use Rattle.stores.specs.TagLaws.{length-tagged, tagged-snoc, select-in, select-out}
+use Rattle.stores.specs.TagLaws.{length-tagged, tagged-at, tagged-snoc, tagged-push, select-in, select-out}
 
 counts-same : (c d : Store) → c .items ≡ d .items → c .entries ≡ d .entries → c ≡ d
 counts-same c d p q i = record { items = p i; entries = q i }
@@ -105,3 +108,61 @@ pub count-below : (tag n : ℕ) (items ts : List ℕ) → (countTag tag n items 
 unfolding countTag
 count-below tag zero items ts = (omega arith, omega arith)
 count-below tag (suc n) items ts = let ih = count-below tag n items ts in one-below tag n items ts _ (ih .0) (ih .1)
+
+-- ---- sums by tags
+
+-- k for each place that meets a test, where none does and where one does
+module _ (p : ℕ → Bool) (k : ℕ) where
+  sum-none : (us : List ℕ) → sum (λ u. cond (p u) 1 0) us ≡ 0 → sum (λ u. cond (p u) k 0) us ≡ 0
+  unfolding sum
+  sum-none [] h = refl
+  sum-none (u ∷ us) h =
+      split (p u)
+      (λ e. let q : 1 + sum (λ u. cond (p u) 1 0) us ≡ 0 = rw e at h in absurd (omega arith))
+      (λ e. let q : 0 + sum (λ u. cond (p u) 1 0) us ≡ 0 = rw e at h in let ih = sum-none us (omega arith) in rw e (omega arith))
+
+  sum-once : (us : List ℕ) → sum (λ u. cond (p u) 1 0) us ≡ 1 → sum (λ u. cond (p u) k 0) us ≡ k
+  unfolding sum
+  sum-once [] h = absurd (omega arith)
+  sum-once (u ∷ us) h =
+      split (p u)
+      (λ e. let q : 1 + sum (λ u. cond (p u) 1 0) us ≡ 1 = rw e at h in let z = sum-none us (omega arith) in rw e (omega arith))
+      (λ e. let q : 0 + sum (λ u. cond (p u) 1 0) us ≡ 1 = rw e at h in let ih = sum-once us (omega arith) in rw e (omega arith))
+
+sum-zero : (us : List ℕ) → sum (λ u. 0) us ≡ 0
+unfolding sum
+sum-zero [] = refl
+sum-zero (u ∷ us) = let ih = sum-zero us in omega arith
+
+module _ (f : rules.LogItem → ℕ) where
+  with-more : (x : Tagged) (xs : List Tagged) (u : ℕ) → sum f (itemsWith u (x ∷ xs)) ≡ cond (eqb (x .tag) u) (f (x .item)) 0 + sum f (itemsWith u xs)
+  unfolding itemsWith select hasTag sum
+  with-more x xs u = split (eqb (x .tag) u) (λ e. rw e) (λ e. rw e (omega arith))
+
+  with-none : (u : ℕ) → sum f (itemsWith u []) ≡ 0
+  unfolding itemsWith select sum
+  with-none u = refl
+
+  -- where each item's tag is among the tags us, and there once, the sums over each tag's items make the sum over all
+  pub sum-by-tags : (us : List ℕ) (xs : List Tagged) → every (λ (x : Tagged). eqb (sum (λ u. cond (eqb (x .tag) u) 1 0) us) 1) xs ≡ true → sum (λ u. sum f (itemsWith u xs)) us ≡ sum (λ (x : Tagged). f (x .item)) xs
+  unfolding sum
+  sum-by-tags us [] h = sum-same _ (λ u. 0) us with-none ∙ sum-zero us
+  sum-by-tags us (x ∷ xs) h =
+      let one : sum (λ u. cond (eqb (x .tag) u) 1 0) us ≡ 1 = eqb-true _ 1 (every-head _ x xs h) in
+      sum-same _ (λ u. cond (eqb (x .tag) u) (f (x .item)) 0 + sum f (itemsWith u xs)) us (with-more x xs)
+      ∙ sum-add (λ u. cond (eqb (x .tag) u) (f (x .item)) 0) (λ u. sum f (itemsWith u xs)) us
+      ∙ rw (sum-once (λ u. eqb (x .tag) u) (f (x .item)) us one, sum-by-tags us xs (every-tail _ x xs h))
+
+-- ---- a pushed item with its tag
+
+pub pushed-tagged : (s : Store) (a : Area) (it : rules.LogItem) (t : Store) (b : Area) (ts : List ℕ) (u : ℕ) → Stored s a → s .items < length ts → Added s a it t b → storeTagged t b (set ts (s .items) u) ≡ storeTagged s a ts ++ (record { tag = u; item = it } ∷ [])
+unfolding storeTagged
+pushed-tagged s a it t b ts u w h d = rw (d .items) (tagged-push ts (storeItems s a) (s .items) it u (length-stored s a w) h)
+
+-- item j with its tag, as it is read
+pub read-tagged : (s : Store) (a : Area) (ts : List ℕ) (j : ℕ) (it : LogItem) (z : Tagged) → Stored s a → j < s .items → s .items ≤ length ts → ItemAt s a j it → getD (storeTagged s a ts) j z ≡ record { tag = getD ts j 0; item = itemOf it (a .entries) (a .bytes) }
+unfolding storeTagged
+read-tagged s a ts j it z w h l r =
+    let n = length-stored s a w in
+    let e = tagged-at ts (storeItems s a) j z (z .item) (omega arith) (omega arith) in
+    rw (r .is (z .item)) at e

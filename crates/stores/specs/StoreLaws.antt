@@ -1,13 +1,15 @@
 -- The laws of a store: its items open within the fronts in use, so they stay where the fronts stay. Assumes nothing.
-use mathlib.Core.Bool.{Bool, true, false, cond}
+use mathlib.Core.Bool.{Bool, true, false, cond, _&&_}
 use mathlib.Core.Path.{_≡_, refl, sym, ap, _∙_}
-use mathlib.Core.List.{List, []}
+use mathlib.Core.List.{List, [], _∷_, _++_, append-assoc, append-nil}
 use Prim.Native.Nat.{ℕ, zero, suc, _+_, _*_, _/_, _≤_, _<_}
 use native.Mathlib.Decide.{decLe}
 use native.Mathlib.Omega.{arith}
 use native.Mathlib.Nat.{add-zero}
-use lib.Dec.{eqb, ltb}
-use lib.ListN.{length, getD, take, drop}
+use native.Mathlib.Numerals.{add-one}
+use lib.Dec.{eqb, ltb, leb}
+use borrow.Author.Tests.{lt-ltb, le-ltb, le-leb, lt-leb}
+use lib.ListN.{length, getD, take, drop, length-append}
 use lib.Seq.{getD-take}
 use Rattle.cells.specs.Part.{part}
 use Rattle.cells.specs.PartLaws.{part-of-front, shorter-front, shorter-back, front-length}
@@ -24,8 +26,15 @@ use Rattle.log_batch.specs.declared.open.Opened.{Opened, the-variants.Item, the
 use Rattle.log_batch.specs.Lent.{rowCount, itemIf, openedEntries, openedPut, openedDel, openedRow, contentOf, keyContent, itemOf, itemAt, itemsFrom, Within}
 use Rattle.stores.specs.declared.Store.{Store}
 use Rattle.stores.specs.Written.{placed, placedValue, placedKey, placedContent, countOf, valueShort, contentShort, Lent}
-use Rattle.stores.specs.Stores.{Area, storeItems, rowEntries, entriesBefore, firstItems, Held, Stored, Kept, Rest, Sized, ItemAt}
+use Rattle.stores.specs.Stores.{Area, storeItems, rowEntries, entriesBefore, firstItems, Held, Stored, Kept, Rest, Sized, hasRoom, Added, AddedAll, ItemAt}
 use Rattle.log_batch.specs.OpenLaws.{opened-within, refused-item, open-longer, rows-open-same, item-front, item-opened, length-entries, items-snoc, length-items, items-at, items-same}
+
+below-is : (n m : ℕ) → ltb n m ≡ leb (n + 1) m
+below-is n m =
+    elim (decLe (n + 1) m) [
+      | yes l ↦ lt-ltb n m (omega arith) ∙ sym (le-leb (n + 1) m l)
+      | no l ↦ le-ltb n m (omega arith) ∙ sym (lt-leb (n + 1) m (omega arith))
+    ]
 
 -- ---- fronts
 
@@ -293,6 +302,18 @@ module _ (s : Store) (a : Area) (w : Stored s a) where
       let t = w .total in
       record { rows = omega arith; lists = omega arith; places = w .places; each = λ j k. w .each j (omega arith); total = refl }
 
+-- an item has room where the list with it passes neither limit: the rows of items, and the rows of entries
+pub room-limits : (s : Store) (a : Area) → Stored s a → (it : rules.LogItem) → hasRoom (entriesIn it) s (length (a .items)) (length (a .entries)) ≡ (leb (length (storeItems s a ++ (it ∷ []))) (length (a .items) / 9) && leb (sum entriesIn (storeItems s a ++ (it ∷ []))) (length (a .entries) / 8))
+unfolding hasRoom sum
+room-limits s a w it =
+    let n = length-append (storeItems s a) (it ∷ []) in
+    let e = sum-append entriesIn (storeItems s a) (it ∷ []) in
+    let m = length-stored s a w in
+    let t = stored-total s a w in
+    let k : length (storeItems s a ++ (it ∷ [])) ≡ s .items + 1 = omega arith in
+    let l : sum entriesIn (storeItems s a ++ (it ∷ [])) ≡ s .entries + entriesIn it = rw (e, t, add-zero) in
+    rw (k, l) (ap (λ (b : Bool). b && leb (s .entries + entriesIn it) (length (a .entries) / 8)) (below-is (s .items) (length (a .items) / 9)))
+
 -- no items
 pub stored-none : (a : Area) → length (a .items) / 9 * 64 ≤ length (a .bytes) → Stored (record { items = 0; entries = 0 }) a
 unfolding entriesBefore
@@ -302,3 +323,55 @@ stored-none a h =
 pub none-stored : (a : Area) → storeItems (record { items = 0; entries = 0 }) a ≡ []
 unfolding storeItems itemsFrom
 none-stored a = refl
+
+-- ---- a run of pushes
+
+pub added-none : (s : Store) (a : Area) → Stored s a → AddedAll s a [] s a
+unfolding sum
+added-none s a w =
+    record {
+      count = rw add-zero;
+      total = rw add-zero;
+      items = sym (append-nil (storeItems s a));
+      wf = w;
+      kept = kept-all s a;
+      rest = record { rows = refl; lists = refl; places = refl };
+      sized = record { rows = refl; lists = refl; places = refl };
+    }
+
+module _ (s : Store) (a : Area) (xs : List rules.LogItem) (t : Store) (b : Area) (m : AddedAll s a xs t b) where
+  pub added-more : (it : rules.LogItem) (u : Store) (c : Area) → Added t b it u c → AddedAll s a (xs ++ (it ∷ [])) u c
+  unfolding sum
+  added-more it u c d =
+      let n = m .count in
+      let e = m .total in
+      let items : u .items ≡ t .items + 1 = ap (λ (x : Store). x .items) (d .counts) in
+      let entries : u .entries ≡ t .entries + entriesIn it = ap (λ (x : Store). x .entries) (d .counts) in
+      let l = length-append xs (it ∷ []) in
+      let k = sum-append entriesIn xs (it ∷ []) in
+      record {
+        count = omega arith;
+        total = omega arith;
+        items = d .items ∙ rw (m .items) (append-assoc (storeItems s a) xs (it ∷ []));
+        wf = d .wf;
+        kept = kept-then s t a b c (omega arith) (omega arith) (m .kept) (d .kept);
+        rest = rest-then t u a b c (omega arith) (omega arith) (m .rest) (d .rest);
+        sized = sized-then a b c (m .sized) (d .sized);
+      }
+
+  -- it is undone by the counts of before
+  pub added-back : Stored s a → Stored s b × (storeItems s b ≡ storeItems s a)
+  added-back w = (kept-back s a b w (m .kept) (m .sized), kept-items s a b w (m .kept))
+
+-- the first items of a store, one by one
+pub first-none : (a : Area) → storeItems (firstItems 0 a) a ≡ []
+unfolding storeItems itemsFrom
+first-none a = refl
+
+pub first-more : (a : Area) (n : ℕ) → storeItems (firstItems (n + 1) a) a ≡ storeItems (firstItems n a) a ++ (itemAt (a .entries) (a .bytes) (drop (n * 9) (a .items)) ∷ [])
+unfolding storeItems
+first-more a n = rw (add-one n) (items-snoc (a .entries) (a .bytes) n (a .items))
+
+pub first-all : (s : Store) (a : Area) (n : ℕ) → n ≡ s .items → storeItems (firstItems n a) a ≡ storeItems s a
+unfolding storeItems
+first-all s a n e = rw e

@@ -6,6 +6,7 @@ use mathlib.Core.Path.{_≡_}
 use Prim.Native.Nat.{ℕ, zero, suc, _+_, _*_, _/_, _≤_, _<_}
 use lib.Dec.{eqb, leb, ltb}
 use lib.ListN.{length, getD, take, drop}
+use Rattle.maps.specs.Lists.{sum}
 use Rattle.rules.specs.Items as rules
 use Rattle.rules.specs.Context.{entriesIn}
 use Rattle.log_batch.specs.declared.item.LogItem.{LogItem}
@@ -89,6 +90,16 @@ oneMore k s = record { items = s .items + 1; entries = s .entries + k }
 pub record Added (s : Store) (a : Area) (it : rules.LogItem) (t : Store) (b : Area) : Type 0 where
   pub counts : t ≡ oneMore (entriesIn it) s
   pub items : storeItems t b ≡ storeItems s a ++ (it ∷ [])
+  pub wf : Stored t b
+  pub kept : Kept s a b
+  pub rest : Rest t a b
+  pub sized : Sized a b
+
+-- items xs are added, one after the other
+pub record AddedAll (s : Store) (a : Area) (xs : List rules.LogItem) (t : Store) (b : Area) : Type 0 where
+  pub count : t .items ≡ s .items + length xs
+  pub total : t .entries ≡ s .entries + sum entriesIn xs
+  pub items : storeItems t b ≡ storeItems s a ++ xs
   pub wf : Stored t b
   pub kept : Kept s a b
   pub rest : Rest t a b

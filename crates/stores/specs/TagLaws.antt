@@ -6,8 +6,8 @@ use Prim.Native.Nat.{ℕ, zero, suc, _≤_, _<_}
 use native.Mathlib.Omega.{arith}
 use borrow.Author.Tests.{eq-eqb, ne-eqb, eqb-true}
 use lib.Dec.{eqb}
-use lib.ListN.{length, getD, set, length-set}
-use lib.Seq.{getD-set-same}
+use lib.ListN.{length, getD, set, drop, length-set, drop-of-length-le}
+use lib.Seq.{getD-set-same, drop-cons}
 use Rattle.maps.specs.Lists.{select}
 use Rattle.maps.specs.ListLaws.{select-append, select-select, select-same, select-none, every-all}
 use Rattle.maps.specs.BoolLaws.{and-false}
@@ -102,3 +102,17 @@ with-left t u xs h =
     (select-same (λ y. not (eqb (y .tag) t) && eqb (y .tag) u) (λ y. eqb (y .tag) u) xs (λ y. split (eqb (y .tag) u)
     (λ e. let q = eqb-true (y .tag) u e in rw (e, ne-eqb (y .tag) t (λ z. h (sym q ∙ z))))
     (λ e. rw (e, and-false)))))
+
+-- those from item j on: here is one, here is none, here is the end
+module _ (t : ℕ) (xs : List Tagged) (j : ℕ) (z : Tagged) where
+  pub with-here : j < length xs → getD xs j z .tag ≡ t → itemsWith t (drop j xs) ≡ getD xs j z .item ∷ itemsWith t (drop (suc j) xs)
+  unfolding itemsWith select
+  with-here h e = rw (drop-cons xs j z h, tag-in t (getD xs j z) e)
+
+  pub with-past : j < length xs → (getD xs j z .tag ≡ t → ⊥) → itemsWith t (drop j xs) ≡ itemsWith t (drop (suc j) xs)
+  unfolding itemsWith select
+  with-past h e = rw (drop-cons xs j z h, tag-out t (getD xs j z) e)
+
+  pub with-end : length xs ≤ j → itemsWith t (drop j xs) ≡ []
+  unfolding itemsWith select
+  with-end h = rw (drop-of-length-le xs h)

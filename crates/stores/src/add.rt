@@ -9,7 +9,8 @@ ghost use Rattle.stores.specs.Written.{keyBytes, bytesOf, rowsOf, countO
 ghost use Rattle.stores.specs.Stores.{area, Stored, hasRoom, Added, Pushing};
 use crate::Pushed;
 use crate::Store;
-use crate::row::row_for;
+use crate::row::ITEM_BYTES;
+use crate::row::write_row;
 use log_batch::item::KeyValue;
 use log_batch::item::LogItem;
 use log_batch::item::LogItemContent;
@@ -18,9 +19,6 @@ use log_batch::item::bytes_of;
 use log_batch::item::entries_of;
 use log_batch::open::ENTRY_WIDTH;
 use log_batch::open::ITEM_WIDTH;
-
-// The bytes that each item has of its own: a key and a value.
-pub const ITEM_BYTES: usize = 64;
 
 // Copies a key, and its value behind it, to place `at`.
 fn copy_key(bytes: &mut [u8], at: usize, kv: KeyValue, its_bytes: &[u8])
@@ -120,12 +118,10 @@ pub fn add(
 {
     let n = store.items;
     let row = store.entries;
-    let at = n * ITEM_BYTES;
     let content = item.content;
-    let numbers = row_for(item, row, at);
-    cells::copy_in_u64(items, n * ITEM_WIDTH, &numbers);
+    write_row(items, n, item, row);
     let end = copy_rows(entries, row, content, its_entries);
-    copy_bytes(bytes, at, content, its_bytes);
+    copy_bytes(bytes, n * ITEM_BYTES, content, its_bytes);
     Store {
         items: n + 1,
         entries: end,

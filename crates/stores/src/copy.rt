@@ -3,7 +3,7 @@ ghost use Prim.Native.Nat.{_≤_};
 ghost use lib.ListN.{length};
 ghost use Rattle.stores.specs.Stores.{area, Stored, FrontCopied, Fitting, Copied};
 use crate::Store;
-use crate::add::ITEM_BYTES;
+use crate::row::ITEM_BYTES;
 use log_batch::open::ENTRY_WIDTH;
 use log_batch::open::ITEM_WIDTH;
 

@@ -1,5 +1,6 @@
 // Items kept in the layout of a lent batch, with their entries and bytes: tombstones and waiting parts.
 pub mod add;
+pub mod append;
 pub mod copy;
 pub mod count;
 pub mod parts;

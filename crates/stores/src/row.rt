@@ -1,6 +1,8 @@
 // The row of numbers of an item, with the places that the item has in a store.
 ghost use mathlib.Core.Path.{_≡_};
-ghost use Prim.Native.Nat.{_+_, _≤_, _<_, _^_};
+ghost use Prim.Native.Nat.{_+_, _*_, _≤_, _<_, _^_};
+ghost use lib.ListN.{length};
+ghost use Rattle.cells.specs.Part.{put};
 ghost use Rattle.stores.specs.Written.{fileNumber, fileSeq, valueTold, valueLength, keyLength, commandRow, putRow, keyRow, rowFor};
 use log_batch::item::Command;
 use log_batch::item::KeyFile;
@@ -9,6 +11,10 @@ use log_batch::item::LogItem;
 use log_batch::item::LogItemContent;
 use log_batch::item::OpType;
 use log_batch::item::Value;
+use log_batch::open::ITEM_WIDTH;
+
+// The bytes that each item has of its own: a key and a value.
+pub const ITEM_BYTES: usize = 64;
 
 // The number that tells a key's file, and the file's own.
 fn file_number(file_id: KeyFile) -> u64
@@ -98,7 +104,7 @@ fn key_row(raft_group_id: u64, kv: KeyValue, at: usize) -> [u64; 9]
 }
 
 // The row of an item whose rows of entries stand from row `row`, and its bytes from place `at`.
-pub fn row_for(item: LogItem, row: usize, at: usize) -> [u64; 9]
+fn row_for(item: LogItem, row: usize, at: usize) -> [u64; 9]
     requires { ⌜ at + keyLength (item .content) < 2 ^ 64 ⌝ }
     ensures { λ r. ⌜ r ≡ rowFor item row at ⌝ }
 {
@@ -112,4 +118,14 @@ pub fn row_for(item: LogItem, row: usize, at: usize) -> [u64; 9]
         LogItemContent::Command(command) => command_row(group, command),
         LogItemContent::Kv(kv) => key_row(group, kv, at),
     }
+}
+
+// Writes the row of item `i` of a store, whose rows of entries stand from row `row`.
+pub fn write_row(items: &mut [u64], i: usize, item: LogItem, row: usize)
+    requires { ⌜ i * 9 + 9 ≤ length (now items) ⌝ }
+    requires { ⌜ i * 64 + keyLength (item .content) < 2 ^ 64 ⌝ }
+    ensures { λ _. ⌜ now (items .exit) ≡ put (now (items .entry)) (i * 9) (rowFor item row (i * 64)) ⌝ }
+{
+    let numbers = row_for(item, row, i * ITEM_BYTES);
+    cells::copy_in_u64(items, i * ITEM_WIDTH, &numbers);
 }

@@ -8,14 +8,13 @@ ghost use Rattle.log_batch.specs.Lent.{itemOf, valueWithin, bytesWithin, rowsWi
 ghost use Rattle.stores.specs.Written.{keyBytes, bytesOf, rowsOf, countOf, valueBehind, bytesBehind, rowsBehind, Behind, Lent};
 ghost use Rattle.stores.specs.Stores.{area, Stored, hasRoom, Added};
 use crate::Store;
-use crate::add::ITEM_BYTES;
-use crate::row::row_for;
+use crate::row::ITEM_BYTES;
+use crate::row::write_row;
 use log_batch::item::KeyValue;
 use log_batch::item::LogItem;
 use log_batch::item::LogItemContent;
 use log_batch::item::Value;
 use log_batch::open::ENTRY_WIDTH;
-use log_batch::open::ITEM_WIDTH;
 
 // Moves a key, and its value behind it, down to place `to`.
 fn move_key(bytes: &mut [u8], to: usize, kv: KeyValue)
@@ -87,12 +86,10 @@ pub fn put_down(
 {
     let n = store.items;
     let row = store.entries;
-    let at = n * ITEM_BYTES;
     let content = item.content;
-    let numbers = row_for(item, row, at);
-    cells::copy_in_u64(items, n * ITEM_WIDTH, &numbers);
+    write_row(items, n, item, row);
     let end = move_rows(entries, row, content);
-    move_bytes(bytes, at, content);
+    move_bytes(bytes, n * ITEM_BYTES, content);
     Store {
         items: n + 1,
         entries: end,
