@@ -1,8 +1,8 @@
--- The counts of tagged items. Assumes nothing.
+-- The laws of the tagged items of a store: counts, sums by tags, an item pushed or read with its tag. Assumes nothing.
 use mathlib.Core.Bool.{Bool, true, cond}
 use mathlib.Core.Path.{_≡_, refl, sym, ap, _∙_}
 use mathlib.Core.List.{List, [], _∷_, _++_}
-use Prim.Native.Nat.{ℕ, zero, suc, _+_, _*_, _≤_, _<_}
+use Prim.Native.Nat.{ℕ, zero, suc, _+_, _*_, _/_, _≤_, _<_}
 use native.Mathlib.Nat.{add-zero}
 use native.Mathlib.Omega.{arith}
 use lib.Dec.{eqb}
@@ -166,3 +166,11 @@ read-tagged s a ts j it z w h l r =
     let n = length-stored s a w in
     let e = tagged-at ts (storeItems s a) j z (z .item) (omega arith) (omega arith) in
     rw (r .is (z .item)) at e
+
+-- an item that was added has a place among tags that are as many as the rows
+pub added-place : (s : Store) (a : Area) (it : rules.LogItem) (t : Store) (b : Area) (n : ℕ) → Added s a it t b → length (a .items) / 9 ≤ n → s .items < n
+added-place s a it t b n d h =
+    let items : t .items ≡ s .items + 1 = ap (λ (x : Store). x .items) (d .counts) in
+    let r = d .wf .rows in
+    let z = d .sized .rows in
+    omega arith

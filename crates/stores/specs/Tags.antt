@@ -1,6 +1,6 @@
 -- Items with tags, one number an item in a list of their own: an item's tag is the waiting part that it belongs to.
 use mathlib.Core.Bool.{Bool, true, false, cond, not}
-use mathlib.Core.List.{List, [], _∷_, map}
+use mathlib.Core.List.{List, [], _∷_, _++_, map}
 use mathlib.Core.Path.{_≡_}
 use Prim.Native.Nat.{ℕ, zero, suc, _*_, _/_, _<_, _≤_}
 use lib.Dec.{eqb}
@@ -12,8 +12,9 @@ use Rattle.log_batch.specs.declared.item.LogItem.{LogItem}
 use Rattle.log_batch.specs.declared.open.Opened.{the-variants.Item}
 use Rattle.log_batch.specs.Lent.{rowCount, openedRow, itemAt}
 use Rattle.stores.specs.declared.Store.{Store}
+use Rattle.stores.specs.declared.Pushed.{Pushed, the-variants.Done, the-variants.NoRoom}
 use Rattle.stores.specs.Written.{countOf, Behind, Lent}
-use Rattle.stores.specs.Stores.{Area, storeItems, rowEntries, Stored, Sized, hasRoom, oneMore, Added}
+use Rattle.stores.specs.Stores.{Area, storeItems, rowEntries, Stored, Sized, hasRoom, oneMore, Added, Pushing}
 
 pub record Tagged : Type 0 where
   pub tag : ℕ
@@ -35,6 +36,17 @@ hasTag t x = eqb (x .tag) t
 
 unfoldable pub hasOther : ℕ → Tagged → Bool
 hasOther t x = not (hasTag t x)
+
+-- ---- a push with a tag: the items with their tags and this one, or no room and all as it was
+
+pub record AddedTagged (s : Store) (a : Area) (ts : List ℕ) (tag : ℕ) (it : rules.LogItem) (t : Store) (b : Area) (us : List ℕ) : Type 0 where
+  pub added : Added s a it t b
+  pub tags : us ≡ set ts (s .items) tag
+  pub items : storeTagged t b us ≡ storeTagged s a ts ++ (record { tag = tag; item = it } ∷ [])
+
+abbrev pub PushingTagged : Store → Area → List ℕ → ℕ → rules.LogItem → Pushed → Area → List ℕ → Type 0
+PushingTagged s a ts tag it (Done t) b us = AddedTagged s a ts tag it t b us
+PushingTagged s a ts tag it NoRoom b us = Pushing s a it NoRoom b × (us ≡ ts)
 
 -- ---- taking out a tag
 
