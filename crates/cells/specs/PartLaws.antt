@@ -307,3 +307,28 @@ module _ {A : Type 0} where
   -- two lists that are the same up to k and from k on
   pub same-around : (k : ℕ) (l m : List A) → take k l ≡ take k m → drop k l ≡ drop k m → l ≡ m
   same-around k l m p q = sym (take-append-drop k l) ∙ rw (p, q) (take-append-drop k m)
+
+  -- a part of what two lists share at the front, and at the back
+  pub part-of-front : (a n m : ℕ) (l k : List A) → take m l ≡ take m k → a + n ≤ m → part a n l ≡ part a n k
+  part-of-front a n m l k e h = sym (part-take a n m l h) ∙ ap (part a n) e ∙ part-take a n m k h
+
+  pub part-of-back : (a n m : ℕ) (l k : List A) → drop m l ≡ drop m k → m ≤ a → part a n l ≡ part a n k
+  part-of-back a n m l k e h =
+      let q : m + (a - m) ≡ a = omega arith in
+      rw q at (sym (part-drop (a - m) n m l) ∙ ap (part (a - m) n) e ∙ part-drop (a - m) n m k)
+
+  -- shorter fronts, and longer backs, are the same
+  pub shorter-front : (k m : ℕ) (l d : List A) → k ≤ m → take m l ≡ take m d → take k l ≡ take k d
+  shorter-front k m l d h e = sym (take-take k m l h) ∙ ap (take k) e ∙ take-take k m d h
+
+  pub shorter-back : (k m : ℕ) (l d : List A) → k ≤ m → drop k l ≡ drop k d → drop m l ≡ drop m d
+  shorter-back k m l d h e =
+      let q : k + (m - k) ≡ m = omega arith in
+      rw q at (sym (drop-drop (m - k) k l) ∙ ap (drop (m - k)) e ∙ drop-drop (m - k) k d)
+
+  -- a list that has the front of another is as long as that front
+  pub front-length : (m : ℕ) (l d : List A) → take m d ≡ take m l → m ≤ length l → m ≤ length d
+  front-length m l d e h =
+      let p : length (take m d) ≡ m = ap length e ∙ length-take-le m l h in
+      let q = length-take m d in
+      omega arith

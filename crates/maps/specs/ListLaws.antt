@@ -176,6 +176,14 @@ module _ {A : Type 0} where
   sum-le f g [] h = omega arith
   sum-le f g (x ∷ xs) h = let ih = sum-le f g xs h in let l = h x in omega arith
 
+  -- over what meets a test, and what fails it
+  pub sum-select-not : (p : A → Bool) (f : A → ℕ) (xs : List A) → sum f (select p xs) + sum f (select (λ x. not (p x)) xs) ≡ sum f xs
+  unfolding select sum
+  sum-select-not p f [] = refl
+  sum-select-not p f (x ∷ xs) =
+      let ih = sum-select-not p f xs in
+      split (p x) (λ e. rw e (omega arith)) (λ e. rw e (omega arith))
+
   pub sum-one : (xs : List A) → sum (λ x. 1) xs ≡ length xs
   unfolding sum
   sum-one [] = refl

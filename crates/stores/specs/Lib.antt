@@ -1,0 +1,8 @@
+-- What the contracts of `stores` and of the crates above it cite.
+pub mod Written
+pub mod Stores
+pub mod Tags
+pub mod StoreLaws
+pub mod CheckedLaws
+pub mod TagLaws
+pub mod CountLaws
