@@ -1,0 +1,114 @@
+-- Deeds: a group's number with what becomes of its table. A list of deeds on a map of tables is, group by group, each group's own deeds in order.
+-- Assumes nothing.
+use mathlib.Core.Path.{_≡_, refl, sym, ap, _∙_}
+use mathlib.Core.Bool.{Bool, true, false, cond}
+use mathlib.Core.List.{List, [], _∷_, _++_}
+use mathlib.Core.Option.{Option, none, some}
+use Prim.Native.Nat.{ℕ}
+use lib.Dec.{eqb}
+use borrow.Author.Tests.{eqb-true, eq-eqb}
+use Rattle.maps.specs.Lists.{orElse}
+use Rattle.maps.specs.Maps.{Pair, Map, lookup, store, numbers}
+use Rattle.maps.specs.OrderLaws.{split, numbersLawful}
+use Rattle.maps.specs.MapLaws.{AllBelow, Ascending, ascending-head, ascending-tail, ascending-store, lookup-below, lookup-store-same, lookup-store-other}
+use Rattle.rules.specs.Causes.{Refusal, Result, ok, refused, andThen, inOrder}
+use Rattle.rules.specs.Table.{Table}
+use Rattle.rules_by_group.specs.ResultLaws.{byResult, andThen-same, andThen-unit, andThen-assoc, andThen-of, andThen-refused, inOrder-append, eqb-comm}
+
+pub record Deed : Type 0 where
+  pub group : ℕ
+  pub by : Option Table → Result (Option Table)
+
+unfoldable pub doDeed : Deed → Map ℕ Table → Result (Map ℕ Table)
+doDeed d m = andThen (d .by (lookup numbers (d .group) m)) (λ t. ok (store numbers (d .group) t m))
+
+unfoldable pub doAll : List Deed → Map ℕ Table → Result (Map ℕ Table)
+doAll ds = inOrder doDeed ds
+
+-- the deeds of group g, in order
+unfoldable pub own : ℕ → List Deed → Option Table → Result (Option Table)
+own g [] o = ok o
+own g (d ∷ ds) o = cond (eqb (d .group) g) (andThen (d .by o) (own g ds)) (own g ds o)
+
+-- a result of a map is what its groups' own results say; if it is refused, some group's own result has that refusal
+unfoldable pub ByGroup : (ℕ → Result (Option Table)) → Result (Map ℕ Table) → Type 0
+ByGroup at (ok m) = Ascending numbers m × ((g : ℕ) → at g ≡ ok (lookup numbers g m))
+ByGroup at (refused r) = (g : ℕ) × (at g ≡ refused r)
+
+pub byGroup-ext : (at bt : ℕ → Result (Option Table)) (r : Result (Map ℕ Table)) → ((g : ℕ) → at g ≡ bt g) → ByGroup bt r → ByGroup at r
+unfolding ByGroup
+byGroup-ext at bt (ok m) e h = (h .0, λ g. e g ∙ h .1 g)
+byGroup-ext at bt (refused x) e h = (h .0, e (h .0) ∙ h .1)
+
+module _ (d : Deed) (ds : List Deed) (m : Map ℕ Table) where
+  abbrev before : Option Table
+  before = lookup numbers (d .group) m
+
+  pub deed-ok : (t : Option Table) → d .by before ≡ ok t → doAll (d ∷ ds) m ≡ doAll ds (store numbers (d .group) t m)
+  unfolding doAll inOrder doDeed
+  deed-ok t e = rw e (unfold andThen in refl)
+
+  pub deed-refused : (x : Refusal) → d .by before ≡ refused x → doAll (d ∷ ds) m ≡ refused x
+  unfolding doAll inOrder doDeed
+  deed-refused x e = rw e (unfold andThen in refl)
+
+module _ (d : Deed) (ds : List Deed) (m : Map ℕ Table) (asc : Ascending numbers m) where
+  at-next : (t : Option Table) → d .by (before d ds m) ≡ ok t → (g : ℕ) → own g (d ∷ ds) (lookup numbers g m) ≡ own g ds (lookup numbers g (store numbers (d .group) t m))
+  unfolding own
+  at-next t e g =
+      split (eqb (d .group) g)
+      (λ s. rw s (rw (← (eqb-true (d .group) g s)) (andThen-of (d .by (before d ds m)) (own (d .group) ds) t e ∙ ap (own (d .group) ds) (sym (lookup-store-same numbers numbersLawful (d .group) t m asc)))))
+      (λ s. rw s (ap (own g ds) (sym (lookup-store-other numbers numbersLawful g (d .group) t m (eqb-comm g (d .group) ∙ s)))))
+
+  own-refused : (x : Refusal) → d .by (before d ds m) ≡ refused x → own (d .group) (d ∷ ds) (before d ds m) ≡ refused x
+  unfolding own
+  own-refused x e = rw (eq-eqb (d .group) (d .group) refl) (andThen-refused (d .by (before d ds m)) (own (d .group) ds) x e)
+
+  by-group-cons :
+      ((t : Option Table) → ByGroup (λ g. own g ds (lookup numbers g (store numbers (d .group) t m))) (doAll ds (store numbers (d .group) t m)))
+      → ByGroup (λ g. own g (d ∷ ds) (lookup numbers g m)) (doAll (d ∷ ds) m)
+  by-group-cons ih =
+      byResult (d .by (before d ds m))
+      (λ t e. rw (deed-ok d ds m t e) (byGroup-ext (λ g. own g (d ∷ ds) (lookup numbers g m)) (λ g. own g ds (lookup numbers g (store numbers (d .group) t m))) (doAll ds (store numbers (d .group) t m)) (at-next t e) (ih t)))
+      (λ x e. rw (deed-refused d ds m x e) (unfold ByGroup in (d .group, own-refused x e)))
+
+pub deeds-by-group : (ds : List Deed) (m : Map ℕ Table) → Ascending numbers m → ByGroup (λ g. own g ds (lookup numbers g m)) (doAll ds m)
+deeds-by-group [] m asc = unfold doAll inOrder ByGroup own in (asc, λ g. refl)
+deeds-by-group (d ∷ ds) m asc =
+    by-group-cons d ds m asc (λ t. deeds-by-group ds (store numbers (d .group) t m) (ascending-store numbers numbersLawful (d .group) t m asc))
+
+pub do-append : (ds es : List Deed) (m : Map ℕ Table) → doAll (ds ++ es) m ≡ andThen (doAll ds m) (doAll es)
+unfolding doAll
+do-append ds es m = inOrder-append doDeed ds es m
+
+pub own-append : (g : ℕ) (ds es : List Deed) (o : Option Table) → own g (ds ++ es) o ≡ andThen (own g ds o) (own g es)
+unfolding own
+own-append g [] es o = unfold andThen in refl
+own-append g (d ∷ ds) es o =
+    split (eqb (d .group) g)
+    (λ e. rw e
+    (andThen-same (d .by o) (own g (ds ++ es)) (λ t. andThen (own g ds t) (own g es)) (λ t. own-append g ds es t)
+    ∙ sym (andThen-assoc (d .by o) (own g ds) (own g es))))
+    (λ e. rw e (own-append g ds es o))
+
+-- ---- the deeds of a map, one for each number
+
+module _ {A : Type 0} (f : ℕ → A → Option Table → Result (Option Table)) where
+  unfoldable pub deedsOf : Map ℕ A → List Deed
+  deedsOf [] = []
+  deedsOf (x ∷ xs) = record { group = x .key; by = f (x .key) (x .val) } ∷ deedsOf xs
+
+  none-later : (x : Pair ℕ A) (xs : Map ℕ A) (t : Option Table) → AllBelow numbers (x .key) xs → own (x .key) (deedsOf xs) t ≡ orElse (ok t) (λ a. f (x .key) a t) (lookup numbers (x .key) xs) → own (x .key) (deedsOf xs) t ≡ ok t
+  none-later x xs t b e = e ∙ ap (orElse (ok t) (λ a. f (x .key) a t)) (lookup-below numbers numbersLawful (x .key) xs b) ∙ (unfold orElse in refl)
+
+  pub own-map : (g : ℕ) (xs : Map ℕ A) (o : Option Table) → Ascending numbers xs → own g (deedsOf xs) o ≡ orElse (ok o) (λ a. f g a o) (lookup numbers g xs)
+  unfolding own deedsOf lookup orElse
+  own-map g [] o asc = refl
+  own-map g (x ∷ xs) o asc =
+      let later = ascending-tail numbers x xs asc in
+      split (eqb (x .key) g)
+      (λ e. rw (e, eqb-comm g (x .key) ∙ e)
+      (rw (← (eqb-true (x .key) g e))
+      (andThen-same (f (x .key) (x .val) o) (own (x .key) (deedsOf xs)) (λ t. ok t) (λ t. none-later x xs t (ascending-head numbers x xs asc) (own-map (x .key) xs t later))
+      ∙ andThen-unit (f (x .key) (x .val) o))))
+      (λ e. rw (e, eqb-comm g (x .key) ∙ e) (own-map g xs o later))

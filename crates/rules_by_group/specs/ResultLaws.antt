@@ -1,0 +1,75 @@
+-- Laws of results and of steps in order.
+-- Assumes nothing.
+use mathlib.Core.Path.{_≡_, refl, sym, ap, _∙_}
+use mathlib.Core.Bool.{Bool, true, false, cond}
+use mathlib.Core.List.{List, [], _∷_, _++_}
+use mathlib.Core.Option.{Option, none, some}
+use Prim.Native.Nat.{ℕ}
+use lib.Dec.{eqb}
+use native.Mathlib.Omega.{arith}
+use borrow.Author.Tests.{eqb-true, eqb-false, eq-eqb, ne-eqb}
+use Rattle.maps.specs.OrderLaws.{split}
+use Rattle.rules.specs.Causes.{Refusal, Result, ok, refused, andThen, inOrder}
+
+pub ok-inj : {A : Type 0} {a b : A} → ok a ≡ ok b → a ≡ b
+ok-inj p = cc
+
+pub refused-not-ok : {A : Type 0} {a : A} {r : Refusal} → refused r ≡ ok a → ⊥
+refused-not-ok p = let z : _≡_ {A = ℕ} 0 1 = cc in omega arith
+
+-- by the two kinds of a result
+pub byResult : {A P : Type 0} (r : Result A) → ((a : A) → r ≡ ok a → P) → ((x : Refusal) → r ≡ refused x → P) → P
+byResult (ok a) f g = f a refl
+byResult (refused x) f g = g x refl
+
+pub byOption : {A P : Type 0} (o : Option A) → (o ≡ none → P) → ((a : A) → o ≡ some a → P) → P
+byOption none f g = f refl
+byOption (some a) f g = g a refl
+
+-- what follows an accepted step
+pub andThen-ok : {A B : Type 0} (r : Result A) (f : A → Result B) (b : B) → andThen r f ≡ ok b → (a : A) × (r ≡ ok a) × (f a ≡ ok b)
+unfolding andThen
+andThen-ok (ok a) f b h = (a, refl, h)
+andThen-ok (refused r) f b h = absurd (refused-not-ok h)
+
+pub andThen-of : {A B : Type 0} (r : Result A) (f : A → Result B) (a : A) → r ≡ ok a → andThen r f ≡ f a
+unfolding andThen
+andThen-of r f a h = rw h
+
+pub andThen-refused : {A B : Type 0} (r : Result A) (f : A → Result B) (x : Refusal) → r ≡ refused x → andThen r f ≡ refused x
+unfolding andThen
+andThen-refused r f x h = rw h
+
+pub andThen-same : {A B : Type 0} (r : Result A) (f g : A → Result B) → ((a : A) → f a ≡ g a) → andThen r f ≡ andThen r g
+unfolding andThen
+andThen-same (ok a) f g e = e a
+andThen-same (refused x) f g e = refl
+
+pub andThen-unit : {A : Type 0} (r : Result A) → andThen r (λ a. ok a) ≡ r
+unfolding andThen
+andThen-unit (ok a) = refl
+andThen-unit (refused x) = refl
+
+pub andThen-assoc : {A B C : Type 0} (r : Result A) (f : A → Result B) (g : B → Result C) → andThen (andThen r f) g ≡ andThen r (λ a. andThen (f a) g)
+unfolding andThen
+andThen-assoc (ok a) f g = refl
+andThen-assoc (refused x) f g = refl
+
+pub andThen-map : {A B C : Type 0} (r : Result A) (f : A → B) (g : B → Result C) → andThen (andThen r (λ a. ok (f a))) g ≡ andThen r (λ a. g (f a))
+unfolding andThen
+andThen-map (ok a) f g = refl
+andThen-map (refused x) f g = refl
+
+pub inOrder-append : {A C : Type 0} (f : A → C → Result C) (xs ys : List A) (c : C) → inOrder f (xs ++ ys) c ≡ andThen (inOrder f xs c) (inOrder f ys)
+unfolding inOrder
+inOrder-append f [] ys c = unfold andThen in refl
+inOrder-append f (x ∷ xs) ys c =
+    andThen-same (f x c) (inOrder f (xs ++ ys)) (λ d. andThen (inOrder f xs d) (inOrder f ys)) (λ d. inOrder-append f xs ys d)
+    ∙ sym (andThen-assoc (f x c) (inOrder f xs) (inOrder f ys))
+
+-- numbers are compared either way round
+pub eqb-comm : (a b : ℕ) → eqb a b ≡ eqb b a
+eqb-comm a b =
+    split (eqb b a)
+    (λ e. rw (e, eqb-true b a e) (eq-eqb a a refl))
+    (λ e. rw e (ne-eqb a b (λ z. eqb-false b a e (sym z))))
