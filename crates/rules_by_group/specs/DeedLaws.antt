@@ -77,6 +77,13 @@ deeds-by-group [] m asc = unfold doAll inOrder ByGroup own in (asc, λ g. refl)
 deeds-by-group (d ∷ ds) m asc =
     by-group-cons d ds m asc (λ t. deeds-by-group ds (store numbers (d .group) t m) (ascending-store numbers numbersLawful (d .group) t m asc))
 
+by-group-ascends : (at : ℕ → Result (Option Table)) (r : Result (Map ℕ Table)) (n : Map ℕ Table) → ByGroup at r → r ≡ ok n → Ascending numbers n
+unfolding ByGroup
+by-group-ascends at r n h e = (rw e at h) .0
+
+pub do-ascends : (ds : List Deed) (m n : Map ℕ Table) → Ascending numbers m → doAll ds m ≡ ok n → Ascending numbers n
+do-ascends ds m n asc e = by-group-ascends (λ g. own g ds (lookup numbers g m)) (doAll ds m) n (deeds-by-group ds m asc) e
+
 pub do-append : (ds es : List Deed) (m : Map ℕ Table) → doAll (ds ++ es) m ≡ andThen (doAll ds m) (doAll es)
 unfolding doAll
 do-append ds es m = inOrder-append doDeed ds es m

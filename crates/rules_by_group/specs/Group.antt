@@ -84,13 +84,13 @@ replayedItems [] o = o
 replayedItems (x ∷ xs) o = replayedItems xs (left o (changed replayRewrite (x .content) o))
 
 -- the span is set if there is an item; it makes the group
-unfoldable pub finishItems : Span → List LogItem → Option Table → Result (Option Table)
-finishItems s [] o = ok o
-finishItems s (x ∷ xs) o = andThen (spanned s (made (replayedItems (x ∷ xs) o))) (λ t. ok (some t))
+unfoldable pub finishWith : Span → List LogItem → Option Table → Result (Option Table)
+finishWith s [] o = ok o
+finishWith s (x ∷ xs) o = andThen (spanned s (made (replayedItems (x ∷ xs) o))) (λ t. ok (some t))
 
-unfoldable pub finishGroup : Option Finished → Option Table → Result (Option Table)
-finishGroup none o = ok o
-finishGroup (some f) o = finishItems (f .span) (f .items) o
+unfoldable pub finishTable : Option Finished → Option Table → Result (Option Table)
+finishTable none o = ok o
+finishTable (some f) o = finishWith (f .span) (f .items) o
 
 -- ---- the group
 
@@ -101,7 +101,7 @@ layOver q (some newer) o = cond (clashes q o newer) (refuse (clash q)) (ok (some
 
 -- group g of a merge: what finishes, the newer tombstones, the newer and the older table
 unfoldable pub mergedGroup : LogQueue → ℕ → Option Finished → List LogItem → Option Table → Option Table → Result (Option Table)
-mergedGroup q g f tombs newer older = andThen (finishGroup f older) (λ o. layOver q newer (tombed g tombs o))
+mergedGroup q g f tombs newer older = andThen (finishTable f older) (λ o. layOver q newer (tombed g tombs o))
 
 -- group g of a join, which is never refused: the Append tombstones, the Append and the Rewrite table. A table is adopted if there is none after the tombstones.
 unfoldable pub joinedGroup : ℕ → List LogItem → Option Table → Option Table → Option Table

@@ -11,11 +11,12 @@ use Rattle.maps.specs.MapLaws.{Ascending, laid}
 use Rattle.rules.specs.Causes.{Cause, Refusal, Result, ok, refused, refuse, andThen, wrongKind}
 use Rattle.rules.specs.Items.{Append, sameQueue, liveAppend, writes, isLiveRewrite}
 use Rattle.rules.specs.Table.{Table}
-use Rattle.rules.specs.Context.{Kind, context, index, Context, withGroups, limited, replayTombstones}
+use Rattle.rules.specs.Context.{context, index, Context, withGroups, limited, replayTombstones}
 use Rattle.rules.specs.Calls.{joinTable, indexOf, joinContexts}
-use Rattle.rules_by_group.specs.Group.{cleansOf, tombed, joinedGroup}
+use Rattle.rules_by_group.specs.Group.{tombed, joinedGroup}
 use Rattle.rules_by_group.specs.Stage.{stageAll, noneStaged, answer, joinedRest, joinedAt, joinedBy, isIn, Covers}
-use Rattle.rules_by_group.specs.Kept.{KeptBy, Kept}
+use Rattle.rules_by_group.specs.Kept.{Kept}
+use Rattle.rules_by_group.specs.KindLaws.{append-cleaned}
 use Rattle.rules_by_group.specs.ResultLaws.{refused-not-ok, andThen-of, andThen-same, andThen-assoc, andThen-map}
 use Rattle.rules_by_group.specs.DeedLaws.{Deed, doAll, do-append, deedsOf, own, own-append, own-map, ByGroup, byGroup-ext, deeds-by-group}
 use Rattle.rules_by_group.specs.ItemLaws.{tombDeed, own-tombs, cleansBy, replayedTo, tombs-replayed, tombed-other}
@@ -38,14 +39,6 @@ joins-laid : (g : ℕ) (n : Option Table) (o : Option Table) → orElse (ok o) (
 unfolding orElse laid layBy
 joins-laid g none o = refl
 joins-laid g (some t) o = refl
-
-by-append : (c : Context) (k : Kind) → k ≡ context Append → KeptBy k c → KeptBy (context Append) c
-by-append c k e h = rw e at h
-
--- the cleaned numbers of an Append context are the Cleans of its tombstones
-pub append-cleaned : (c : Context) → Kept c → c .kind ≡ context Append → c .cleaned ≡ cleansOf (c .tombstones)
-unfolding KeptBy
-append-cleaned c k e = by-append c (c .kind) e (k .by-kind) .1
 
 module _ (newer c : Context) (kn : Kept newer) (kc : Kept c) (is : newer .kind ≡ context Append) where
   cleaned-is : cleansBy liveAppend (newer .tombstones) ≡ newer .cleaned

@@ -7,5 +7,7 @@ pub mod ResultLaws
 pub mod DeedLaws
 pub mod StageLaws
 pub mod ItemLaws
+pub mod KindLaws
 pub mod LayLaws
 pub mod JoinLaws
+pub mod MergeLaws

@@ -9,10 +9,18 @@ use lib.Dec.{eqb}
 use native.Mathlib.Omega.{arith}
 use borrow.Author.Tests.{eqb-true, eqb-false, eq-eqb, ne-eqb}
 use Rattle.maps.specs.OrderLaws.{split}
-use Rattle.rules.specs.Causes.{Refusal, Result, ok, refused, andThen, inOrder}
+use Rattle.rules.specs.Causes.{Cause, numberOf, Refusal, Result, ok, refused, andThen, inOrder}
 
 pub ok-inj : {A : Type 0} {a b : A} → ok a ≡ ok b → a ≡ b
 ok-inj p = cc
+
+-- a result has one refusal
+pub one-refusal : {A : Type 0} (r : Result A) (x y : Refusal) → r ≡ refused x → r ≡ refused y → x ≡ y
+one-refusal r x y p q = cc
+
+-- the refusal by a cause without a place
+abbrev pub refusalOf : Cause → Refusal
+refusalOf n = record { number = numberOf n; place = none }
 
 pub refused-not-ok : {A : Type 0} {a : A} {r : Refusal} → refused r ≡ ok a → ⊥
 refused-not-ok p = let z : _≡_ {A = ℕ} 0 1 = cc in omega arith
@@ -44,6 +52,12 @@ pub andThen-same : {A B : Type 0} (r : Result A) (f g : A → Result B) → ((a 
 unfolding andThen
 andThen-same (ok a) f g e = e a
 andThen-same (refused x) f g e = refl
+
+-- where only what was accepted matters
+pub andThen-same-at : {A B : Type 0} (r : Result A) (f g : A → Result B) → ((a : A) → r ≡ ok a → f a ≡ g a) → andThen r f ≡ andThen r g
+unfolding andThen
+andThen-same-at (ok a) f g e = e a refl
+andThen-same-at (refused x) f g e = refl
 
 pub andThen-unit : {A : Type 0} (r : Result A) → andThen r (λ a. ok a) ≡ r
 unfolding andThen

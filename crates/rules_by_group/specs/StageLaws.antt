@@ -19,7 +19,7 @@ use Rattle.rules.specs.Causes.{Cause, Refusal, Result, ok, refused, refuse, and
 use Rattle.rules.specs.Table.{Table}
 use Rattle.rules.specs.Context.{Context, withGroups, tableFits, waitingFits, fits, limited}
 use Rattle.rules_by_group.specs.Stage.{Staged, noneStaged, stageResult, stageOne, stageAll, restFits, answer, isIn}
-use Rattle.rules_by_group.specs.ResultLaws.{ok-inj, refused-not-ok, byOption, byResult}
+use Rattle.rules_by_group.specs.ResultLaws.{ok-inj, refusalOf, refused-not-ok, byOption, byResult}
 use Rattle.rules_by_group.specs.DeedLaws.{ByGroup}
 
 -- the limits of the groups
@@ -300,13 +300,13 @@ module _ (at : ℕ → Result (Option Table)) where
 pub staged :
     (at : ℕ → Result (Option Table)) (r : Result (Map ℕ Table)) (gs : List ℕ) (n : Cause) (rest : Context)
     → ByGroup at r
-    → ((g : ℕ) (x : Refusal) → at g ≡ refused x → refused x ≡ refuse {A = Context} n)
+    → ((g : ℕ) (x : Refusal) → at g ≡ refused x → x ≡ refusalOf n)
     → ((g : ℕ) → isIn g gs ≡ false → at g ≡ ok none)
     → andThen r (λ m. limited none (withGroups m rest)) ≡ answer n rest (stageAll at gs noneStaged)
 unfolding ByGroup andThen
 staged at (ok m) gs n rest by only covers = answered at m (by .0) (by .1) gs covers n rest
 staged at (refused x) gs n rest by only covers =
-    only (by .0) x (by .1) ∙ (unfold answer in rw (clashes-all at (by .0) x (by .1) gs noneStaged in-list (own-none at)))
+    ap (λ y. refused y) (only (by .0) x (by .1)) ∙ (unfold answer in rw (clashes-all at (by .0) x (by .1) gs noneStaged in-list (own-none at)))
   where
     in-list : isIn (by .0) gs ≡ true
     in-list = split (isIn (by .0) gs) (λ e. e) (λ e. absurd (refused-not-ok (sym (by .1) ∙ covers (by .0) e)))
