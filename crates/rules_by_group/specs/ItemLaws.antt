@@ -12,13 +12,13 @@ use Rattle.maps.specs.Maps.{Map, lookup, store, numbers}
 use Rattle.maps.specs.ListLaws.{every-head, every-tail}
 use Rattle.maps.specs.OrderLaws.{split, numbersLawful}
 use Rattle.maps.specs.MapLaws.{Ascending, ascending-store, store-again}
-use Rattle.rules.specs.Causes.{Refusal, Result, ok, refused, andThen, inOrder}
-use Rattle.rules.specs.Items.{Append, sameQueue, clean, compact, put, del, Content, entries, command, kv, LogItem, isReserved, isClean, isTombstone, Call, writes, isLiveRewrite}
+use Rattle.rules.specs.Causes.{Refusal, Result, ok, refused, andThen, inOrder, placed}
+use Rattle.rules.specs.Items.{Append, sameQueue, clean, compact, put, del, Content, entries, command, kv, LogItem, Placed, isReserved, isClean, isTombstone, Call, writes, isLiveRewrite}
 use Rattle.rules.specs.Table.{Table, made, change, changeTo, commandTo}
-use Rattle.rules.specs.Context.{Context, withGroups, withTombstones, withCleaned, addCleaned, act, keeps, addTombstone, replayTombstones}
+use Rattle.rules.specs.Context.{Context, withGroups, withTombstones, withCleaned, Judge, addCleaned, act, keeps, addTombstone, step, replayTombstones}
 use Rattle.rules_by_group.specs.Group.{changed, effect, effected, tombed, tombOf, cleanOf, cleansOf}
 use Rattle.rules_by_group.specs.Kept.{allTombstones}
-use Rattle.rules_by_group.specs.ResultLaws.{ok-inj, refused-not-ok, andThen-of, andThen-same}
+use Rattle.rules_by_group.specs.ResultLaws.{ok-inj, byResult, refused-not-ok, andThen-of, andThen-same}
 use Rattle.rules_by_group.specs.DeedLaws.{Deed, doAll, deed-ok, own}
 
 -- ---- the lists
@@ -119,6 +119,42 @@ module _ (call : Call) (it : LogItem) (c : Context) where
         split (isReserved (it .content))
         (λ e. absurd (refused-not-ok (sym h ∙ changed-reserved own-table e)))
         (λ e. act-not-refused e r (sym (changed-not own-table e) ∙ h))
+
+-- ---- one step of a batch
+
+-- the context after an item that leaves its group at t
+unfoldable pub after : Call → LogItem → Option Table → Context → Context
+after call it t c =
+    record {
+      kind = c .kind;
+      groups = store numbers (it .group) t (c .groups);
+      tombstones = c .tombstones ++ keptBy call it;
+      cleaned = c .cleaned ++ cleanedBy call it;
+      waiting = c .waiting;
+    }
+
+module _ (judge : Judge) (call : Call) (x : Placed) (c : Context) (asc : Ascending numbers (c .groups)) where
+  step-acted : (d : Context) → act call (x .item) c ≡ ok d → step judge call x c ≡ judge (x .place) (addTombstone call (x .item) d)
+  unfolding step placed andThen
+  step-acted d h = rw h
+
+  step-not : (r : Refusal) → act call (x .item) c ≡ refused r → step judge call x c ≡ refused (record { number = r .number; place = x .place })
+  unfolding step placed andThen
+  step-not r h = rw h
+
+  with-tombstone : (t : Option Table) → addTombstone call (x .item) (acted call (x .item) t c) ≡ after call (x .item) t c
+  unfolding acted after withTombstones
+  with-tombstone t = add-tombstone call (x .item) (acted call (x .item) t c)
+
+  pub step-of : (t : Option Table) → changed call (x .item .content) (lookup numbers (x .item .group) (c .groups)) ≡ ok t → step judge call x c ≡ judge (x .place) (after call (x .item) t c)
+  step-of t h = step-acted (acted call (x .item) t c) (act-of call (x .item) c asc t h) ∙ ap (judge (x .place)) (with-tombstone t)
+
+  -- what an accepted step has done
+  pub step-ok : (d : Context) → step judge call x c ≡ ok d → (t : Option Table) × (changed call (x .item .content) (lookup numbers (x .item .group) (c .groups)) ≡ ok t) × (judge (x .place) (after call (x .item) t c) ≡ ok d)
+  step-ok d h =
+      byResult (changed call (x .item .content) (lookup numbers (x .item .group) (c .groups)))
+      (λ t e. (t, e, sym (step-of t e) ∙ h))
+      (λ r e. absurd (refused-not-ok (sym (step-not r (act-refused call (x .item) c asc r e)) ∙ h)))
 
 -- ---- tombstones, replayed and not kept a second time
 

@@ -96,8 +96,8 @@ module _ (newer c : Context) (kn : Kept newer) (kc : Kept c) (is : newer .kind �
       byGroup-ext (joinedAt newer c) (λ g. own g (joinDeeds newer) (lookup numbers g (c .groups))) (doAll (joinDeeds newer) (c .groups)) own-joined (deeds-by-group (joinDeeds newer) (c .groups) (kc .groups-ascend))
 
   -- over any list of numbers that covers, the join is the answer read off the staged groups
-  pub join-by-group : (n : Cause) (gs : List ℕ) → Covers gs newer c → joinContexts newer c ≡ joinedBy n newer c gs
+  pub join-contexts-by-group : (n : Cause) (gs : List ℕ) → Covers gs newer c → joinContexts newer c ≡ joinedBy n newer c gs
   unfolding joinedBy
-  join-by-group n gs v =
+  join-contexts-by-group n gs v =
       joined-deeds
       ∙ staged (joinedAt newer c) (doAll (joinDeeds newer) (c .groups)) gs n (joinedRest newer c) joined-by-group (λ g x e. absurd (never-refused g x e)) (joined-out gs v)

@@ -21,12 +21,16 @@ isEnd begin = false
 isEnd middle = false
 isEnd end = true
 
--- the shapes that `accept` makes, newest first: one part, or a Begin behind an End
+-- what may stand behind a group's newest part: nothing, or an End behind a Begin
+unfoldable pub behind : Status → List Part → Bool
+behind s [] = true
+behind s (o ∷ []) = isBegin s && isEnd (o .status)
+behind s (o ∷ (r ∷ rs)) = false
+
+-- the shapes that `accept` makes, newest first
 unfoldable pub shaped : List Part → Bool
 shaped [] = false
-shaped (p ∷ []) = true
-shaped (p ∷ (o ∷ [])) = isBegin (p .status) && isEnd (o .status)
-shaped (p ∷ (o ∷ (r ∷ rs))) = false
+shaped (p ∷ ps) = behind (p .status) ps
 
 -- the items of a group's parts are the group's own
 unfoldable pub ownItems : ℕ → List LogItem → Bool

@@ -11,3 +11,6 @@ pub mod KindLaws
 pub mod LayLaws
 pub mod JoinLaws
 pub mod MergeLaws
+pub mod PartLaws
+pub mod WaitingLaws
+pub mod ByGroupLaws

@@ -227,16 +227,3 @@ module _ (q : LogQueue) (newer c : Context) (kn : Kept newer) (kc : Kept c) (is 
     merge-by-accepts gs v =
         merged-deeds
         ∙ andThen-same (waitingAfter (newer .waiting) (c .waiting)) (λ w. andThen (doAll (mergeDeeds q newer c) (c .groups)) (fromGroups w)) (λ w. answer (clash q) (mergedRest newer w c) (stageAll (mergedAt q newer c) gs noneStaged)) (λ w. staged (mergedAt q newer c) (doAll (mergeDeeds q newer c) (c .groups)) gs (clash q) (mergedRest newer w c) merged-by-group (merged-refused q newer c kn is) (merged-out gs v))
-
--- ---- an Append merge: nothing waits
-
-accepts-none : (c : Context) → Accepts [] c
-unfolding Accepts acceptAll inOrder waitingAfter andThen deedsOf doAll finishedTombs
-accepts-none c = rw (append-nil (c .tombstones))
-
-accepts-empty : (w : Map ℕ (List Part)) (c : Context) → w ≡ [] → Accepts w c
-accepts-empty w c e = rw e (accepts-none c)
-
-pub merge-append : (newer c : Context) (gs : List ℕ) → Kept newer → Kept c → newer .kind ≡ context Append → Covers gs newer c → mergeContexts Append newer c ≡ mergedBy Append newer c gs
-merge-append newer c gs kn kc is v =
-    merge-by-accepts Append newer c kn kc is (accepts-empty (newer .waiting) (withTombstones (c .tombstones ++ newer .tombstones) c) (append-waits newer kn is)) gs v

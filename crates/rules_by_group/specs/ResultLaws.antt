@@ -8,6 +8,8 @@ use Prim.Native.Nat.{ℕ}
 use lib.Dec.{eqb}
 use native.Mathlib.Omega.{arith}
 use borrow.Author.Tests.{eqb-true, eqb-false, eq-eqb, ne-eqb}
+use Rattle.maps.specs.Lists.{every}
+use Rattle.maps.specs.ListLaws.{every-head, every-tail}
 use Rattle.maps.specs.OrderLaws.{split}
 use Rattle.rules.specs.Causes.{Cause, numberOf, Refusal, Result, ok, refused, andThen, inOrder}
 
@@ -80,6 +82,23 @@ inOrder-append f [] ys c = unfold andThen in refl
 inOrder-append f (x ∷ xs) ys c =
     andThen-same (f x c) (inOrder f (xs ++ ys)) (λ d. andThen (inOrder f xs d) (inOrder f ys)) (λ d. inOrder-append f xs ys d)
     ∙ sym (andThen-assoc (f x c) (inOrder f xs) (inOrder f ys))
+
+-- what each accepted step keeps
+pub inOrder-kept : {A C : Type 0} (f : A → C → Result C) (good : A → Bool) (P : C → Type 0) → ((a : A) (c d : C) → good a ≡ true → P c → f a c ≡ ok d → P d) → (xs : List A) (c d : C) → every good xs ≡ true → P c → inOrder f xs c ≡ ok d → P d
+unfolding inOrder
+inOrder-kept f good P keep [] c d h p e = rw (ok-inj e) at p
+inOrder-kept f good P keep (x ∷ xs) c d h p e =
+    let s = andThen-ok (f x c) (inOrder f xs) d e in
+    inOrder-kept f good P keep xs (s .0) d (every-tail good x xs h) (keep x c (s .0) (every-head good x xs h) p (s .1)) (s .2)
+
+-- the one refusal of every step
+pub inOrder-refused : {A C : Type 0} (f : A → C → Result C) (y : Refusal) → ((a : A) (c : C) (x : Refusal) → f a c ≡ refused x → x ≡ y) → (xs : List A) (c : C) (x : Refusal) → inOrder f xs c ≡ refused x → x ≡ y
+unfolding inOrder
+inOrder-refused f y each [] c x e = absurd (refused-not-ok (sym e))
+inOrder-refused f y each (a ∷ bs) c x e =
+    byResult (f a c)
+    (λ d h. inOrder-refused f y each bs d x (sym (andThen-of (f a c) (inOrder f bs) d h) ∙ e))
+    (λ z h. one-refusal (andThen (f a c) (inOrder f bs)) x z e (andThen-refused (f a c) (inOrder f bs) z h) ∙ each a c z h)
 
 -- numbers are compared either way round
 pub eqb-comm : (a b : ℕ) → eqb a b ≡ eqb b a
