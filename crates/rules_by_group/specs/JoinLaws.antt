@@ -70,7 +70,7 @@ module _ (newer c : Context) (kn : Kept newer) (kc : Kept c) (is : newer .kind �
       ap (limited none) (index-is m (mergeWith numbers joinTable m (newer .groups)))
       ∙ sym (andThen-of (doAll (deedsOf joins (newer .groups)) m) fromGroups (mergeWith numbers joinTable m (newer .groups)) (all-laid m))
 
-  joined-deeds : joinContexts newer c ≡ andThen (doAll (joinDeeds newer) (c .groups)) fromGroups
+  pub joined-deeds : joinContexts newer c ≡ andThen (doAll (joinDeeds newer) (c .groups)) fromGroups
   unfolding joinContexts
   joined-deeds =
       let tombs = doAll (map tombDeed (newer .tombstones)) (c .groups) in

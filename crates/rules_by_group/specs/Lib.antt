@@ -14,3 +14,5 @@ pub mod MergeLaws
 pub mod PartLaws
 pub mod WaitingLaws
 pub mod ByGroupLaws
+pub mod RunLaws
+pub mod KeptLaws

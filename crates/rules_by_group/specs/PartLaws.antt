@@ -190,7 +190,7 @@ pub record PartsKept (g : ℕ) (o : Option (List Part)) : Type 0 where
 kept-some : (g : ℕ) (ps : List Part) → ownParts g ps ≡ true → Shaped ps → PartsKept g (someParts ps)
 kept-some g ps h s = record { own = ap (ownParts g) (parts-some ps) ∙ h; shape = rw (parts-some ps) s; filled = ap someParts (parts-some ps) }
 
-waits-kept : (g : ℕ) (a : Accepted) (o : Option (List Part)) → OwnAccepted g a → ShapedAccepted a → waits a ≡ ok o → PartsKept g o
+pub waits-kept : (g : ℕ) (a : Accepted) (o : Option (List Part)) → OwnAccepted g a → ShapedAccepted a → waits a ≡ ok o → PartsKept g o
 unfolding waits OwnAccepted ShapedAccepted
 waits-kept g (wait ps) o h s e = rw (← (ok-inj e)) (kept-some g ps h s)
 waits-kept g (finish old ps) o h s e = rw (← (ok-inj e)) (kept-some g ps (h .1) s)
