@@ -186,7 +186,7 @@ cleans-cons : (call : Call) (x : LogItem) (xs : List LogItem) → cleanedBy call
 unfolding cleanedBy cleansBy cleansOf
 cleans-cons call x xs = split (sameQueue (writes call) Append) (λ q. rw q) (λ q. rw q)
 
-abbrev pub tombDeed : LogItem → Deed
+abbrev pub tombDeed : LogItem → Deed Table
 tombDeed it = record { group = it .group; by = λ o. ok (effected (it .content) o) }
 
 pub own-tombs : (g : ℕ) (xs : List LogItem) (o : Option Table) → own g (map tombDeed xs) o ≡ ok (tombed g xs o)

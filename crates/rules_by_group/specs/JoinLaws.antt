@@ -32,7 +32,7 @@ unfolding any
 never [] = refl
 never (x ∷ xs) = never xs
 
-abbrev joinDeeds : Context → List Deed
+abbrev joinDeeds : Context → List (Deed Table)
 joinDeeds newer = map tombDeed (newer .tombstones) ++ deedsOf joins (newer .groups)
 
 joins-laid : (g : ℕ) (n : Option Table) (o : Option Table) → orElse (ok o) (λ t. joins g t o) n ≡ ok (laid joinTable o n)

@@ -33,8 +33,17 @@ finishing older g ps = finishTable (finishedOf (some ps) (lookup numbers g older
 abbrev lays : LogQueue → ℕ → Table → Option Table → Result (Option Table)
 lays q = layBy (clashes q) (record { number = numberOf (clash q); place = none }) (mergeTable q)
 
-abbrev mergeDeeds : LogQueue → Context → Context → List Deed
-mergeDeeds q newer c = deedsOf (finishing (c .waiting)) (newer .waiting) ++ (map tombDeed (newer .tombstones) ++ deedsOf (lays q) (newer .groups))
+abbrev finishDeeds : Context → Context → List (Deed Table)
+finishDeeds newer c = deedsOf (finishing (c .waiting)) (newer .waiting)
+
+abbrev tombDeeds : Context → List (Deed Table)
+tombDeeds newer = map tombDeed (newer .tombstones)
+
+abbrev tableDeeds : LogQueue → Context → List (Deed Table)
+tableDeeds q newer = deedsOf (lays q) (newer .groups)
+
+abbrev mergeDeeds : LogQueue → Context → Context → List (Deed Table)
+mergeDeeds q newer c = finishDeeds newer c ++ (tombDeeds newer ++ tableDeeds q newer)
 
 finishing-all : (g : ℕ) (n older : Option (List Part)) (o : Option Table) → orElse (ok o) (λ ps. finishTable (finishedOf (some ps) older) o) n ≡ finishTable (finishedOf n older) o
 unfolding orElse
@@ -55,6 +64,28 @@ tables-laid q newer d asc =
     split bad
     (λ e. rw (all, e) (unfold andThen in refl))
     (λ e. rw (all, e) (unfold andThen in refl))
+
+-- ---- one group's deeds
+
+module _ (q : LogQueue) (newer c : Context) (kn : Kept newer) where
+  -- the tombstones and the tables, of one group
+  own-later : (g : ℕ) (o : Option Table) → own g (tombDeeds newer ++ tableDeeds q newer) o ≡ layOver q (lookup numbers g (newer .groups)) (tombed g (newer .tombstones) o)
+  own-later g o =
+      own-append g (tombDeeds newer) (tableDeeds q newer) o
+      ∙ andThen-of (own g (tombDeeds newer) o) (own g (tableDeeds q newer)) (tombed g (newer .tombstones) o) (own-tombs g (newer .tombstones) o)
+      ∙ own-map (lays q) g (newer .groups) (tombed g (newer .tombstones) o) (kn .groups-ascend)
+      ∙ lays-over q g (lookup numbers g (newer .groups)) (tombed g (newer .tombstones) o)
+
+  own-merged : (g : ℕ) → mergedAt q newer c g ≡ own g (mergeDeeds q newer c) (lookup numbers g (c .groups))
+  unfolding mergedAt mergedGroup
+  own-merged g =
+      let o = lookup numbers g (c .groups) in
+      let n = lookup numbers g (newer .waiting) in
+      let older = lookup numbers g (c .waiting) in
+      sym
+      (own-append g (finishDeeds newer c) (tombDeeds newer ++ tableDeeds q newer) o
+      ∙ ap (λ r. andThen r (own g (tombDeeds newer ++ tableDeeds q newer))) (own-map (finishing (c .waiting)) g (newer .waiting) o (kn .waiting-ascends) ∙ finishing-all g n older o)
+      ∙ andThen-same (finishTable (finishedOf n older) o) (own g (tombDeeds newer ++ tableDeeds q newer)) (λ u. layOver q (lookup numbers g (newer .groups)) (tombed g (newer .tombstones) u)) (own-later g))
 
 -- ---- refusals
 
@@ -123,34 +154,6 @@ Accepts newer c =
     (λ w. andThen (doAll (deedsOf (finishing (c .waiting)) newer) (c .groups)) (λ m. ok (acceptedTo w (finishedTombs newer (c .waiting)) c m)))
 
 module _ (q : LogQueue) (newer c : Context) (kn : Kept newer) (kc : Kept c) (is : newer .kind ≡ context q) where
-  abbrev tombDeeds : List Deed
-  tombDeeds = map tombDeed (newer .tombstones)
-
-  abbrev tableDeeds : List Deed
-  tableDeeds = deedsOf (lays q) (newer .groups)
-
-  abbrev finishDeeds : List Deed
-  finishDeeds = deedsOf (finishing (c .waiting)) (newer .waiting)
-
-  -- the tombstones and the tables, of one group
-  own-later : (g : ℕ) (o : Option Table) → own g (tombDeeds ++ tableDeeds) o ≡ layOver q (lookup numbers g (newer .groups)) (tombed g (newer .tombstones) o)
-  own-later g o =
-      own-append g tombDeeds tableDeeds o
-      ∙ andThen-of (own g tombDeeds o) (own g tableDeeds) (tombed g (newer .tombstones) o) (own-tombs g (newer .tombstones) o)
-      ∙ own-map (lays q) g (newer .groups) (tombed g (newer .tombstones) o) (kn .groups-ascend)
-      ∙ lays-over q g (lookup numbers g (newer .groups)) (tombed g (newer .tombstones) o)
-
-  own-merged : (g : ℕ) → mergedAt q newer c g ≡ own g (mergeDeeds q newer c) (lookup numbers g (c .groups))
-  unfolding mergedAt mergedGroup
-  own-merged g =
-      let o = lookup numbers g (c .groups) in
-      let n = lookup numbers g (newer .waiting) in
-      let older = lookup numbers g (c .waiting) in
-      sym
-      (own-append g finishDeeds (tombDeeds ++ tableDeeds) o
-      ∙ ap (λ r. andThen r (own g (tombDeeds ++ tableDeeds))) (own-map (finishing (c .waiting)) g (newer .waiting) o (kn .waiting-ascends) ∙ finishing-all g n older o)
-      ∙ andThen-same (finishTable (finishedOf n older) o) (own g (tombDeeds ++ tableDeeds)) (λ u. layOver q (lookup numbers g (newer .groups)) (tombed g (newer .tombstones) u)) (own-later g))
-
   abbrev fromGroups : Map ℕ (List Part) → Map ℕ Table → Result Context
   fromGroups w m = limited none (withGroups m (mergedRest newer w c))
 
@@ -179,25 +182,25 @@ module _ (q : LogQueue) (newer c : Context) (kn : Kept newer) (kc : Kept c) (is 
       by-queue Rewrite = unfold replayCall isLiveRewrite in refl
 
   -- the tombstones and the tables, on the groups that what finished left
-  later-deeds : (w : Map ℕ (List Part)) (m : Map ℕ Table) → Ascending numbers m → andThen (replayTombstones (replayCall q) (newer .tombstones) (finishedTo w m)) (mergeTables q newer) ≡ andThen (doAll (tombDeeds ++ tableDeeds) m) (fromGroups w)
+  later-deeds : (w : Map ℕ (List Part)) (m : Map ℕ Table) → Ascending numbers m → andThen (replayTombstones (replayCall q) (newer .tombstones) (finishedTo w m)) (mergeTables q newer) ≡ andThen (doAll (tombDeeds newer ++ tableDeeds q newer) m) (fromGroups w)
   later-deeds w m asc =
       let more = replayedTo (cleansBy (replayCall q) (newer .tombstones)) (finishedTo w m) in
       ap (λ r. andThen r (mergeTables q newer)) (tombs-replayed (replayCall q) not-live (newer .tombstones) (finishedTo w m) asc (kn .tombstones-only))
-      ∙ andThen-map (doAll tombDeeds m) more (mergeTables q newer)
-      ∙ andThen-same (doAll tombDeeds m) (λ n. mergeTables q newer (more n)) (λ n. andThen (doAll tableDeeds n) (fromGroups w)) (λ n. tables-laid q newer (more n) (kn .groups-ascend) ∙ andThen-same (doAll tableDeeds n) (λ k. limited none (withGroups k (more n))) (fromGroups w) (λ k. ap (limited none) (rest-is w m n k)))
-      ∙ sym (andThen-assoc (doAll tombDeeds m) (doAll tableDeeds) (fromGroups w))
-      ∙ ap (λ r. andThen r (fromGroups w)) (sym (do-append tombDeeds tableDeeds m))
+      ∙ andThen-map (doAll (tombDeeds newer) m) more (mergeTables q newer)
+      ∙ andThen-same (doAll (tombDeeds newer) m) (λ n. mergeTables q newer (more n)) (λ n. andThen (doAll (tableDeeds q newer) n) (fromGroups w)) (λ n. tables-laid q newer (more n) (kn .groups-ascend) ∙ andThen-same (doAll (tableDeeds q newer) n) (λ k. limited none (withGroups k (more n))) (fromGroups w) (λ k. ap (limited none) (rest-is w m n k)))
+      ∙ sym (andThen-assoc (doAll (tombDeeds newer) m) (doAll (tableDeeds q newer)) (fromGroups w))
+      ∙ ap (λ r. andThen r (fromGroups w)) (sym (do-append (tombDeeds newer) (tableDeeds q newer) m))
 
   module _ (accepts : Accepts (newer .waiting) start) where
-    finish-then : (w : Map ℕ (List Part)) → andThen (andThen (doAll finishDeeds (c .groups)) (λ m. ok (finishedTo w m))) (λ d. andThen (replayTombstones (replayCall q) (newer .tombstones) d) (mergeTables q newer)) ≡ andThen (doAll (mergeDeeds q newer c) (c .groups)) (fromGroups w)
+    finish-then : (w : Map ℕ (List Part)) → andThen (andThen (doAll (finishDeeds newer c) (c .groups)) (λ m. ok (finishedTo w m))) (λ d. andThen (replayTombstones (replayCall q) (newer .tombstones) d) (mergeTables q newer)) ≡ andThen (doAll (mergeDeeds q newer c) (c .groups)) (fromGroups w)
     finish-then w =
         let later : Context → Result Context = λ d. andThen (replayTombstones (replayCall q) (newer .tombstones) d) (mergeTables q newer) in
-        andThen-map (doAll finishDeeds (c .groups)) (finishedTo w) later
-        ∙ andThen-same-at (doAll finishDeeds (c .groups)) (λ m. later (finishedTo w m)) (λ m. andThen (doAll (tombDeeds ++ tableDeeds) m) (fromGroups w)) (λ m e. later-deeds w m (do-ascends finishDeeds (c .groups) m (kc .groups-ascend) e))
-        ∙ sym (andThen-assoc (doAll finishDeeds (c .groups)) (doAll (tombDeeds ++ tableDeeds)) (fromGroups w))
-        ∙ ap (λ r. andThen r (fromGroups w)) (sym (do-append finishDeeds (tombDeeds ++ tableDeeds) (c .groups)))
+        andThen-map (doAll (finishDeeds newer c) (c .groups)) (finishedTo w) later
+        ∙ andThen-same-at (doAll (finishDeeds newer c) (c .groups)) (λ m. later (finishedTo w m)) (λ m. andThen (doAll (tombDeeds newer ++ tableDeeds q newer) m) (fromGroups w)) (λ m e. later-deeds w m (do-ascends (finishDeeds newer c) (c .groups) m (kc .groups-ascend) e))
+        ∙ sym (andThen-assoc (doAll (finishDeeds newer c) (c .groups)) (doAll (tombDeeds newer ++ tableDeeds q newer)) (fromGroups w))
+        ∙ ap (λ r. andThen r (fromGroups w)) (sym (do-append (finishDeeds newer c) (tombDeeds newer ++ tableDeeds q newer) (c .groups)))
 
-    accepted : acceptAll (newer .waiting) start ≡ andThen (waitingAfter (newer .waiting) (c .waiting)) (λ w. andThen (doAll finishDeeds (c .groups)) (λ m. ok (finishedTo w m)))
+    accepted : acceptAll (newer .waiting) start ≡ andThen (waitingAfter (newer .waiting) (c .waiting)) (λ w. andThen (doAll (finishDeeds newer c) (c .groups)) (λ m. ok (finishedTo w m)))
     unfolding Accepts withTombstones
     accepted = accepts
 
@@ -206,14 +209,14 @@ module _ (q : LogQueue) (newer c : Context) (kn : Kept newer) (kc : Kept c) (is 
     unfolding mergeContexts
     merged-deeds =
         let later : Context → Result Context = λ d. andThen (replayTombstones (replayCall q) (newer .tombstones) d) (mergeTables q newer) in
-        let finished : Map ℕ (List Part) → Result Context = λ w. andThen (doAll finishDeeds (c .groups)) (λ m. ok (finishedTo w m)) in
+        let finished : Map ℕ (List Part) → Result Context = λ w. andThen (doAll (finishDeeds newer c) (c .groups)) (λ m. ok (finishedTo w m)) in
         ap (λ r. andThen r later) accepted
         ∙ andThen-assoc (waitingAfter (newer .waiting) (c .waiting)) finished later
         ∙ andThen-same (waitingAfter (newer .waiting) (c .waiting)) (λ w. andThen (finished w) later) (λ w. andThen (doAll (mergeDeeds q newer c) (c .groups)) (fromGroups w)) finish-then
 
     merged-by-group : ByGroup (mergedAt q newer c) (doAll (mergeDeeds q newer c) (c .groups))
     merged-by-group =
-        byGroup-ext (mergedAt q newer c) (λ g. own g (mergeDeeds q newer c) (lookup numbers g (c .groups))) (doAll (mergeDeeds q newer c) (c .groups)) own-merged (deeds-by-group (mergeDeeds q newer c) (c .groups) (kc .groups-ascend))
+        byGroup-ext (mergedAt q newer c) (λ g. own g (mergeDeeds q newer c) (lookup numbers g (c .groups))) (doAll (mergeDeeds q newer c) (c .groups)) (own-merged q newer c kn) (deeds-by-group (mergeDeeds q newer c) (c .groups) (kc .groups-ascend))
 
     merged-out : (gs : List ℕ) → Covers gs newer c → (g : ℕ) → isIn g gs ≡ false → mergedAt q newer c g ≡ ok none
     unfolding mergedAt mergedGroup

@@ -91,18 +91,18 @@ ShapedAccepted (wait ps) = Shaped ps
 ShapedAccepted (finish old ps) = Shaped ps
 ShapedAccepted back = Unit {0}
 
-behind-begin : (s : Status) (ps : List Part) → behind s ps ≡ true → behind begin ps ≡ true
-unfolding behind isBegin
-behind-begin s [] h = refl
-behind-begin s (o ∷ []) h = both-right (isBegin s) (isEnd (o .status)) h
-behind-begin s (o ∷ (r ∷ rs)) h = h
-
 -- behind a part that is no Begin stands nothing
 behind-none : (s r : Status) (ps : List Part) → isBegin s ≡ false → behind s ps ≡ true → behind r ps ≡ true
 unfolding behind
 behind-none s r [] n h = refl
 behind-none s r (o ∷ []) n h = absurd (true≢false (sym (both-left (isBegin s) (isEnd (o .status)) h) ∙ n))
 behind-none s r (o ∷ (p ∷ ps)) n h = absurd (false≢true h)
+
+behind-begin : (s : Status) (ps : List Part) → behind s ps ≡ true → behind begin ps ≡ true
+unfolding behind isBegin
+behind-begin s [] h = refl
+behind-begin s (o ∷ []) h = both-right (isBegin s) (isEnd (o .status)) h
+behind-begin s (o ∷ (r ∷ rs)) h = h
 
 behind-end : (s : Status) (old : Part) (ps : List Part) → isBegin s ≡ false → behind s ps ≡ true → isEnd (old .status) ≡ true → behind begin (old ∷ ps) ≡ true
 unfolding behind

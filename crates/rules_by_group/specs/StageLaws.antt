@@ -1,8 +1,8 @@
 -- Groups staged one after the other, over any list of numbers that covers: the answer is that of the map that the groups' own results make.
 -- Assumes nothing.
 use mathlib.Core.Path.{_≡_, refl, sym, ap, _∙_}
-use mathlib.Core.Bool.{Bool, true, false, cond, not, _&&_, _||_, true≢false, false≢true}
-use mathlib.Core.List.{List, [], _∷_}
+use mathlib.Core.Bool.{Bool, true, false, cond, not, _&&_, _||_, or-true, true≢false, false≢true}
+use mathlib.Core.List.{List, [], _∷_, _++_}
 use mathlib.Core.Option.{Option, none, some, Option·some-injective, Option·none-ne-some, Option·some-ne-none}
 use Prim.Native.Nat.{ℕ, _≤_}
 use native.Mathlib.Omega.{arith}
@@ -12,13 +12,15 @@ use borrow.Author.Tests.{leb-true, le-leb, lt-ltb, ltb-true, eqb-true}
 use Rattle.maps.specs.Lists.{any, every, orElse}
 use Rattle.maps.specs.Maps.{Pair, Map, lookup, insert, numbers}
 use Rattle.maps.specs.BoolLaws.{both, both-left, both-right}
+use Rattle.maps.specs.ListLaws.{any-append, every-from}
 use Rattle.maps.specs.OrderLaws.{split, numbersLawful}
 use Rattle.maps.specs.MapLaws.{Ascending, ascending-nil, ascending-insert, lookup-insert-same, lookup-insert-other, ext, length-insert-none, every-insert, every-lookup, length-sub}
 use Rattle.rules.specs.Limits.{maxGroups}
 use Rattle.rules.specs.Causes.{Cause, Refusal, Result, ok, refused, refuse, andThen, limitPassed}
+use Rattle.rules.specs.Items.{LogItem}
 use Rattle.rules.specs.Table.{Table}
 use Rattle.rules.specs.Context.{Context, withGroups, tableFits, waitingFits, fits, limited}
-use Rattle.rules_by_group.specs.Stage.{Staged, noneStaged, stageResult, stageOne, stageAll, restFits, answer, isIn}
+use Rattle.rules_by_group.specs.Stage.{Staged, noneStaged, stageResult, stageOne, stageAll, restFits, answer, isIn, Covers}
 use Rattle.rules_by_group.specs.ResultLaws.{ok-inj, refusalOf, refused-not-ok, byOption, byResult}
 use Rattle.rules_by_group.specs.DeedLaws.{ByGroup}
 
@@ -310,3 +312,35 @@ staged at (refused x) gs n rest by only covers =
   where
     in-list : isIn (by .0) gs ≡ true
     in-list = split (isIn (by .0) gs) (λ e. e) (λ e. absurd (refused-not-ok (sym (by .1) ∙ covers (by .0) e)))
+
+-- a list in two parts is staged part by part
+pub stage-append : (at : ℕ → Result (Option Table)) (gs hs : List ℕ) (s : Staged) → stageAll at (gs ++ hs) s ≡ stageAll at hs (stageAll at gs s)
+unfolding stageAll
+stage-append at [] hs s = refl
+stage-append at (g ∷ gs) hs s = stage-append at gs hs (stageOne at g s)
+
+-- ---- lists that cover
+
+in-left : (g : ℕ) (gs hs : List ℕ) → isIn g gs ≡ true → isIn g (gs ++ hs) ≡ true
+unfolding isIn
+in-left g gs hs e = any-append (eqb g) gs hs ∙ rw e
+
+in-right : (g : ℕ) (gs hs : List ℕ) → isIn g hs ≡ true → isIn g (gs ++ hs) ≡ true
+unfolding isIn
+in-right g gs hs e = any-append (eqb g) gs hs ∙ rw e (or-true (any (eqb g) gs))
+
+-- the numbers of the older groups, of the newer groups, of the newer tombstones and of the newer waiting parts, one list behind the other
+pub covers-lists :
+    (newer c : Context) (older groups tombs waiting : List ℕ)
+    → every (λ p. isIn (p .key) older) (c .groups) ≡ true
+    → every (λ p. isIn (p .key) groups) (newer .groups) ≡ true
+    → every (λ (it : LogItem). isIn (it .group) tombs) (newer .tombstones) ≡ true
+    → every (λ p. isIn (p .key) waiting) (newer .waiting) ≡ true
+    → Covers (older ++ (groups ++ (tombs ++ waiting))) newer c
+covers-lists newer c older groups tombs waiting o g t w =
+    record {
+      older-groups = every-from _ _ (c .groups) (λ p e. in-left (p .key) older (groups ++ (tombs ++ waiting)) e) o;
+      newer-groups = every-from _ _ (newer .groups) (λ p e. in-right (p .key) older (groups ++ (tombs ++ waiting)) (in-left (p .key) groups (tombs ++ waiting) e)) g;
+      newer-tombstones = every-from _ _ (newer .tombstones) (λ it e. in-right (it .group) older (groups ++ (tombs ++ waiting)) (in-right (it .group) groups (tombs ++ waiting) (in-left (it .group) tombs waiting e))) t;
+      newer-waiting = every-from _ _ (newer .waiting) (λ p e. in-right (p .key) older (groups ++ (tombs ++ waiting)) (in-right (p .key) groups (tombs ++ waiting) (in-right (p .key) tombs waiting e))) w;
+    }

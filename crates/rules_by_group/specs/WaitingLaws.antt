@@ -22,7 +22,7 @@ use Rattle.rules_by_group.specs.Group.{changed, tombOf, cleanOf, partsOf
 use Rattle.rules_by_group.specs.Stage.{acceptPartsOf, waitingAfter, tombsIn, finishedTombs}
 use Rattle.rules_by_group.specs.Kept.{isBegin, isEnd, behind, shaped, ownItems, ownParts}
 use Rattle.rules_by_group.specs.ResultLaws.{byResult, one-refusal, refusalOf, ok-inj, refused-not-ok, inOrder-kept, inOrder-refused, andThen-ok, andThen-of, andThen-refused, andThen-same, andThen-same-at, andThen-unit, andThen-assoc, andThen-map}
-use Rattle.rules_by_group.specs.DeedLaws.{Deed, doAll, deedsOf, deed-ok, deed-refused}
+use Rattle.rules_by_group.specs.DeedLaws.{Deed, doDeed, doAll, deedsOf, deed-ok, deed-refused, own, own-map, ByGroup, byGroup-ext, deeds-by-group}
 use Rattle.rules_by_group.specs.ItemLaws.{cleanedBy, keptBy, after, step-of}
 use Rattle.rules_by_group.specs.PartLaws.{own-items-append, own-head, own-tail, OwnAccepted, own-old, accept-own, begin-waits, PartsKept, kept-if, accept-kept, accept-refused, own-reverse}
 use Rattle.rules_by_group.specs.MergeLaws.{finishing, finish-refused, acceptedTo, Accepts}
@@ -453,3 +453,28 @@ accepts-all (x ∷ xs) c an own shape asc up k =
     (λ t h. cons-next x xs c group w e (ascending-head numbers x xs an) t h (accepts-all xs (firstDone x xs c w t) (ascending-tail numbers x xs an) (every-tail ownPair x xs own) (every-tail shapedPair x xs shape) (ascending-store numbers numbersLawful (x .key) t (c .groups) asc) (after-ascends x (c .waiting) w up e) (after-kept x (c .waiting) w up (every-head ownPair x xs own) k e)))
     (λ y h. cons-span x xs c group w e y h))
     (λ y e. cons-back x xs c group y e)
+
+-- ---- what waits, group by group
+
+-- the parts of one group after its newer parts, the oldest first
+unfoldable pub partsAfter : Option (List Part) → Option (List Part) → Result (Option (List Part))
+partsAfter newer older = inOrder acceptPart (reverse (partsOf newer)) older
+
+abbrev acceptDeed : ℕ → List Part → Option (List Part) → Result (Option (List Part))
+acceptDeed g ps = inOrder acceptPart (reverse ps)
+
+waiting-deeds : (newer w : Map ℕ (List Part)) → waitingAfter newer w ≡ doAll (deedsOf acceptDeed newer) w
+unfolding waitingAfter inOrder doAll deedsOf doDeed acceptPartsOf
+waiting-deeds [] w = refl
+waiting-deeds (x ∷ xs) w = andThen-same (acceptPartsOf x w) (waitingAfter xs) (doAll (deedsOf acceptDeed xs)) (waiting-deeds xs)
+
+one-group : (newer older : Option (List Part)) → orElse (ok older) (λ ps. inOrder acceptPart (reverse ps) older) newer ≡ partsAfter newer older
+unfolding orElse partsAfter partsOf
+one-group none older = unfold inOrder in refl
+one-group (some ps) older = refl
+
+-- what waits afterwards is each group's own; it is refused exactly if some group's files go back
+pub waiting-by-group : (newer w : Map ℕ (List Part)) → Ascending numbers newer → Ascending numbers w → ByGroup (λ g. partsAfter (lookup numbers g newer) (lookup numbers g w)) (waitingAfter newer w)
+waiting-by-group newer w an up =
+    rw (waiting-deeds newer w)
+    (byGroup-ext (λ g. partsAfter (lookup numbers g newer) (lookup numbers g w)) (λ g. own g (deedsOf acceptDeed newer) (lookup numbers g w)) (doAll (deedsOf acceptDeed newer) w) (λ g. sym (own-map acceptDeed g newer (lookup numbers g w) an ∙ one-group (lookup numbers g newer) (lookup numbers g w))) (deeds-by-group (deedsOf acceptDeed newer) w up))
