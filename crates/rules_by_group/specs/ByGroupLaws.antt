@@ -1,18 +1,16 @@
 -- Merge and join of the rules, over any list of numbers that covers, are the answers read off the staged groups.
 -- Assumes nothing.
-use mathlib.Core.Path.{_≡_, refl, sym, ap, _∙_}
-use mathlib.Core.Bool.{Bool, true, false, cond, _&&_}
+use mathlib.Core.Path.{_≡_, _∙_}
 use mathlib.Core.List.{List, _++_}
 use Prim.Native.Nat.{ℕ}
-use Rattle.maps.specs.MapLaws.{Ascending}
-use Rattle.rules.specs.Causes.{Cause, Result}
+use Rattle.rules.specs.Causes.{Cause}
 use Rattle.rules.specs.Items.{LogQueue, Append, Rewrite, sameQueue}
 use Rattle.rules.specs.Context.{context, isContext, Context, withTombstones}
 use Rattle.rules.specs.Calls.{mergeContexts, both, merge, joinContexts, join}
 use Rattle.rules_by_group.specs.Stage.{mergedBy, joinedBy, Covers}
 use Rattle.rules_by_group.specs.Kept.{Kept}
 use Rattle.rules_by_group.specs.MergeLaws.{Accepts, merge-by-accepts}
-use Rattle.rules_by_group.specs.WaitingLaws.{AllKept, all-kept, accepts-all}
+use Rattle.rules_by_group.specs.WaitingLaws.{all-kept, accepts-all}
 use Rattle.rules_by_group.specs.JoinLaws.{join-contexts-by-group}
 
 -- the newer waiting parts of a context, accepted by another
@@ -25,7 +23,7 @@ pub merge-contexts-by-group : (q : LogQueue) (newer c : Context) (gs : List ℕ)
 merge-contexts-by-group q newer c gs kn kc is v = merge-by-accepts q newer c kn kc is (kept-accepts newer c kn kc) gs v
 
 -- two contexts of queue q are merged
-merge-is : (q : LogQueue) (newer c : Context) → newer .kind ≡ context q → c .kind ≡ context q → merge newer c ≡ mergeContexts q newer c
+pub merge-is : (q : LogQueue) (newer c : Context) → newer .kind ≡ context q → c .kind ≡ context q → merge newer c ≡ mergeContexts q newer c
 unfolding merge both isContext sameQueue
 merge-is Append newer c n o = rw (n, o)
 merge-is Rewrite newer c n o = rw (n, o)

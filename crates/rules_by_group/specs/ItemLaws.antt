@@ -1,9 +1,9 @@
 -- What an item does to a context: to its own group, to the cleaned numbers and to the tombstones.
 -- Assumes nothing.
 use mathlib.Core.Path.{_≡_, refl, sym, ap, _∙_}
-use mathlib.Core.Bool.{Bool, true, false, cond, _&&_, true≢false, false≢true}
+use mathlib.Core.Bool.{Bool, true, false, cond, true≢false, false≢true}
 use mathlib.Core.List.{List, [], _∷_, _++_, map, append-assoc, append-nil}
-use mathlib.Core.Option.{Option, none, some}
+use mathlib.Core.Option.{Option, none}
 use Prim.Native.Nat.{ℕ}
 use lib.Dec.{eqb}
 use borrow.Author.Tests.{eqb-true}
@@ -12,10 +12,10 @@ use Rattle.maps.specs.Maps.{Map, lookup, store, numbers}
 use Rattle.maps.specs.ListLaws.{every-head, every-tail}
 use Rattle.maps.specs.OrderLaws.{split, numbersLawful}
 use Rattle.maps.specs.MapLaws.{Ascending, ascending-store, store-again}
-use Rattle.rules.specs.Causes.{Refusal, Result, ok, refused, andThen, inOrder, placed}
+use Rattle.rules.specs.Causes.{Refusal, ok, refused, andThen, inOrder, placed}
 use Rattle.rules.specs.Items.{Append, sameQueue, clean, compact, put, del, Content, entries, command, kv, LogItem, Placed, isReserved, isClean, isTombstone, Call, writes, isLiveRewrite}
-use Rattle.rules.specs.Table.{Table, made, change, changeTo, commandTo}
-use Rattle.rules.specs.Context.{Context, withGroups, withTombstones, withCleaned, Judge, addCleaned, act, keeps, addTombstone, step, replayTombstones}
+use Rattle.rules.specs.Table.{Table, change, changeTo, commandTo}
+use Rattle.rules.specs.Context.{Context, withGroups, withTombstones, withCleaned, fits, Judge, limited, addCleaned, act, keeps, addTombstone, step, replayTombstones}
 use Rattle.rules_by_group.specs.Group.{changed, effect, effected, tombed, tombOf, cleanOf, cleansOf}
 use Rattle.rules_by_group.specs.Kept.{allTombstones}
 use Rattle.rules_by_group.specs.ResultLaws.{ok-inj, byResult, refused-not-ok, andThen-of, andThen-same}
@@ -155,6 +155,24 @@ module _ (judge : Judge) (call : Call) (x : Placed) (c : Context) (asc : Ascendi
       byResult (changed call (x .item .content) (lookup numbers (x .item .group) (c .groups)))
       (λ t e. (t, e, sym (step-of t e) ∙ h))
       (λ r e. absurd (refused-not-ok (sym (step-not r (act-refused call (x .item) c asc r e)) ∙ h)))
+
+-- ---- judged by the limits
+
+pub limited-fits : (p : Option ℕ) (c : Context) → fits c ≡ true → limited p c ≡ ok c
+unfolding limited
+limited-fits p c h = rw h
+
+-- an accepted state is the state judged
+pub limited-ok : (p : Option ℕ) (c d : Context) → limited p c ≡ ok d → (c ≡ d) × (fits c ≡ true)
+unfolding limited
+limited-ok p c d h = split (fits c) (λ e. (ok-inj (rw e at h), e)) (λ e. absurd (refused-not-ok (rw e at h)))
+
+-- what an accepted item of a batch has done
+pub step-taken : (call : Call) (x : Placed) (c d : Context) → Ascending numbers (c .groups) → step limited call x c ≡ ok d → (t : Option Table) × (changed call (x .item .content) (lookup numbers (x .item .group) (c .groups)) ≡ ok t) × (d ≡ after call (x .item) t c) × (fits d ≡ true)
+step-taken call x c d asc h =
+    let s = step-ok limited call x c asc d h in
+    let l = limited-ok (x .place) (after call (x .item) (s .0) c) d (s .2) in
+    (s .0, s .1, sym (l .0), rw (l .0) at (l .1))
 
 -- ---- tombstones, replayed and not kept a second time
 

@@ -1,20 +1,20 @@
 -- A join group by group.
 -- Assumes nothing.
 use mathlib.Core.Path.{_≡_, refl, sym, ap, _∙_}
-use mathlib.Core.Bool.{Bool, true, false, cond}
+use mathlib.Core.Bool.{false}
 use mathlib.Core.List.{List, [], _∷_, _++_, map}
 use mathlib.Core.Option.{Option, none, some}
 use Prim.Native.Nat.{ℕ}
 use Rattle.maps.specs.Lists.{any, orElse}
 use Rattle.maps.specs.Maps.{Pair, Map, lookup, mergeWith, numbers}
-use Rattle.maps.specs.MapLaws.{Ascending, laid}
-use Rattle.rules.specs.Causes.{Cause, Refusal, Result, ok, refused, refuse, andThen, wrongKind}
+use Rattle.maps.specs.MapLaws.{laid}
+use Rattle.rules.specs.Causes.{Cause, Refusal, Result, ok, refused, andThen}
 use Rattle.rules.specs.Items.{Append, sameQueue, liveAppend, writes, isLiveRewrite}
 use Rattle.rules.specs.Table.{Table}
-use Rattle.rules.specs.Context.{context, index, Context, withGroups, limited, replayTombstones}
+use Rattle.rules.specs.Context.{context, index, Context, withGroups, limited}
 use Rattle.rules.specs.Calls.{joinTable, indexOf, joinContexts}
 use Rattle.rules_by_group.specs.Group.{tombed, joinedGroup}
-use Rattle.rules_by_group.specs.Stage.{stageAll, noneStaged, answer, joinedRest, joinedAt, joinedBy, isIn, Covers}
+use Rattle.rules_by_group.specs.Stage.{joinedRest, joinedAt, joinedBy, isIn, Covers}
 use Rattle.rules_by_group.specs.Kept.{Kept}
 use Rattle.rules_by_group.specs.KindLaws.{append-cleaned}
 use Rattle.rules_by_group.specs.ResultLaws.{refused-not-ok, andThen-of, andThen-same, andThen-assoc, andThen-map}

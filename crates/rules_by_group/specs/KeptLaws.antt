@@ -1,23 +1,21 @@
 -- Every call keeps what every context keeps, and a fresh context has it.
 -- Assumes nothing.
 use mathlib.Core.Path.{_≡_, refl, sym, ap, _∙_}
-use mathlib.Core.Bool.{Bool, true, false, cond, _&&_, true≢false, false≢true}
+use mathlib.Core.Bool.{true, _&&_, false≢true}
 use mathlib.Core.List.{List, [], _∷_, _++_, append-nil}
 use mathlib.Core.Option.{Option, none, some}
 use Prim.Native.Nat.{ℕ}
-use lib.Dec.{leb}
-use lib.ListN.{length}
-use Rattle.maps.specs.Lists.{select, every, orElse}
+use Rattle.maps.specs.Lists.{every, orElse}
 use Rattle.maps.specs.Maps.{Pair, Map, lookup, numbers}
 use Rattle.maps.specs.BoolLaws.{both-left, both-right}
 use Rattle.maps.specs.ListLaws.{every-select}
 use Rattle.maps.specs.OrderLaws.{split, numbersLawful}
 use Rattle.maps.specs.MapLaws.{Ascending, ascending-nil, every-intro}
-use Rattle.rules.specs.Causes.{Refusal, Result, ok, refused, refuse, andThen, inOrder, left, wrongKind}
+use Rattle.rules.specs.Causes.{Result, ok, refused, inOrder, left}
 use Rattle.rules.specs.Items.{LogQueue, Append, Rewrite, sameQueue, Batch, LogItem, placedFrom, isTombstone, Call, replayAppend, replayRewrite, liveAppend, liveRewrite}
 use Rattle.rules.specs.Checks.{Mark, firstMark, checks}
 use Rattle.rules.specs.Table.{Table}
-use Rattle.rules.specs.Context.{Kind, context, index, isContext, isIndex, Part, Context, fresh, withGroups, withTombstones, withCleaned, limited, run}
+use Rattle.rules.specs.Context.{Kind, context, index, isContext, isIndex, Part, Context, fresh, withGroups, withCleaned}
 use Rattle.rules.specs.Waiting.{replayMarked}
 use Rattle.rules.specs.Calls.{checked, runBatch, replayBatch, replay, mergeContexts, both, merge, joinContexts, join, write, append, rewrite}
 use Rattle.rules.specs.Queries.{takeCleaned, afterTaking}
@@ -26,13 +24,14 @@ use Rattle.rules_by_group.specs.Stage.{acceptPartsOf, waitingAfter, tomb
 use Rattle.rules_by_group.specs.Kept.{shaped, ownParts, allTombstones, KeptBy, Kept}
 use Rattle.rules_by_group.specs.ResultLaws.{ok-inj, refused-not-ok, byResult, byOption, andThen-ok, inOrder-kept}
 use Rattle.rules_by_group.specs.DeedLaws.{do-ascends}
+use Rattle.rules_by_group.specs.ItemLaws.{limited-ok}
 use Rattle.rules_by_group.specs.KindLaws.{kept-by, append-cleaned, append-waits, rewrite-cleaned, index-empty}
-use Rattle.rules_by_group.specs.PartLaws.{PartsKept, kept-own, kept-shaped}
+use Rattle.rules_by_group.specs.PartLaws.{kept-own, kept-shaped}
 use Rattle.rules_by_group.specs.MergeLaws.{merged-deeds}
 use Rattle.rules_by_group.specs.WaitingLaws.{AllKept, all-kept, kept-of, after-ascends, after-kept}
 use Rattle.rules_by_group.specs.JoinLaws.{joined-deeds}
 use Rattle.rules_by_group.specs.ByGroupLaws.{kept-accepts}
-use Rattle.rules_by_group.specs.RunLaws.{cleans-append, tombs-append, tombs-nil, KindKept, KeptAt, limited-same, append-keeps, rewrite-keeps, live-append-keeps, live-rewrite-keeps, run-keeps, marked-keeps}
+use Rattle.rules_by_group.specs.RunLaws.{cleans-append, tombs-append, tombs-nil, KindKept, KeptAt, append-keeps, rewrite-keeps, live-append-keeps, live-rewrite-keeps, run-keeps, marked-keeps}
 
 -- ---- fresh
 
@@ -179,7 +178,7 @@ module _ (newer c : Context) (kn : Kept newer) (kc : Kept c) where
   merge-contexts-kept q d n o e =
       let s = andThen-ok _ _ d (sym (merged-deeds q newer c kn kc n (kept-accepts newer c kn kc)) ∙ e) in
       let t = andThen-ok _ _ d (s .2) in
-      rw (← (limited-same none (withGroups (t .0) (mergedRest newer (s .0) c)) d (t .2))) (merged-keeps q (s .0) (t .0) n o (s .1) (do-ascends _ (c .groups) (t .0) (kc .groups-ascend) (t .1)))
+      rw (← (limited-ok none (withGroups (t .0) (mergedRest newer (s .0) c)) d (t .2) .0)) (merged-keeps q (s .0) (t .0) n o (s .1) (do-ascends _ (c .groups) (t .0) (kc .groups-ascend) (t .1)))
 
   both-are : (q : LogQueue) → both q newer c ≡ true → (newer .kind ≡ context q) × (c .kind ≡ context q)
   unfolding both
@@ -212,7 +211,7 @@ module _ (newer c : Context) (kn : Kept newer) (kc : Kept c) where
   join-contexts-kept : (d : Context) → newer .kind ≡ context Append → joinContexts newer c ≡ ok d → Kept d
   join-contexts-kept d n e =
       let t = andThen-ok _ _ d (sym (joined-deeds newer c kn kc n) ∙ e) in
-      rw (← (limited-same none (withGroups (t .0) (joinedRest newer c)) d (t .2))) (joined-keeps (t .0) (do-ascends _ (c .groups) (t .0) (kc .groups-ascend) (t .1)))
+      rw (← (limited-ok none (withGroups (t .0) (joinedRest newer c)) d (t .2) .0)) (joined-keeps (t .0) (do-ascends _ (c .groups) (t .0) (kc .groups-ascend) (t .1)))
 
   pub join-kept : (d : Context) → join newer c ≡ ok d → Kept d
   unfolding join

@@ -1,8 +1,8 @@
 -- What a context keeps by its kind.
 -- Assumes nothing.
-use mathlib.Core.Path.{_≡_, refl, sym}
+use mathlib.Core.Path.{_≡_, sym}
 use mathlib.Core.List.{[]}
-use Rattle.rules.specs.Items.{LogQueue, Append, Rewrite, sameQueue, replayAppend, replayRewrite, writes}
+use Rattle.rules.specs.Items.{LogQueue, Append, Rewrite, sameQueue, writes}
 use Rattle.rules.specs.Context.{Kind, context, index, Context}
 use Rattle.rules.specs.Calls.{replayCall}
 use Rattle.rules_by_group.specs.Group.{cleansOf}

@@ -1,11 +1,11 @@
 -- Newer tables laid over a map of tables, as deeds; and what the numbers of a list cover.
 -- Assumes nothing.
-use mathlib.Core.Path.{_≡_, refl, sym, ap, _∙_}
-use mathlib.Core.Bool.{Bool, true, false, cond, _||_, true≢false}
+use mathlib.Core.Path.{_≡_, refl, sym, _∙_}
+use mathlib.Core.Bool.{Bool, true, false, cond, true≢false}
 use mathlib.Core.List.{List, [], _∷_}
 use mathlib.Core.Option.{Option, none, some}
 use Prim.Native.Nat.{ℕ}
-use Rattle.maps.specs.Lists.{any, every, orElse}
+use Rattle.maps.specs.Lists.{any, every}
 use Rattle.maps.specs.Maps.{Pair, Map, lookup, insert, store, mergeWith, numbers}
 use Rattle.maps.specs.OrderLaws.{split, numbersLawful, above-differs}
 use Rattle.maps.specs.MapLaws.{AllBelow, Ascending, ascending-head, ascending-tail, lookup-insert-other, every-lookup}

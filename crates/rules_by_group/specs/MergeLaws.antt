@@ -1,16 +1,16 @@
 -- A merge group by group.
 -- Assumes nothing.
 use mathlib.Core.Path.{_≡_, refl, sym, ap, _∙_}
-use mathlib.Core.Bool.{Bool, true, false, cond}
-use mathlib.Core.List.{List, [], _∷_, _++_, map, append-nil}
+use mathlib.Core.Bool.{false}
+use mathlib.Core.List.{List, [], _∷_, _++_, map}
 use mathlib.Core.Option.{Option, none, some}
 use Prim.Native.Nat.{ℕ}
 use Rattle.maps.specs.Lists.{any, last, orElse}
-use Rattle.maps.specs.Maps.{Pair, Map, lookup, mergeWith, numbers}
+use Rattle.maps.specs.Maps.{Map, lookup, numbers}
 use Rattle.maps.specs.OrderLaws.{split}
 use Rattle.maps.specs.MapLaws.{Ascending}
-use Rattle.rules.specs.Causes.{Cause, numberOf, Refusal, Result, ok, refused, refuse, andThen, inOrder, filesGoBack}
-use Rattle.rules.specs.Items.{LogQueue, Append, Rewrite, LogItem, replayAppend, replayRewrite, isLiveRewrite}
+use Rattle.rules.specs.Causes.{numberOf, Refusal, Result, ok, refused, refuse, andThen, filesGoBack}
+use Rattle.rules.specs.Items.{LogQueue, Append, Rewrite, LogItem, isLiveRewrite}
 use Rattle.rules.specs.Table.{Span, Table, made, spanGoesBack, spanned}
 use Rattle.rules.specs.Context.{context, Part, Context, withGroups, withTombstones, limited, replayTombstones}
 use Rattle.rules.specs.Waiting.{acceptAll}
@@ -20,7 +20,7 @@ use Rattle.rules_by_group.specs.Stage.{stageAll, noneStaged, answer, wai
 use Rattle.rules_by_group.specs.Kept.{Kept}
 use Rattle.rules_by_group.specs.KindLaws.{append-waits, cleaned-again}
 use Rattle.rules_by_group.specs.ResultLaws.{byResult, one-refusal, refusalOf, refused-not-ok, andThen-of, andThen-refused, andThen-same, andThen-same-at, andThen-assoc, andThen-map}
-use Rattle.rules_by_group.specs.DeedLaws.{Deed, doAll, do-append, do-ascends, deedsOf, own, own-append, own-map, ByGroup, byGroup-ext, deeds-by-group}
+use Rattle.rules_by_group.specs.DeedLaws.{Deed, doAll, do-append, do-ascends, deedsOf, own, own-append, own-map, ByGroup, byGroup-ext, by-group-is, deeds-by-group}
 use Rattle.rules_by_group.specs.ItemLaws.{tombDeed, own-tombs, cleansBy, replayedTo, tombs-replayed, tombed-other}
 use Rattle.rules_by_group.specs.LayLaws.{layBy, lay-all, lookup-uncovered}
 use Rattle.rules_by_group.specs.StageLaws.{staged}
@@ -128,7 +128,7 @@ rewrite-refused g f tombs n o x e =
     (λ z k. one-refusal (andThen (finishTable f o) over) x z e (andThen-refused (finishTable f o) over z k) ∙ finish-refused f o z k)
 
 -- with nothing that finishes
-unfinished : (q : LogQueue) (newer c : Context) (g : ℕ) → newer .waiting ≡ [] → mergedAt q newer c g ≡ layOver q (lookup numbers g (newer .groups)) (tombed g (newer .tombstones) (lookup numbers g (c .groups)))
+pub unfinished : (q : LogQueue) (newer c : Context) (g : ℕ) → newer .waiting ≡ [] → mergedAt q newer c g ≡ layOver q (lookup numbers g (newer .groups)) (tombed g (newer .tombstones) (lookup numbers g (c .groups)))
 unfolding mergedAt mergedGroup finishedOf partsOf last finishTable orElse lookup andThen
 unfinished q newer c g e = rw e
 
@@ -223,6 +223,13 @@ module _ (q : LogQueue) (newer c : Context) (kn : Kept newer) (kc : Kept c) (is 
     merged-out gs v g n =
         rw (lookup-uncovered gs g (newer .waiting) (v .newer-waiting) n, lookup-uncovered gs g (newer .groups) (v .newer-groups) n, lookup-uncovered gs g (c .groups) (v .older-groups) n)
         (unfold finishedOf partsOf last finishTable andThen layOver orElse in ap (λ o. ok o) (tombed-other (λ k. isIn k gs) g (newer .tombstones) none (v .newer-tombstones) n))
+
+    -- where every group's own result is known
+    pub merge-of-groups : (w : Map ℕ (List Part)) (m : Map ℕ Table) → waitingAfter (newer .waiting) (c .waiting) ≡ ok w → Ascending numbers m → ((g : ℕ) → mergedAt q newer c g ≡ ok (lookup numbers g m)) → mergeContexts q newer c ≡ limited none (withGroups m (mergedRest newer w c))
+    merge-of-groups w m e asc h =
+        merged-deeds
+        ∙ andThen-of (waitingAfter (newer .waiting) (c .waiting)) (λ v. andThen (doAll (mergeDeeds q newer c) (c .groups)) (fromGroups v)) w e
+        ∙ andThen-of (doAll (mergeDeeds q newer c) (c .groups)) (fromGroups w) m (by-group-is (mergedAt q newer c) (doAll (mergeDeeds q newer c) (c .groups)) m merged-by-group asc h)
 
     -- over any list of numbers that covers, the merge is the answer read off the staged groups
     pub merge-by-accepts : (gs : List ℕ) → Covers gs newer c → mergeContexts q newer c ≡ mergedBy q newer c gs

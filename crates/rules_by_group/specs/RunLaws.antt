@@ -1,9 +1,9 @@
 -- Batches keep what every context keeps: items in order, and marked batches.
 -- Assumes nothing.
 use mathlib.Core.Path.{_≡_, refl, sym, ap, _∙_}
-use mathlib.Core.Bool.{Bool, true, false, cond, not, _&&_, _||_, true≢false, false≢true}
-use mathlib.Core.List.{List, [], _∷_, _++_, map, append-assoc, append-nil}
-use mathlib.Core.Option.{Option, none, some, Option·none-ne-some, Option·some-ne-none}
+use mathlib.Core.Bool.{Bool, true, false, not, true≢false}
+use mathlib.Core.List.{List, [], _∷_, _++_, append-assoc, append-nil}
+use mathlib.Core.Option.{Option, none, some, Option·some-ne-none}
 use Prim.Native.Nat.{ℕ, suc}
 use lib.Dec.{eqb}
 use borrow.Author.Tests.{not-false}
@@ -12,20 +12,20 @@ use Rattle.maps.specs.Maps.{Pair, Map, lookup, insert, store, numbers}
 use Rattle.maps.specs.BoolLaws.{both, neither-left}
 use Rattle.maps.specs.ListLaws.{every-append, every-all, every-map, every-selected, every-head, every-tail, every-cons}
 use Rattle.maps.specs.OrderLaws.{split, numbersLawful}
-use Rattle.maps.specs.MapLaws.{Ascending, ascending-nil, ascending-store, ascending-insert, every-store, every-intro}
-use Rattle.rules.specs.Causes.{Cause, Refusal, Result, ok, refused, refuseAt, andThen, inOrder, badMark}
-use Rattle.rules.specs.Items.{LogQueue, Append, Rewrite, sameQueue, clean, compact, put, del, Content, entries, command, kv, LogItem, Placed, placedAt, placedFrom, isClean, isTombstone, isMark, Call, replayAppend, replayRewrite, liveAppend, liveRewrite, writes}
+use Rattle.maps.specs.MapLaws.{Ascending, ascending-store, ascending-insert, every-store}
+use Rattle.rules.specs.Causes.{Cause, Refusal, ok, badMark}
+use Rattle.rules.specs.Items.{Append, Rewrite, sameQueue, Content, entries, command, kv, LogItem, Placed, placedAt, placedFrom, isClean, isTombstone, isMark, Call, replayAppend, replayRewrite, liveAppend, liveRewrite, writes}
 use Rattle.rules.specs.Checks.{Mark, firstMark, breaksMark, isRewriteReplay, meets7, orNext, checks}
 use Rattle.rules.specs.Table.{Span, Table, made, spanned}
-use Rattle.rules.specs.Context.{Kind, context, index, Part, Context, fresh, withGroups, withWaiting, fits, limited, keeps, step, run}
+use Rattle.rules.specs.Context.{Kind, context, index, Part, Context, withGroups, withWaiting, limited, keeps, step, run}
 use Rattle.rules.specs.Waiting.{Accepted, wait, finish, back, accept, someParts, setWaiting, setSpan, finishGroup, become, acceptNewGroup, partOf, replayMarked}
-use Rattle.rules_by_group.specs.Group.{changed, tombOf, cleanOf, cleansOf, partsOf, waits}
+use Rattle.rules_by_group.specs.Group.{tombOf, cleanOf, cleansOf, partsOf, waits}
 use Rattle.rules_by_group.specs.Kept.{shaped, ownItems, ownParts, allTombstones, KeptBy, Kept}
-use Rattle.rules_by_group.specs.ResultLaws.{ok-inj, refused-not-ok, byResult, andThen-ok, inOrder-kept}
+use Rattle.rules_by_group.specs.ResultLaws.{ok-inj, refused-not-ok, andThen-ok, inOrder-kept}
 use Rattle.rules_by_group.specs.KindLaws.{kept-at, kept-by, rewrite-cleaned}
-use Rattle.rules_by_group.specs.ItemLaws.{cleanedBy, keptBy, after, step-ok}
+use Rattle.rules_by_group.specs.ItemLaws.{cleanedBy, keptBy, after, limited-ok, step-taken}
 use Rattle.rules_by_group.specs.PartLaws.{OwnAccepted, accept-own, ShapedAccepted, accept-shaped, PartsKept, waits-kept, kept-own, kept-shaped}
-use Rattle.rules_by_group.specs.WaitingLaws.{AllKept, all-kept, kept-of}
+use Rattle.rules_by_group.specs.WaitingLaws.{all-kept, kept-of}
 
 -- ---- lists of tombstones and their Cleans
 
@@ -92,11 +92,6 @@ pub live-rewrite-keeps : (gate : Option ℕ) (s : ℕ) → KindKept index (liveR
 unfolding KindKept KeptBy after keptBy keeps
 live-rewrite-keeps gate s it t c h = (h .0, append-nil (c .tombstones) ∙ h .1)
 
--- an accepted state is the state judged
-pub limited-same : (p : Option ℕ) (c d : Context) → limited p c ≡ ok d → c ≡ d
-unfolding limited
-limited-same p c d e = split (fits c) (λ s. ok-inj (rw s at e)) (λ s. absurd (refused-not-ok (rw s at e)))
-
 -- what is kept, of a kind
 pub record KeptAt (k : Kind) (c : Context) : Type 0 where
   pub is-kind : c .kind ≡ k
@@ -123,8 +118,8 @@ module _ (k : Kind) (call : Call) (keep : KindKept k call) where
 
   step-keeps : (x : Placed) (c d : Context) → KeptAt k c → step limited call x c ≡ ok d → KeptAt k d
   step-keeps x c d h e =
-      let s = step-ok limited call x c (h .kept .groups-ascend) d e in
-      rw (← (limited-same (x .place) (after call (x .item) (s .0) c) d (s .2))) (after-keeps (x .item) (s .0) c h)
+      let s = step-taken call x c d (h .kept .groups-ascend) e in
+      rw (s .2) (after-keeps (x .item) (s .0) c h)
 
   -- items in order, each judged by the limits
   pub run-keeps : (xs : List Placed) (c d : Context) → KeptAt k c → run limited call xs c ≡ ok d → KeptAt k d
@@ -170,7 +165,7 @@ module _ (g : ℕ) (c : Context) (h : KeptAt (context Rewrite) c) where
   unfolding setSpan
   span-keeps p s d e =
       let r = andThen-ok (spanned s (made (lookup numbers g (c .groups)))) (λ t. limited p (withGroups (insert numbers g t (c .groups)) c)) d e in
-      rw (← (limited-same p (withGroups (insert numbers g (r .0) (c .groups)) c) d (r .2))) (groups-keep (insert numbers g (r .0) (c .groups)) (ascending-insert numbers numbersLawful g (r .0) (c .groups) (h .kept .groups-ascend)))
+      rw (← (limited-ok p (withGroups (insert numbers g (r .0) (c .groups)) c) d (r .2) .0)) (groups-keep (insert numbers g (r .0) (c .groups)) (ascending-insert numbers numbersLawful g (r .0) (c .groups) (h .kept .groups-ascend)))
 
 finish-keeps : (p : Option ℕ) (g : ℕ) (s : Span) (xs : List Placed) (c d : Context) → KeptAt (context Rewrite) c → finishGroup limited p g s xs c ≡ ok d → KeptAt (context Rewrite) d
 unfolding finishGroup
@@ -182,7 +177,7 @@ finish-keeps p g s (x ∷ xs) c d h e =
 become-keeps : (p : Option ℕ) (g : ℕ) (new : Part) (xs : List Placed) (c d : Context) (a : Accepted) → OwnAccepted g a → ShapedAccepted a → KeptAt (context Rewrite) c → become limited p g new xs c a ≡ ok d → KeptAt (context Rewrite) d
 unfolding become
 become-keeps p g new xs c d (wait ps) o s h e =
-    rw (← (limited-same p (setWaiting g ps c) d e)) (waiting-keeps g c h ps (waits-kept g (wait ps) (someParts ps) o s (unfold waits in refl)))
+    rw (← (limited-ok p (setWaiting g ps c) d e .0)) (waiting-keeps g c h ps (waits-kept g (wait ps) (someParts ps) o s (unfold waits in refl)))
 become-keeps p g new xs c d (finish old ps) o s h e =
     finish-keeps p g (record { start = old .start; end = new .end }) (placedAt p (old .items) ++ xs) (setWaiting g ps c) d (waiting-keeps g c h ps (waits-kept g (finish old ps) (someParts ps) o s (unfold waits in refl))) e
 become-keeps p g new xs c d back o s h e = absurd (refused-not-ok e)

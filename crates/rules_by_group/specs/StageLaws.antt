@@ -1,9 +1,9 @@
 -- Groups staged one after the other, over any list of numbers that covers: the answer is that of the map that the groups' own results make.
 -- Assumes nothing.
 use mathlib.Core.Path.{_≡_, refl, sym, ap, _∙_}
-use mathlib.Core.Bool.{Bool, true, false, cond, not, _&&_, _||_, or-true, true≢false, false≢true}
+use mathlib.Core.Bool.{Bool, true, false, cond, not, _&&_, or-true, true≢false, false≢true}
 use mathlib.Core.List.{List, [], _∷_, _++_}
-use mathlib.Core.Option.{Option, none, some, Option·some-injective, Option·none-ne-some, Option·some-ne-none}
+use mathlib.Core.Option.{Option, none, some, Option·none-ne-some, Option·some-ne-none}
 use Prim.Native.Nat.{ℕ, _≤_}
 use native.Mathlib.Omega.{arith}
 use lib.Dec.{leb, ltb, eqb}

@@ -1,8 +1,8 @@
 -- Newer waiting parts accepted: what waits afterwards depends on the parts alone, and what finishes is done to its own group.
 -- Assumes nothing.
 use mathlib.Core.Path.{_≡_, refl, sym, ap, _∙_}
-use mathlib.Core.Bool.{Bool, true, false, cond, _&&_, true≢false, false≢true}
-use mathlib.Core.List.{List, [], _∷_, _++_, map, reverse, append-assoc, append-nil}
+use mathlib.Core.Bool.{Bool, true, false≢true}
+use mathlib.Core.List.{List, [], _∷_, _++_, reverse, append-assoc, append-nil}
 use mathlib.Core.Option.{Option, none, some}
 use Prim.Native.Nat.{ℕ}
 use lib.Dec.{eqb}
@@ -13,16 +13,16 @@ use Rattle.maps.specs.ListLaws.{every-head, every-tail}
 use Rattle.maps.specs.BoolLaws.{both-left}
 use Rattle.maps.specs.OrderLaws.{split, numbersLawful, above-differs}
 use Rattle.maps.specs.MapLaws.{AllBelow, Ascending, ascending-head, ascending-tail, ascending-store, lookup-store, lookup-store-same, lookup-store-other, store-again, store-store, every-lookup}
-use Rattle.rules.specs.Causes.{Refusal, Result, ok, refused, refuse, andThen, inOrder, left, filesGoBack}
-use Rattle.rules.specs.Items.{Append, sameQueue, clean, compact, put, del, Content, entries, command, kv, LogItem, Placed, placedAt, isReserved, isTombstone, replayRewrite, writes, isLiveRewrite}
-use Rattle.rules.specs.Table.{Span, Table, made, spanned, entriesTo, putTo, changeTo, commandTo, change}
+use Rattle.rules.specs.Causes.{Refusal, Result, ok, refused, andThen, inOrder, left, filesGoBack}
+use Rattle.rules.specs.Items.{sameQueue, put, del, Content, entries, command, kv, LogItem, placedAt, isReserved, isTombstone, replayRewrite, writes}
+use Rattle.rules.specs.Table.{Span, Table, made, spanned, entriesTo, putTo, changeTo, change}
 use Rattle.rules.specs.Context.{Part, Context, withGroups, withWaiting, unjudged, keeps, step, run}
 use Rattle.rules.specs.Waiting.{Accepted, wait, finish, back, accept, someParts, setWaiting, setSpan, finishGroup, become, acceptNewGroup, acceptParts, acceptAll}
-use Rattle.rules_by_group.specs.Group.{changed, tombOf, cleanOf, partsOf, waits, acceptPart, Finished, finishedBy, finishedOf, replayedItems, finishWith, finishTable}
+use Rattle.rules_by_group.specs.Group.{changed, tombOf, partsOf, waits, acceptPart, Finished, finishedBy, finishedOf, replayedItems, finishWith, finishTable}
 use Rattle.rules_by_group.specs.Stage.{acceptPartsOf, waitingAfter, tombsIn, finishedTombs}
 use Rattle.rules_by_group.specs.Kept.{isBegin, isEnd, behind, shaped, ownItems, ownParts}
-use Rattle.rules_by_group.specs.ResultLaws.{byResult, one-refusal, refusalOf, ok-inj, refused-not-ok, inOrder-kept, inOrder-refused, andThen-ok, andThen-of, andThen-refused, andThen-same, andThen-same-at, andThen-unit, andThen-assoc, andThen-map}
-use Rattle.rules_by_group.specs.DeedLaws.{Deed, doDeed, doAll, deedsOf, deed-ok, deed-refused, own, own-map, ByGroup, byGroup-ext, deeds-by-group}
+use Rattle.rules_by_group.specs.ResultLaws.{byResult, one-refusal, refusalOf, ok-inj, refused-not-ok, inOrder-kept, inOrder-refused, andThen-ok, andThen-of, andThen-refused, andThen-same, andThen-unit, andThen-assoc, andThen-map}
+use Rattle.rules_by_group.specs.DeedLaws.{doDeed, doAll, deedsOf, deed-ok, deed-refused, own, own-map, ByGroup, byGroup-ext, deeds-by-group}
 use Rattle.rules_by_group.specs.ItemLaws.{cleanedBy, keptBy, after, step-of}
 use Rattle.rules_by_group.specs.PartLaws.{own-items-append, own-head, own-tail, OwnAccepted, own-old, accept-own, begin-waits, PartsKept, kept-if, accept-kept, accept-refused, own-reverse}
 use Rattle.rules_by_group.specs.MergeLaws.{finishing, finish-refused, acceptedTo, Accepts}
