@@ -1,7 +1,7 @@
 -- Groups staged one after the other, over any list of numbers that covers: the answer is that of the map that the groups' own results make.
 -- Assumes nothing.
 use mathlib.Core.Path.{_≡_, refl, sym, ap, _∙_}
-use mathlib.Core.Bool.{Bool, true, false, cond, not, _&&_, or-true, true≢false, false≢true}
+use mathlib.Core.Bool.{Bool, true, false, cond, not, _&&_, _||_, or-true, true≢false, false≢true}
 use mathlib.Core.List.{List, [], _∷_, _++_}
 use mathlib.Core.Option.{Option, none, some, Option·none-ne-some, Option·some-ne-none}
 use Prim.Native.Nat.{ℕ, _≤_}
@@ -48,32 +48,42 @@ cond-not : {A : Type 0} (b : Bool) (x y : A) → cond b x y ≡ cond (not b) y x
 cond-not true x y = refl
 cond-not false x y = refl
 
+-- ---- one group's result
+
+pub stage-fits : (g : ℕ) (s : Staged) (t : Table) → (tableFits t && ltb (length (s .groups)) maxGroups) ≡ true → stageResult g (ok (some t)) s ≡ record { groups = insert numbers g t (s .groups); clashed = s .clashed; passed = s .passed }
+unfolding stageResult
+stage-fits g s t e = rw e
+
+pub stage-passes : (g : ℕ) (s : Staged) (t : Table) → (tableFits t && ltb (length (s .groups)) maxGroups) ≡ false → stageResult g (ok (some t)) s ≡ record { groups = s .groups; clashed = s .clashed; passed = true }
+unfolding stageResult
+stage-passes g s t e = rw e
+
+pub stage-none : (g : ℕ) (s : Staged) → stageResult g (ok none) s ≡ s
+unfolding stageResult
+stage-none g s = refl
+
+pub stage-refused : (g : ℕ) (s : Staged) (x : Refusal) → stageResult g (refused x) s ≡ record { groups = s .groups; clashed = true; passed = s .passed }
+unfolding stageResult
+stage-refused g s x = refl
+
+fits-insert : (g : ℕ) (t : Table) (s : Staged) → lookup numbers g (s .groups) ≡ none → groupsFit (s .groups) ≡ true → (tableFits t && ltb (length (s .groups)) maxGroups) ≡ true → groupsFit (insert numbers g t (s .groups)) ≡ true
+unfolding groupsFit
+fits-insert g t s n w f =
+    let l = ltb-true (length (s .groups)) maxGroups (both-right (tableFits t) (ltb (length (s .groups)) maxGroups) f) in
+    let more = length-insert-none numbers numbersLawful g t (s .groups) n in
+    both (le-leb (length (insert numbers g t (s .groups))) maxGroups (omega (arith, l, more)))
+    (every-insert numbers numbersLawful (λ (p : Pair ℕ Table). tableFits (p .val)) g t (s .groups) (small-tables (s .groups) w) (both-left (tableFits t) (ltb (length (s .groups)) maxGroups) f))
+
 module _ (at : ℕ → Result (Option Table)) where
   -- ---- one number
 
-  stage-again : (g : ℕ) (s : Staged) (t : Table) → lookup numbers g (s .groups) ≡ some t → stageOne at g s ≡ s
+  pub stage-again : (g : ℕ) (s : Staged) (t : Table) → lookup numbers g (s .groups) ≡ some t → stageOne at g s ≡ s
   unfolding stageOne orElse
   stage-again g s t e = rw e
 
-  stage-new : (g : ℕ) (s : Staged) (r : Result (Option Table)) → lookup numbers g (s .groups) ≡ none → at g ≡ r → stageOne at g s ≡ stageResult g r s
+  pub stage-new : (g : ℕ) (s : Staged) (r : Result (Option Table)) → lookup numbers g (s .groups) ≡ none → at g ≡ r → stageOne at g s ≡ stageResult g r s
   unfolding stageOne orElse
   stage-new g s r e h = rw (e, h)
-
-  stage-fits : (g : ℕ) (s : Staged) (t : Table) → (tableFits t && ltb (length (s .groups)) maxGroups) ≡ true → stageResult g (ok (some t)) s ≡ record { groups = insert numbers g t (s .groups); clashed = s .clashed; passed = s .passed }
-  unfolding stageResult
-  stage-fits g s t e = rw e
-
-  stage-passes : (g : ℕ) (s : Staged) (t : Table) → (tableFits t && ltb (length (s .groups)) maxGroups) ≡ false → stageResult g (ok (some t)) s ≡ record { groups = s .groups; clashed = s .clashed; passed = true }
-  unfolding stageResult
-  stage-passes g s t e = rw e
-
-  stage-none : (g : ℕ) (s : Staged) → stageResult g (ok none) s ≡ s
-  unfolding stageResult
-  stage-none g s = refl
-
-  stage-refused : (g : ℕ) (s : Staged) (x : Refusal) → stageResult g (refused x) s ≡ record { groups = s .groups; clashed = true; passed = s .passed }
-  unfolding stageResult
-  stage-refused g s x = refl
 
   -- the four ways of a number: nothing changes, a refusal, a table that fits, a limit passed
   stage-cases :
@@ -94,15 +104,16 @@ module _ (at : ℕ → Result (Option Table)) where
       (λ x h. refuses x h (stage-new g s (refused x) e h ∙ stage-refused g s x)))
       (λ t e. same (stage-again g s t e) (λ u k n. Option·some-ne-none t (sym e ∙ n)))
 
-  -- ---- what is staged is each group's own result
+  -- ---- what is staged is each group's own result, and fits
 
   pub record Own (s : Staged) : Type 0 where
     pub ascend : Ascending numbers (s .groups)
+    pub within : groupsFit (s .groups) ≡ true
     pub results : (g : ℕ) (t : Table) → lookup numbers g (s .groups) ≡ some t → at g ≡ ok (some t)
 
-  own-none : Own noneStaged
-  unfolding noneStaged lookup
-  own-none = record { ascend = ascending-nil Table numbers; results = λ g t e. absurd (Option·none-ne-some t e) }
+  pub own-none : Own noneStaged
+  unfolding noneStaged lookup groupsFit every
+  own-none = record { ascend = ascending-nil Table numbers; within = refl; results = λ g t e. absurd (Option·none-ne-some t e) }
 
   own-insert : (g : ℕ) (t : Table) (m : Map ℕ Table) → at g ≡ ok (some t) → ((k : ℕ) (u : Table) → lookup numbers k m ≡ some u → at k ≡ ok (some u)) → (k : ℕ) (u : Table) → lookup numbers k (insert numbers g t m) ≡ some u → at k ≡ ok (some u)
   own-insert g t m e h k u l =
@@ -114,9 +125,9 @@ module _ (at : ℕ → Result (Option Table)) where
   own-step g s w =
       stage-cases g s
       (λ e n. rw e w)
-      (λ x h e. rw e (record { ascend = w .ascend; results = w .results }))
-      (λ t h n f e. rw e (record { ascend = ascending-insert numbers numbersLawful g t (s .groups) (w .ascend); results = own-insert g t (s .groups) h (w .results) }))
-      (λ t h n f e. rw e (record { ascend = w .ascend; results = w .results }))
+      (λ x h e. rw e (record { ascend = w .ascend; within = w .within; results = w .results }))
+      (λ t h n f e. rw e (record { ascend = ascending-insert numbers numbersLawful g t (s .groups) (w .ascend); within = fits-insert g t s n (w .within) f; results = own-insert g t (s .groups) h (w .results) }))
+      (λ t h n f e. rw e (record { ascend = w .ascend; within = w .within; results = w .results }))
 
   pub own-all : (gs : List ℕ) (s : Staged) → Own s → Own (stageAll at gs s)
   unfolding stageAll
@@ -162,7 +173,6 @@ module _ (at : ℕ → Result (Option Table)) where
   module _ (m : Map ℕ Table) (asc : Ascending numbers m) (is : (g : ℕ) → at g ≡ ok (lookup numbers g m)) where
     pub record SoFar (s : Staged) : Type 0 where
       pub own-results : Own s
-      pub within : groupsFit (s .groups) ≡ true
       pub unclashed : s .clashed ≡ false
       pub over : s .passed ≡ true → groupsFit m ≡ false
 
@@ -187,16 +197,8 @@ module _ (at : ℕ → Result (Option Table)) where
             (λ e. e)
             (λ u e. absurd (Option·some-ne-none u (sym (at-map k u (own-insert g t (s .groups) h (w .results) k u e)) ∙ z)))
 
-    fits-insert : (g : ℕ) (t : Table) (s : Staged) → lookup numbers g (s .groups) ≡ none → groupsFit (s .groups) ≡ true → (tableFits t && ltb (length (s .groups)) maxGroups) ≡ true → groupsFit (insert numbers g t (s .groups)) ≡ true
-    unfolding groupsFit
-    fits-insert g t s n w f =
-        let l = ltb-true (length (s .groups)) maxGroups (both-right (tableFits t) (ltb (length (s .groups)) maxGroups) f) in
-        let more = length-insert-none numbers numbersLawful g t (s .groups) n in
-        both (le-leb (length (insert numbers g t (s .groups))) maxGroups (omega (arith, l, more)))
-        (every-insert numbers numbersLawful (λ (p : Pair ℕ Table). tableFits (p .val)) g t (s .groups) (small-tables (s .groups) w) (both-left (tableFits t) (ltb (length (s .groups)) maxGroups) f))
-
     so-far-none : SoFar noneStaged
-    so-far-none = record { own-results = own-none; within = unfold noneStaged groupsFit every in refl; unclashed = unfold noneStaged in refl; over = unfold noneStaged in (λ e. absurd (false≢true e)) }
+    so-far-none = record { own-results = own-none; unclashed = unfold noneStaged in refl; over = unfold noneStaged in (λ e. absurd (false≢true e)) }
 
     so-far-step : (g : ℕ) (s : Staged) → SoFar s → SoFar (stageOne at g s)
     so-far-step g s w =
@@ -205,13 +207,11 @@ module _ (at : ℕ → Result (Option Table)) where
         (λ x h e. absurd (refused-not-ok (sym h ∙ is g)))
         (λ t h n f e. record {
           own-results = own-step g s (w .own-results);
-          within = rw e (fits-insert g t s n (w .within) f);
           unclashed = rw e (w .unclashed);
           over = rw e (w .over);
         })
         (λ t h n f e. record {
           own-results = own-step g s (w .own-results);
-          within = rw e (w .within);
           unclashed = rw e (w .unclashed);
           over = λ z. passes-map g t s (w .own-results) n h f;
         })
@@ -296,7 +296,7 @@ module _ (at : ℕ → Result (Option Table)) where
       answered n rest =
           split (last .passed)
           (λ p. rw (fits-split m rest, last-so-far .over p, last-so-far .unclashed, p))
-          (λ p. rw (fits-split m rest, last-so-far .unclashed, p, last-groups p, rw (last-groups p) at (last-so-far .within)) (cond-not (restFits rest) (ok (withGroups m rest)) (refuse limitPassed)))
+          (λ p. rw (fits-split m rest, last-so-far .unclashed, p, last-groups p, rw (last-groups p) at (last-so-far .own-results .within)) (cond-not (restFits rest) (ok (withGroups m rest)) (refuse limitPassed)))
 
 -- the answer of a map by group is that of its groups, staged over any list that covers, if every refusal of a group is n
 pub staged :
@@ -312,6 +312,21 @@ staged at (refused x) gs n rest by only covers =
   where
     in-list : isIn (by .0) gs ≡ true
     in-list = split (isIn (by .0) gs) (λ e. e) (λ e. absurd (refused-not-ok (sym (by .1) ∙ covers (by .0) e)))
+
+-- ---- the answer
+
+-- a group met the refusal, whatever else was passed
+pub answer-clashed : (n : Cause) (rest : Context) (s : Staged) → s .clashed ≡ true → answer n rest s ≡ refuse n
+unfolding answer
+answer-clashed n rest s e = rw e
+
+pub answer-passed : (n : Cause) (rest : Context) (s : Staged) → s .clashed ≡ false → (s .passed || not (restFits rest)) ≡ true → answer n rest s ≡ refuse limitPassed
+unfolding answer
+answer-passed n rest s e p = rw (e, p)
+
+pub answer-ok : (n : Cause) (rest : Context) (s : Staged) → s .clashed ≡ false → (s .passed || not (restFits rest)) ≡ false → answer n rest s ≡ ok (withGroups (s .groups) rest)
+unfolding answer
+answer-ok n rest s e p = rw (e, p)
 
 -- a list in two parts is staged part by part
 pub stage-append : (at : ℕ → Result (Option Table)) (gs hs : List ℕ) (s : Staged) → stageAll at (gs ++ hs) s ≡ stageAll at hs (stageAll at gs s)
