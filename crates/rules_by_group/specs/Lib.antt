@@ -16,3 +16,4 @@ pub mod WaitingLaws
 pub mod ByGroupLaws
 pub mod RunLaws
 pub mod KeptLaws
+pub mod RoomLaws
