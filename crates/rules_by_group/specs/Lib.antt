@@ -17,3 +17,4 @@ pub mod ByGroupLaws
 pub mod RunLaws
 pub mod KeptLaws
 pub mod RoomLaws
+pub mod TableLaws

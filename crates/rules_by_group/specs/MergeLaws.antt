@@ -187,7 +187,9 @@ module _ (q : LogQueue) (newer c : Context) (kn : Kept newer) (kc : Kept c) (is 
       let more = replayedTo (cleansBy (replayCall q) (newer .tombstones)) (finishedTo w m) in
       ap (λ r. andThen r (mergeTables q newer)) (tombs-replayed (replayCall q) not-live (newer .tombstones) (finishedTo w m) asc (kn .tombstones-only))
       ∙ andThen-map (doAll (tombDeeds newer) m) more (mergeTables q newer)
-      ∙ andThen-same (doAll (tombDeeds newer) m) (λ n. mergeTables q newer (more n)) (λ n. andThen (doAll (tableDeeds q newer) n) (fromGroups w)) (λ n. tables-laid q newer (more n) (kn .groups-ascend) ∙ andThen-same (doAll (tableDeeds q newer) n) (λ k. limited none (withGroups k (more n))) (fromGroups w) (λ k. ap (limited none) (rest-is w m n k)))
+      ∙ andThen-same (doAll (tombDeeds newer) m) (λ n. mergeTables q newer (more n)) (λ n. andThen (doAll (tableDeeds q newer) n) (fromGroups w))
+      (λ n. tables-laid q newer (more n) (kn .groups-ascend)
+      ∙ andThen-same (doAll (tableDeeds q newer) n) (λ k. limited none (withGroups k (more n))) (fromGroups w) (λ k. ap (limited none) (rest-is w m n k)))
       ∙ sym (andThen-assoc (doAll (tombDeeds newer) m) (doAll (tableDeeds q newer)) (fromGroups w))
       ∙ ap (λ r. andThen r (fromGroups w)) (sym (do-append (tombDeeds newer) (tableDeeds q newer) m))
 
@@ -235,5 +237,8 @@ module _ (q : LogQueue) (newer c : Context) (kn : Kept newer) (kc : Kept c) (is 
     pub merge-by-accepts : (gs : List ℕ) → Covers gs newer c → mergeContexts q newer c ≡ mergedBy q newer c gs
     unfolding mergedBy
     merge-by-accepts gs v =
+        let at = mergedAt q newer c in
+        let done = doAll (mergeDeeds q newer c) (c .groups) in
         merged-deeds
-        ∙ andThen-same (waitingAfter (newer .waiting) (c .waiting)) (λ w. andThen (doAll (mergeDeeds q newer c) (c .groups)) (fromGroups w)) (λ w. answer (clash q) (mergedRest newer w c) (stageAll (mergedAt q newer c) gs noneStaged)) (λ w. staged (mergedAt q newer c) (doAll (mergeDeeds q newer c) (c .groups)) gs (clash q) (mergedRest newer w c) merged-by-group (merged-refused q newer c kn is) (merged-out gs v))
+        ∙ andThen-same (waitingAfter (newer .waiting) (c .waiting)) (λ w. andThen done (fromGroups w)) (λ w. answer (clash q) (mergedRest newer w c) (stageAll at gs noneStaged))
+        (λ w. staged at done gs (clash q) (mergedRest newer w c) merged-by-group (merged-refused q newer c kn is) (merged-out gs v))

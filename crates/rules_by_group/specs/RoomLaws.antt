@@ -10,17 +10,18 @@ use lib.Dec.{ltb, leb, eqb}
 use lib.ListN.{length, length-append}
 use borrow.Author.Tests.{leb-true}
 use Rattle.maps.specs.Lists.{select, sum, last, orElse}
-use Rattle.maps.specs.Maps.{Pair, Map, lookup, numbers, bytes}
+use Rattle.maps.specs.Maps.{Pair, Map, lookup, insert, mergeWith, numbers, bytes}
 use Rattle.maps.specs.BoolLaws.{both-left, both-right}
 use Rattle.maps.specs.ListLaws.{length-select, sum-append}
 use Rattle.maps.specs.OrderLaws.{split, numbersLawful, bytesLawful}
 use Rattle.maps.specs.MapLaws.{length-insert-most, length-remove-le, sum-remove-some}
 use Rattle.rules.specs.Limits.{maxEntries, maxKeys, maxWaitingGroups, maxWaitingItems, maxWaitingEntries}
 use Rattle.rules.specs.Causes.{left, andThen}
-use Rattle.rules.specs.Items.{EntryIndex, FileId, Status, begin, middle, end, clean, compact, put, del, Content, entries, command, kv, LogItem, isReserved, replayRewrite, isLiveRewrite}
-use Rattle.rules.specs.Table.{Table, emptyTable, made, withEntries, withKeys, isAboveLast, entriesBelow, entriesFrom, over, overGap, compacted, replayedRewrite, putKey, deleteKey, putHeld, entriesTo, putTo, changeTo, commandTo, change}
+use Rattle.rules.specs.Items.{LogQueue, Append, Rewrite, EntryIndex, FileId, Status, begin, middle, end, clean, compact, put, del, Content, entries, command, kv, LogItem, isReserved, replayRewrite, isLiveRewrite}
+use Rattle.rules.specs.Table.{Held, Table, emptyTable, overKeys, made, withEntries, withKeys, withSpan, isAboveLast, entriesBelow, entriesFrom, over, overGap, compacted, replayedRewrite, putKey, deleteKey, putHeld, entriesTo, putTo, changeTo, commandTo, change}
 use Rattle.rules.specs.Context.{Part, tableFits, entriesIn, waitingFits}
 use Rattle.rules.specs.Waiting.{Accepted, wait, finish, back, joined, acceptBy, accept}
+use Rattle.rules.specs.Calls.{overOf, mergeTable}
 use Rattle.rules_by_group.specs.Group.{changed, effect, effected, tombed, partsOf, Finished, finishedBy, finishedOf, replayedItems}
 use Rattle.rules_by_group.specs.ResultLaws.{byOption}
 
@@ -31,14 +32,17 @@ pub record Within (e k : ℕ) (o : Option Table) : Type 0 where
 
 -- ---- tables
 
-gap-room : (older es : List EntryIndex) → length (overGap older es) ≤ length older + length es
-unfolding overGap over entriesBelow
-gap-room older [] = omega arith
-gap-room older (e ∷ es) =
+over-room : (older es : List EntryIndex) → length (over older es) ≤ length older + length es
+unfolding over entriesBelow
+over-room older [] = omega arith
+over-room older (e ∷ es) =
     let l = length-select (λ (x : EntryIndex). ltb (x .index) (e .index)) older in
-    split (isAboveLast (e .index) older)
-    (λ s. rw s (omega arith))
-    (λ s. rw (s, length-append (select (λ (x : EntryIndex). ltb (x .index) (e .index)) older) (e ∷ es)) (omega (arith, l)))
+    rw (length-append (select (λ (x : EntryIndex). ltb (x .index) (e .index)) older) (e ∷ es)) (omega (arith, l))
+
+gap-room : (older es : List EntryIndex) → length (overGap older es) ≤ length older + length es
+unfolding overGap
+gap-room older [] = omega arith
+gap-room older (e ∷ es) = split (isAboveLast (e .index) older) (λ s. rw s (omega arith)) (λ s. rw s (over-room older (e ∷ es)))
 
 from-room : (i : ℕ) (es : List EntryIndex) → length (entriesFrom i es) ≤ length es
 unfolding entriesFrom
@@ -249,3 +253,25 @@ finished-room g newer older x o n l e w =
     let a = finished-items g newer older x n l e in
     let b = finished-entries g newer older x n l e in
     within-more (maxEntries + sum entriesIn (x .items)) (maxKeys + length (x .items)) 320 144 (replayedItems (x .items) o) (omega (arith, b)) (omega (arith, a)) (items-room maxEntries maxKeys (x .items) o w)
+
+-- ---- the newer table laid over
+
+keys-room : (older newer : Map (List ℕ) Held) → length (overKeys older newer) ≤ length older + length newer
+unfolding overKeys mergeWith
+keys-room older [] = omega arith
+keys-room older (x ∷ xs) =
+    let l = length-insert-most bytes bytesLawful (x .key) (x .val) older in
+    let m = keys-room (insert bytes (x .key) (x .val) older) xs in
+    omega (arith, l, m)
+
+entries-room : (q : LogQueue) (t newer : Table) → length (overOf q t newer .entries) ≤ length (t .entries) + length (newer .entries)
+unfolding overOf withEntries
+entries-room Append t newer = over-room (t .entries) (newer .entries)
+entries-room Rewrite t newer = gap-room (t .entries) (newer .entries)
+
+-- a table laid over adds no more than it has
+pub laid-room : (q : LogQueue) (e k : ℕ) (o : Option Table) (newer : Table) → Within e k o → Within (e + length (newer .entries)) (k + length (newer .keys)) (some (mergeTable q o newer))
+laid-room q e k o newer w =
+    within-some (e + length (newer .entries)) (k + length (newer .keys)) (mergeTable q o newer)
+    (unfold mergeTable withSpan withKeys in (let l = entries-room q (made o) newer in omega (arith, l, w .few-entries)))
+    (unfold mergeTable withSpan withKeys in (let l = keys-room (made o .keys) (newer .keys) in omega (arith, l, w .few-keys)))

@@ -192,16 +192,18 @@ module _ (g : ℕ) (c : Context) (asc : Ascending numbers (c .groups)) (up : Asc
   abbrev madeOf : Option Finished → Option (List Part) → Option Table → Context
   madeOf f o t = acceptedTo (store numbers g o (c .waiting)) (tombsIn f) c (store numbers g t (c .groups))
 
+  -- what finishes done, with w waiting
+  abbrev finishedWith : Option Finished → Map ℕ (List Part) → Result Context
+  finishedWith f w = andThen (finishTable f (lookup numbers g (c .groups))) (λ t. ok (acceptedTo w (tombsIn f) c (store numbers g t (c .groups))))
+
   -- what becomes of the context when group g accepts all new parts
   abbrev groupDone : List Part → Result Context
-  groupDone ps =
-      andThen (acceptPartsOf (record { key = g; val = ps }) (c .waiting))
-      (λ w. andThen (finishTable (finishedOf (some ps) older) (lookup numbers g (c .groups))) (λ t. ok (acceptedTo w (tombsIn (finishedOf (some ps) older)) c (store numbers g t (c .groups)))))
+  groupDone ps = andThen (acceptPartsOf (record { key = g; val = ps }) (c .waiting)) (finishedWith (finishedOf (some ps) older))
 
   -- by what waits after the new parts
-  group-is : (f : Option Finished) (r : Result (Option (List Part))) → andThen (andThen r (λ o. ok (store numbers g o (c .waiting)))) (λ w. andThen (finishTable f (lookup numbers g (c .groups))) (λ t. ok (acceptedTo w (tombsIn f) c (store numbers g t (c .groups))))) ≡ andThen r (λ o. andThen (finishTable f (lookup numbers g (c .groups))) (λ t. ok (madeOf f o t)))
+  group-is : (f : Option Finished) (r : Result (Option (List Part))) → andThen (andThen r (λ o. ok (store numbers g o (c .waiting)))) (finishedWith f) ≡ andThen r (λ o. andThen (finishTable f (lookup numbers g (c .groups))) (λ t. ok (madeOf f o t)))
   group-is f r =
-      andThen-map r (λ o. store numbers g o (c .waiting)) (λ w. andThen (finishTable f (lookup numbers g (c .groups))) (λ t. ok (acceptedTo w (tombsIn f) c (store numbers g t (c .groups)))))
+      andThen-map r (λ o. store numbers g o (c .waiting)) (finishedWith f)
 
   one-in : (p : Part) (d : Context) → inOrder takeIn (p ∷ []) d ≡ takeIn p d
   unfolding inOrder
@@ -218,7 +220,7 @@ module _ (g : ℕ) (c : Context) (asc : Ascending numbers (c .groups)) (up : Asc
         let a = accept (partsOf older) p in
         one-in p c
         ∙ accept-one g p c asc own hp
-        ∙ sym (ap (λ r. andThen (andThen r (λ o. ok (store numbers g o (c .waiting)))) (λ w. andThen (finishTable (finishedBy p a) (lookup numbers g (c .groups))) (λ t. ok (acceptedTo w (tombsIn (finishedBy p a)) c (store numbers g t (c .groups)))))) (one-accepted p older) ∙ group-is (finishedBy p a) (waits a))
+        ∙ sym (ap (λ r. andThen (andThen r (λ o. ok (store numbers g o (c .waiting)))) (finishedWith (finishedBy p a))) (one-accepted p older) ∙ group-is (finishedBy p a) (waits a))
         ∙ (unfold finishedOf partsOf last orElse in refl)
 
     -- a Begin behind an End: the End is accepted first, and then the Begin waits
@@ -264,7 +266,9 @@ module _ (g : ℕ) (c : Context) (asc : Ascending numbers (c .groups)) (up : Asc
           part-in c refl
           ∙ ap (λ r. andThen r (inOrder takeIn (b ∷ []))) (accept-one g e c asc own he)
           ∙ andThen-assoc (waits a) made-of (inOrder takeIn (b ∷ []))
-          ∙ andThen-same (waits a) (λ o. andThen (made-of o) (inOrder takeIn (b ∷ []))) (λ o. made-of (afterBegin o)) (λ o. andThen-map (finishTable finishes table) (madeOf finishes o) (inOrder takeIn (b ∷ [])) ∙ andThen-same (finishTable finishes table) (λ t. inOrder takeIn (b ∷ []) (madeOf finishes o t)) (λ t. ok (madeOf finishes (afterBegin o) t)) (begin-in o))
+          ∙ andThen-same (waits a) (λ o. andThen (made-of o) (inOrder takeIn (b ∷ []))) (λ o. made-of (afterBegin o))
+          (λ o. andThen-map (finishTable finishes table) (madeOf finishes o) (inOrder takeIn (b ∷ []))
+          ∙ andThen-same (finishTable finishes table) (λ t. inOrder takeIn (b ∷ []) (madeOf finishes o t)) (λ t. ok (madeOf finishes (afterBegin o) t)) (begin-in o))
           ∙ sym (andThen-map (waits a) afterBegin made-of)
           ∙ ap (λ r. andThen r made-of) (sym both-accepted)
           ∙ sym (group-is finishes (inOrder acceptPart (e ∷ (b ∷ [])) older))
@@ -316,9 +320,12 @@ module _ (x : Pair ℕ (List Part)) (w : Map ℕ (List Part)) where
   after-refused : (y : Refusal) → acceptPartsOf x w ≡ refused y → y ≡ refusalOf filesGoBack
   unfolding acceptPartsOf
   after-refused y e =
-      byResult (inOrder acceptPart (reverse (x .val)) (lookup numbers (x .key) w))
-      (λ o h. absurd (refused-not-ok (sym e ∙ andThen-of (inOrder acceptPart (reverse (x .val)) (lookup numbers (x .key) w)) (λ o. ok (store numbers (x .key) o w)) o h)))
-      (λ z h. one-refusal (andThen (inOrder acceptPart (reverse (x .val)) (lookup numbers (x .key) w)) (λ o. ok (store numbers (x .key) o w))) y z e (andThen-refused (inOrder acceptPart (reverse (x .val)) (lookup numbers (x .key) w)) (λ o. ok (store numbers (x .key) o w)) z h) ∙ inOrder-refused acceptPart (refusalOf filesGoBack) accept-refused (reverse (x .val)) (lookup numbers (x .key) w) z h)
+      let parts = inOrder acceptPart (reverse (x .val)) (lookup numbers (x .key) w) in
+      let stored : Option (List Part) → Result (Map ℕ (List Part)) = λ o. ok (store numbers (x .key) o w) in
+      byResult parts
+      (λ o h. absurd (refused-not-ok (sym e ∙ andThen-of parts stored o h)))
+      (λ z h. one-refusal (andThen parts stored) y z e (andThen-refused parts stored z h)
+      ∙ inOrder-refused acceptPart (refusalOf filesGoBack) accept-refused (reverse (x .val)) (lookup numbers (x .key) w) z h)
 
 pub waiting-refused : (newer w : Map ℕ (List Part)) (y : Refusal) → waitingAfter newer w ≡ refused y → y ≡ refusalOf filesGoBack
 unfolding waitingAfter
@@ -450,7 +457,12 @@ accepts-all (x ∷ xs) c an own shape asc up k =
     let group = accept-group (x .key) c asc up (kept-of (c .waiting) (x .key) k .own) (x .val) (every-head shapedPair x xs shape) (every-head ownPair x xs own) in
     byResult (acceptPartsOf x (c .waiting))
     (λ w e. byResult (finishTable f o)
-    (λ t h. cons-next x xs c group w e (ascending-head numbers x xs an) t h (accepts-all xs (firstDone x xs c w t) (ascending-tail numbers x xs an) (every-tail ownPair x xs own) (every-tail shapedPair x xs shape) (ascending-store numbers numbersLawful (x .key) t (c .groups) asc) (after-ascends x (c .waiting) w up e) (after-kept x (c .waiting) w up (every-head ownPair x xs own) k e)))
+    (λ t h.
+    let asc₁ = ascending-store numbers numbersLawful (x .key) t (c .groups) asc in
+    let up₁ = after-ascends x (c .waiting) w up e in
+    let k₁ = after-kept x (c .waiting) w up (every-head ownPair x xs own) k e in
+    cons-next x xs c group w e (ascending-head numbers x xs an) t h
+    (accepts-all xs (firstDone x xs c w t) (ascending-tail numbers x xs an) (every-tail ownPair x xs own) (every-tail shapedPair x xs shape) asc₁ up₁ k₁))
     (λ y h. cons-span x xs c group w e y h))
     (λ y e. cons-back x xs c group y e)
 
@@ -476,5 +488,8 @@ one-group (some ps) older = refl
 -- what waits afterwards is each group's own; it is refused exactly if some group's files go back
 pub waiting-by-group : (newer w : Map ℕ (List Part)) → Ascending numbers newer → Ascending numbers w → ByGroup (λ g. partsAfter (lookup numbers g newer) (lookup numbers g w)) (waitingAfter newer w)
 waiting-by-group newer w an up =
+    let deeds = deedsOf acceptDeed newer in
     rw (waiting-deeds newer w)
-    (byGroup-ext (λ g. partsAfter (lookup numbers g newer) (lookup numbers g w)) (λ g. own g (deedsOf acceptDeed newer) (lookup numbers g w)) (doAll (deedsOf acceptDeed newer) w) (λ g. sym (own-map acceptDeed g newer (lookup numbers g w) an ∙ one-group (lookup numbers g newer) (lookup numbers g w))) (deeds-by-group (deedsOf acceptDeed newer) w up))
+    (byGroup-ext (λ g. partsAfter (lookup numbers g newer) (lookup numbers g w)) (λ g. own g deeds (lookup numbers g w)) (doAll deeds w)
+    (λ g. sym (own-map acceptDeed g newer (lookup numbers g w) an ∙ one-group (lookup numbers g newer) (lookup numbers g w)))
+    (deeds-by-group deeds w up))
