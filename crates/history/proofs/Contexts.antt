@@ -12,172 +12,28 @@ use lib.ListN.{length, length-append}
 use borrow.Author.Tests.{leb-true, le-leb, eqb-true, eq-eqb, ne-eqb, eqb-false}
 use Rattle.maps.specs.Lists.{every, sum}
 use Rattle.maps.specs.Maps.{Pair, Map, lookup, store, numbers, bytes}
-use Rattle.maps.specs.ListLaws.{every-append}
 use Rattle.maps.specs.OrderLaws.{split, numbersLawful, bytesLawful}
-use Rattle.maps.specs.MapLaws.{Ascending, laid, ascending-nil, ascending-store, lookup-store, store-again, every-intro, every-lookup, length-sub, length-newer}
+use Rattle.maps.specs.MapLaws.{Ascending, laid, ascending-nil, ascending-store, lookup-store, every-intro, every-lookup, length-sub, length-newer}
 use Rattle.rules.specs.Limits.{maxGroups, maxEntries, maxKeys, maxTombstones, maxCleaned}
-use Rattle.rules.specs.Causes.{Refusal, Result, ok, refused, refuseAt, andThen, placed, limitPassed}
-use Rattle.rules.specs.Items.{Append, sameQueue, put, del, Content, entries, command, kv, LogItem, Placed, isReserved, isClean, isTombstone, writes, replayAppend}
-use Rattle.rules.specs.Table.{Table, made, change, overKeys}
-use Rattle.rules.specs.Context.{context, Context, fresh, withGroups, withTombstones, withCleaned, tableFits, waitingFits, fits, limited, addCleaned, act, keeps, addTombstone, step}
+use Rattle.rules.specs.Causes.{ok}
+use Rattle.rules.specs.Items.{Append, sameQueue, put, del, Content, entries, command, kv, LogItem, Placed, isReserved, isTombstone, writes, replayAppend}
+use Rattle.rules.specs.Table.{Table, made, overKeys}
+use Rattle.rules.specs.Context.{context, Context, fresh, tableFits, waitingFits, fits, limited, keeps, step}
 use Rattle.rules.specs.Calls.{mergeTable}
 use Rattle.maps.specs.BoolLaws.{both-left, both-right, both}
-use Rattle.history.proofs.Basics.{some-not-none, cond-same, ok-inj, refused-not-ok}
+use Rattle.rules_by_group.specs.Group.{changed, effect, effected, tombed, tombOf, cleanOf, cleansOf}
+use Rattle.rules_by_group.specs.Kept.{allTombstones}
+use Rattle.rules_by_group.specs.ItemLaws.{cleanedBy, keptBy, after, step-of, limited-fits, step-taken}
+use Rattle.rules_by_group.specs.RunLaws.{cleans-append, clean-tomb, tombs-append, tombs-nil, every-tomb}
+use Rattle.rules_by_group.specs.ResultLaws.{ok-inj}
+use Rattle.history.proofs.Basics.{some-not-none, cond-same}
 use Rattle.history.proofs.Windows.{length-over}
-use Rattle.history.proofs.Group.{Good, GoodIf, Fit, Leaves, effect, lay, lay-made, merged-entries, merged-keys, Simulated, simulate, good-change, good-effect}
+use Rattle.history.proofs.Group.{Good, GoodIf, Fit, Leaves, lay, lay-made, merged-entries, merged-keys, Simulated, simulate, good-change, good-effect}
 
 -- ---- items, a reserved one being skipped
 
-unfoldable pub changed : Content → Option Table → Result (Option Table)
-changed x o = cond (isReserved x) (ok o) (change replayAppend x o)
-
-unfoldable pub effected : Content → Option Table → Option Table
-effected x o = cond (isReserved x) o (effect x o)
-
 unfoldable pub FitIf : Content → Type 0
 FitIf x = (isReserved x ≡ true) ⊎ Fit x
-
-unfoldable pub tombOf : LogItem → List LogItem
-tombOf it = cond (isTombstone (it .content)) (it ∷ []) []
-
-unfoldable pub cleanOf : LogItem → List ℕ
-cleanOf it = cond (isClean (it .content)) (it .group ∷ []) []
-
-unfoldable pub cleansOf : List LogItem → List ℕ
-cleansOf [] = []
-cleansOf (x ∷ xs) = cleanOf x ++ cleansOf xs
-
--- the context after an item that leaves its group at t
-unfoldable pub after : LogItem → Option Table → Context → Context
-after it t c =
-    record {
-      kind = c .kind;
-      groups = store numbers (it .group) t (c .groups);
-      tombstones = c .tombstones ++ tombOf it;
-      cleaned = c .cleaned ++ cleanOf it;
-      waiting = c .waiting;
-    }
-
--- a reserved key's item is no clean
-reserved-clean : (x : Content) → isReserved x ≡ true → isClean x ≡ false
-unfolding isReserved isClean
-reserved-clean (entries es) h = absurd (false≢true h)
-reserved-clean (command c) h = absurd (false≢true h)
-reserved-clean (kv k c) h = refl
-
-add-cleaned : (it : LogItem) (c : Context) → addCleaned replayAppend it c ≡ withCleaned (c .cleaned ++ cleanOf it) c
-unfolding addCleaned cleanOf withCleaned writes sameQueue
-add-cleaned it c =
-    split (isClean (it .content))
-    (λ e. rw e)
-    (λ e. rw (e, append-nil (c .cleaned)))
-
-add-tombstone : (it : LogItem) (c : Context) → addTombstone replayAppend it c ≡ withTombstones (c .tombstones ++ tombOf it) c
-unfolding addTombstone tombOf withTombstones keeps
-add-tombstone it c =
-    split (isTombstone (it .content))
-    (λ e. rw e)
-    (λ e. rw (e, append-nil (c .tombstones)))
-
--- ---- one step
-
--- the context after an item whose tombstone is not kept
-unfoldable pub acted : LogItem → Option Table → Context → Context
-acted it t c =
-    record {
-      kind = c .kind;
-      groups = store numbers (it .group) t (c .groups);
-      tombstones = c .tombstones;
-      cleaned = c .cleaned ++ cleanOf it;
-      waiting = c .waiting;
-    }
-
-module _ (it : LogItem) (c : Context) where
-  act-reserved : isReserved (it .content) ≡ true → act replayAppend it c ≡ ok c
-  unfolding act
-  act-reserved e = rw e
-
-  act-not : isReserved (it .content) ≡ false → (t : Option Table) → change replayAppend (it .content) (lookup numbers (it .group) (c .groups)) ≡ ok t → act replayAppend it c ≡ ok (acted it t c)
-  unfolding act acted andThen withCleaned withGroups
-  act-not e t h = rw (e, h) (ap ok (add-cleaned it (withGroups (store numbers (it .group) t (c .groups)) c)))
-
-  act-not-refused : isReserved (it .content) ≡ false → (r : Refusal) → change replayAppend (it .content) (lookup numbers (it .group) (c .groups)) ≡ refused r → act replayAppend it c ≡ refused r
-  unfolding act andThen
-  act-not-refused e r h = rw (e, h)
-
-  changed-reserved : (o : Option Table) → isReserved (it .content) ≡ true → changed (it .content) o ≡ ok o
-  unfolding changed
-  changed-reserved o e = rw e
-
-  changed-not : (o : Option Table) → isReserved (it .content) ≡ false → changed (it .content) o ≡ change replayAppend (it .content) o
-  unfolding changed
-  changed-not o e = rw e
-
-  -- a reserved item leaves the context
-  acted-reserved : Ascending numbers (c .groups) → isReserved (it .content) ≡ true → acted it (lookup numbers (it .group) (c .groups)) c ≡ c
-  unfolding acted cleanOf
-  acted-reserved asc e =
-      λ i. record {
-        kind = c .kind;
-        groups = store-again numbers numbersLawful (it .group) (lookup numbers (it .group) (c .groups)) (c .groups) refl asc i;
-        tombstones = c .tombstones;
-        cleaned = none-cleaned i;
-        waiting = c .waiting;
-      }
-    where
-      none-cleaned : c .cleaned ++ cond (isClean (it .content)) (it .group ∷ []) [] ≡ c .cleaned
-      none-cleaned = rw (reserved-clean (it .content) e, append-nil (c .cleaned))
-
-  module _ (asc : Ascending numbers (c .groups)) where
-    pub act-of : (t : Option Table) → changed (it .content) (lookup numbers (it .group) (c .groups)) ≡ ok t → act replayAppend it c ≡ ok (acted it t c)
-    act-of t h =
-        split (isReserved (it .content))
-        (λ e. act-reserved e ∙ ap ok (sym (acted-reserved asc e) ∙ ap (λ x. acted it x c) (ok-inj (sym (changed-reserved (lookup numbers (it .group) (c .groups)) e) ∙ h))))
-        (λ e. act-not e t (sym (changed-not (lookup numbers (it .group) (c .groups)) e) ∙ h))
-
-    act-refused : (r : Refusal) → changed (it .content) (lookup numbers (it .group) (c .groups)) ≡ refused r → act replayAppend it c ≡ refused r
-    act-refused r h =
-        split (isReserved (it .content))
-        (λ e. absurd (refused-not-ok (sym h ∙ changed-reserved (lookup numbers (it .group) (c .groups)) e)))
-        (λ e. act-not-refused e r (sym (changed-not (lookup numbers (it .group) (c .groups)) e) ∙ h))
-
-pub limited-fits : (p : Option ℕ) (c : Context) → fits c ≡ true → limited p c ≡ ok c
-unfolding limited
-limited-fits p c h = rw h
-
-limited-not : (p : Option ℕ) (c : Context) → fits c ≡ false → limited p c ≡ refuseAt limitPassed p
-unfolding limited
-limited-not p c h = rw h
-
-limited-ok : (p : Option ℕ) (c d : Context) → limited p c ≡ ok d → (c ≡ d) × (fits c ≡ true)
-limited-ok p c d h =
-    split (fits c)
-    (λ e. (ok-inj (sym (limited-fits p c e) ∙ h), e))
-    (λ e. absurd (refused-not-ok (sym (limited-not p c e) ∙ h)))
-
-module _ (x : Placed) (c : Context) (asc : Ascending numbers (c .groups)) where
-  step-acted : (d : Context) → act replayAppend (x .item) c ≡ ok d → step limited replayAppend x c ≡ limited (x .place) (addTombstone replayAppend (x .item) d)
-  unfolding step placed andThen
-  step-acted d h = rw h
-
-  step-not : (r : Refusal) → act replayAppend (x .item) c ≡ refused r → step limited replayAppend x c ≡ refused (record { number = r .number; place = x .place })
-  unfolding step placed andThen
-  step-not r h = rw h
-
-  with-tombstone : (t : Option Table) → addTombstone replayAppend (x .item) (acted (x .item) t c) ≡ after (x .item) t c
-  unfolding acted after withTombstones
-  with-tombstone t = add-tombstone (x .item) (acted (x .item) t c)
-
-  pub step-of : (t : Option Table) → changed (x .item .content) (lookup numbers (x .item .group) (c .groups)) ≡ ok t → step limited replayAppend x c ≡ limited (x .place) (after (x .item) t c)
-  step-of t h = step-acted (acted (x .item) t c) (act-of (x .item) c asc t h) ∙ ap (limited (x .place)) (with-tombstone t)
-
-  -- what an accepted step has done
-  pub step-ok : (d : Context) → step limited replayAppend x c ≡ ok d → (t : Option Table) × (changed (x .item .content) (lookup numbers (x .item .group) (c .groups)) ≡ ok t) × (d ≡ after (x .item) t c) × (fits d ≡ true)
-  step-ok d h = go (changed (x .item .content) (lookup numbers (x .item .group) (c .groups))) refl
-    where
-      go : (r : Result (Option Table)) → changed (x .item .content) (lookup numbers (x .item .group) (c .groups)) ≡ r → (t : Option Table) × (changed (x .item .content) (lookup numbers (x .item .group) (c .groups)) ≡ ok t) × (d ≡ after (x .item) t c) × (fits d ≡ true)
-      go (ok t) e = let l = limited-ok (x .place) (after (x .item) t c) d (sym (step-of t e) ∙ h) in (t, e, sym (l .0), rw (l .0) at (l .1))
-      go (refused r) e = absurd (refused-not-ok (sym (step-not r (act-refused (x .item) c asc r e)) ∙ h))
 
 -- ---- what every Append context is
 
@@ -187,39 +43,10 @@ pub record GoodContext (c : Context) : Type 0 where
   pub ascend : Ascending numbers (c .groups)
   pub tables : (g : ℕ) → GoodIf (lookup numbers g (c .groups))
   pub cleaned-is : c .cleaned ≡ cleansOf (c .tombstones)
-  pub tombs : every (λ it. isTombstone (it .content)) (c .tombstones) ≡ true
+  pub tombs : allTombstones (c .tombstones) ≡ true
   pub within : fits c ≡ true
 
-cleans-append : (xs ys : List LogItem) → cleansOf (xs ++ ys) ≡ cleansOf xs ++ cleansOf ys
-unfolding cleansOf
-cleans-append [] ys = refl
-cleans-append (x ∷ xs) ys = ap (λ l. cleanOf x ++ l) (cleans-append xs ys) ∙ sym (append-assoc (cleanOf x) (cleansOf xs) (cleansOf ys))
-
--- a clean is a tombstone
-tomb-clean : (x : Content) → isTombstone x ≡ false → isClean x ≡ false
-unfolding isTombstone isClean
-tomb-clean (entries es) h = refl
-tomb-clean (command c) h = absurd (true≢false h)
-tomb-clean (kv k c) h = refl
-
-clean-tomb : (it : LogItem) → cleansOf (tombOf it) ≡ cleanOf it
-unfolding tombOf
-clean-tomb it =
-    split (isTombstone (it .content))
-    (λ e. rw e (one it))
-    (λ e. rw e (sym (no-clean it (tomb-clean (it .content) e))))
-  where
-    one : (it : LogItem) → cleansOf (it ∷ []) ≡ cleanOf it
-    one it = unfold cleansOf in append-nil (cleanOf it)
-
-    no-clean : (it : LogItem) → isClean (it .content) ≡ false → cleanOf it ≡ cleansOf []
-    no-clean it e = unfold cleanOf cleansOf in rw e
-
-every-tomb : (it : LogItem) → every (λ x. isTombstone (x .content)) (tombOf it) ≡ true
-unfolding tombOf every
-every-tomb it = split (isTombstone (it .content)) (λ e. rw (e, e)) (λ e. rw e)
-
-good-changed : (x : Content) (o t : Option Table) → GoodIf o → FitIf x → changed x o ≡ ok t → GoodIf t
+good-changed : (x : Content) (o t : Option Table) → GoodIf o → FitIf x → changed replayAppend x o ≡ ok t → GoodIf t
 unfolding FitIf changed
 good-changed x o t g f h =
     split (isReserved x)
@@ -235,18 +62,18 @@ tables-store k t m asc tables gt g =
 -- an accepted step leaves a good context
 pub good-step : (x : Placed) (c d : Context) → GoodContext c → FitIf (x .item .content) → step limited replayAppend x c ≡ ok d → GoodContext d
 good-step x c d g f h =
-    let s = step-ok x c (g .ascend) d h in
+    let s = step-taken replayAppend x c d (g .ascend) h in
     rw (s .2) (good-after (s .0) (s .1) (rw (s .2) at (s .3)))
   where
-    good-after : (t : Option Table) → changed (x .item .content) (lookup numbers (x .item .group) (c .groups)) ≡ ok t → fits (after (x .item) t c) ≡ true → GoodContext (after (x .item) t c)
+    good-after : (t : Option Table) → changed replayAppend (x .item .content) (lookup numbers (x .item .group) (c .groups)) ≡ ok t → fits (after replayAppend (x .item) t c) ≡ true → GoodContext (after replayAppend (x .item) t c)
     good-after t e w =
         record {
-          is-append = unfold after in g .is-append;
-          none-waits = unfold after in g .none-waits;
-          ascend = unfold after in ascending-store numbers numbersLawful (x .item .group) t (c .groups) (g .ascend);
-          tables = unfold after in tables-store (x .item .group) t (c .groups) (g .ascend) (g .tables) (good-changed (x .item .content) (lookup numbers (x .item .group) (c .groups)) t (g .tables (x .item .group)) f e);
-          cleaned-is = unfold after in (ap (λ l. l ++ cleanOf (x .item)) (g .cleaned-is) ∙ ap (λ l. cleansOf (c .tombstones) ++ l) (sym (clean-tomb (x .item))) ∙ sym (cleans-append (c .tombstones) (tombOf (x .item))));
-          tombs = unfold after in (every-append (λ it. isTombstone (it .content)) (c .tombstones) (tombOf (x .item)) ∙ both (g .tombs) (every-tomb (x .item)));
+          is-append = unfold after keptBy cleanedBy keeps writes sameQueue in g .is-append;
+          none-waits = unfold after keptBy cleanedBy keeps writes sameQueue in g .none-waits;
+          ascend = unfold after keptBy cleanedBy keeps writes sameQueue in ascending-store numbers numbersLawful (x .item .group) t (c .groups) (g .ascend);
+          tables = unfold after keptBy cleanedBy keeps writes sameQueue in tables-store (x .item .group) t (c .groups) (g .ascend) (g .tables) (good-changed (x .item .content) (lookup numbers (x .item .group) (c .groups)) t (g .tables (x .item .group)) f e);
+          cleaned-is = unfold after keptBy cleanedBy keeps writes sameQueue in (ap (λ l. l ++ cleanOf (x .item)) (g .cleaned-is) ∙ ap (λ l. cleansOf (c .tombstones) ++ l) (sym (clean-tomb (x .item))) ∙ sym (cleans-append (c .tombstones) (tombOf (x .item))));
+          tombs = unfold after keptBy cleanedBy keeps writes sameQueue in tombs-append (c .tombstones) (tombOf (x .item)) (g .tombs) (every-tomb (x .item));
           within = w;
         }
 
@@ -259,7 +86,7 @@ good-fresh =
       ascend = ascending-nil Table numbers;
       tables = λ g. tt;
       cleaned-is = refl;
-      tombs = refl;
+      tombs = tombs-nil;
       within = refl;
     }
 
@@ -273,11 +100,11 @@ leaves-reserved (kv k c) o h = tt
 
 pub record SimulatedIf (x : Content) (o n s : Option Table) : Type 0 where
   pub next : Option Table
-  pub taken : changed x n ≡ ok next
+  pub taken : changed replayAppend x n ≡ ok next
   pub again : s ≡ lay (effected x o) next
   pub leaves : Leaves x n
 
-pub simulate-if : (x : Content) (o n s : Option Table) → GoodIf o → GoodIf n → FitIf x → Leaves x (lay o n) → changed x (lay o n) ≡ ok s → SimulatedIf x o n s
+pub simulate-if : (x : Content) (o n s : Option Table) → GoodIf o → GoodIf n → FitIf x → Leaves x (lay o n) → changed replayAppend x (lay o n) ≡ ok s → SimulatedIf x o n s
 unfolding FitIf changed effected
 simulate-if x o n s go gn f l h = split (isReserved x) skipped taken
   where
@@ -297,10 +124,6 @@ unfolding effected
 good-effected x o g = split (isReserved x) (λ e. rw e g) (λ e. rw e (good-effect x o g))
 
 -- ---- tombstones of the newer context, on the older context's group
-
-unfoldable pub tombed : ℕ → List LogItem → Option Table → Option Table
-tombed g [] o = o
-tombed g (x ∷ xs) o = tombed g xs (cond (eqb (x .group) g) (effected (x .content) o) o)
 
 tombed-append : (g : ℕ) (xs ys : List LogItem) (o : Option Table) → tombed g (xs ++ ys) o ≡ tombed g ys (tombed g xs o)
 unfolding tombed
@@ -464,7 +287,7 @@ module _ (older pass newer : Context) (x : Placed) (r : Related older pass newer
       ∙ ap (lay (tombed g (newer .tombstones ++ tombOf (x .item)) (lookup numbers g (older .groups)))) (sym (lookup-store numbers numbersLawful g (x .item .group) n (newer .groups) (r .good-newer .ascend)))
 
   -- the newer context after the item
-  module _ (f : FitIf (x .item .content)) (s : Option Table) (w : fits (after (x .item) s pass) ≡ true) (v : SimulatedIf (x .item .content) (tombedOlder (x .item .group)) (lookup numbers (x .item .group) (newer .groups)) s) where
+  module _ (f : FitIf (x .item .content)) (s : Option Table) (w : fits (after replayAppend (x .item) s pass) ≡ true) (v : SimulatedIf (x .item .content) (tombedOlder (x .item .group)) (lookup numbers (x .item .group) (newer .groups)) s) where
     next-tombs : pass .tombstones ++ tombOf (x .item) ≡ older .tombstones ++ (newer .tombstones ++ tombOf (x .item))
     next-tombs = ap (λ l. l ++ tombOf (x .item)) (r .same-tombs) ∙ append-assoc (older .tombstones) (newer .tombstones) (tombOf (x .item))
 
@@ -474,31 +297,31 @@ module _ (older pass newer : Context) (x : Placed) (r : Related older pass newer
     longer : {A : Type 0} (l m n : List A) → l ≡ m ++ n → length n ≤ length l
     longer l m n e = rw (e, length-append m n) (omega arith)
 
-    next-fits : fits (after (x .item) (v .next) newer) ≡ true
+    next-fits : fits (after replayAppend (x .item) (v .next) newer) ≡ true
     next-fits =
-        unfold after in
-        fits-newer (after (x .item) s pass) (after (x .item) (v .next) newer) (λ g. tombed g (newer .tombstones ++ tombOf (x .item)) (lookup numbers g (older .groups))) (next-groups s (v .next) (v .again)) (ascending-store numbers numbersLawful (x .item .group) (v .next) (newer .groups) (r .good-newer .ascend)) (tables-store (x .item .group) (v .next) (newer .groups) (r .good-newer .ascend) (r .good-newer .tables) (good-changed (x .item .content) (lookup numbers (x .item .group) (newer .groups)) (v .next) (r .good-newer .tables (x .item .group)) f (v .taken))) (longer (pass .tombstones ++ tombOf (x .item)) (older .tombstones) (newer .tombstones ++ tombOf (x .item)) next-tombs) (longer (pass .cleaned ++ cleanOf (x .item)) (older .cleaned) (newer .cleaned ++ cleanOf (x .item)) next-cleaned) (r .good-newer .none-waits ∙ sym (r .good-pass .none-waits)) w
+        unfold after keptBy cleanedBy keeps writes sameQueue in
+        fits-newer (after replayAppend (x .item) s pass) (after replayAppend (x .item) (v .next) newer) (λ g. tombed g (newer .tombstones ++ tombOf (x .item)) (lookup numbers g (older .groups))) (next-groups s (v .next) (v .again)) (ascending-store numbers numbersLawful (x .item .group) (v .next) (newer .groups) (r .good-newer .ascend)) (tables-store (x .item .group) (v .next) (newer .groups) (r .good-newer .ascend) (r .good-newer .tables) (good-changed (x .item .content) (lookup numbers (x .item .group) (newer .groups)) (v .next) (r .good-newer .tables (x .item .group)) f (v .taken))) (longer (pass .tombstones ++ tombOf (x .item)) (older .tombstones) (newer .tombstones ++ tombOf (x .item)) next-tombs) (longer (pass .cleaned ++ cleanOf (x .item)) (older .cleaned) (newer .cleaned ++ cleanOf (x .item)) next-cleaned) (r .good-newer .none-waits ∙ sym (r .good-pass .none-waits)) w
 
-    next-step : step limited replayAppend x newer ≡ ok (after (x .item) (v .next) newer)
-    next-step = step-of x newer (r .good-newer .ascend) (v .next) (v .taken) ∙ limited-fits (x .place) (after (x .item) (v .next) newer) next-fits
+    next-step : step limited replayAppend x newer ≡ ok (after replayAppend (x .item) (v .next) newer)
+    next-step = step-of limited replayAppend x newer (r .good-newer .ascend) (v .next) (v .taken) ∙ limited-fits (x .place) (after replayAppend (x .item) (v .next) newer) next-fits
 
   -- a step that the pass takes, the newer context takes, and they stay related
   pub related-step : (next-pass : Context) → FitIf (x .item .content) → LeavesAt (x .item) pass → step limited replayAppend x pass ≡ ok next-pass → Stepped older next-pass newer x
-  unfolding LeavesAt after
+  unfolding LeavesAt after keptBy cleanedBy keeps writes sameQueue
   related-step next-pass f l h =
-      let t = step-ok x pass (r .good-pass .ascend) next-pass h in
+      let t = step-taken replayAppend x pass next-pass (r .good-pass .ascend) h in
       let here = r .same-groups (x .item .group) in
       let v =
-      simulate-if (x .item .content) (tombedOlder (x .item .group)) (lookup numbers (x .item .group) (newer .groups)) (t .0) (good-tombed (x .item .group) (newer .tombstones) (lookup numbers (x .item .group) (older .groups)) (r .good-older .tables (x .item .group))) (r .good-newer .tables (x .item .group)) f (rw here at l) ((sym (ap (changed (x .item .content)) here) ∙ t .1)) in
+      simulate-if (x .item .content) (tombedOlder (x .item .group)) (lookup numbers (x .item .group) (newer .groups)) (t .0) (good-tombed (x .item .group) (newer .tombstones) (lookup numbers (x .item .group) (older .groups)) (r .good-older .tables (x .item .group))) (r .good-newer .tables (x .item .group)) f (rw here at l) ((sym (ap (changed replayAppend (x .item .content)) here) ∙ t .1)) in
       let w = rw (t .2) at (t .3) in
       rw (t .2)
       (record {
-        next = after (x .item) (v .next) newer;
+        next = after replayAppend (x .item) (v .next) newer;
         taken = next-step f (t .0) w v;
         related = record {
           good-older = r .good-older;
           good-pass = rw (t .2) at (good-step x pass next-pass (r .good-pass) f h);
-          good-newer = good-step x newer (after (x .item) (v .next) newer) (r .good-newer) f (next-step f (t .0) w v);
+          good-newer = good-step x newer (after replayAppend (x .item) (v .next) newer) (r .good-newer) f (next-step f (t .0) w v);
           same-tombs = next-tombs f (t .0) w v;
           same-cleaned = next-cleaned f (t .0) w v;
           same-groups = next-groups (t .0) (v .next) (v .again);

@@ -18,7 +18,8 @@ use Rattle.rules.specs.Checks.{consecutive}
 use Rattle.rules.specs.Table.{Held, Table, emptyTable, made, withEntries, withKeys, withSpan, entriesBelow, entriesFrom, isAboveLast, over, appended, compacted, putKey, deleteKey, overKeys, putHeld, entriesTo, putTo, changeTo, commandTo, change}
 use Rattle.rules.specs.Calls.{overOf, mergeTable}
 use Rattle.maps.specs.BoolLaws.{both}
-use Rattle.history.proofs.Basics.{ok-inj, refused-not-ok, andThen-ok, andThen-of}
+use Rattle.rules_by_group.specs.Group.{effect}
+use Rattle.rules_by_group.specs.ResultLaws.{ok-inj, refused-not-ok, andThen-ok, andThen-of}
 use Rattle.history.proofs.Windows.{over-nil, over-assoc, from-over, premise-over, above-over, consecutive-over, consecutive-from, over-cons}
 
 -- ---- tables
@@ -76,14 +77,6 @@ Leaves (entries es) o = Unit {0}
 Leaves (command clean) o = Unit {0}
 Leaves (command (compact i)) o = (made o .entries ≡ []) ⊎ (entriesFrom i (made o .entries) ≡ [] → ⊥)
 Leaves (kv k c) o = Unit {0}
-
--- what a tombstone does to the older table; other contents leave it
-unfoldable pub effect : Content → Option Table → Option Table
-effect (entries es) o = o
-effect (command clean) o = none
-effect (command (compact i)) o = some (compacted i (made o))
-effect (kv k (put v f)) o = o
-effect (kv k del) o = some (deleteKey k (made o))
 
 -- the newer table laid over the older one
 unfoldable pub lay : Option Table → Option Table → Option Table

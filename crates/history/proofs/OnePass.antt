@@ -17,7 +17,7 @@ use Rattle.rules.specs.Calls.{checked, runBatch, replayBatch, replay}
 use Rattle.history.specs.Held.{entriesHeld, appendedTo, listOf, LeavesOrFindsNone}
 use Rattle.history.specs.Demand3.{entriesIn}
 use Rattle.history.specs.Recovery.{onePass, keepIf, history, itemsOf}
-use Rattle.history.proofs.Basics.{ok-inj, refused-not-ok, andThen-ok}
+use Rattle.rules_by_group.specs.ResultLaws.{ok-inj, refused-not-ok, andThen-ok}
 use Rattle.history.proofs.Group.{Leaves}
 use Rattle.history.proofs.Contexts.{GoodContext, good-step, LeavesAt}
 use Rattle.history.proofs.Passes.{AllFit, checks-fit, Steps, Pass, steps-good}

@@ -17,7 +17,8 @@ use Rattle.rules.specs.Checks.{consecutive, long, isIncomplete, isOutOfRange, i
 use Rattle.rules.specs.Context.{context, isContext, Context, fresh, limited, step, run}
 use Rattle.rules.specs.Calls.{checked, runBatch, replayBatch, replay, merge}
 use Rattle.maps.specs.BoolLaws.{both, neither-left, neither-right}
-use Rattle.history.proofs.Basics.{some-not-none, ok-inj, andThen-of}
+use Rattle.rules_by_group.specs.ResultLaws.{ok-inj, andThen-of}
+use Rattle.history.proofs.Basics.{some-not-none}
 use Rattle.history.proofs.Group.{Fit, FitPut}
 use Rattle.history.proofs.Contexts.{FitIf, GoodContext, good-step, LeavesAt, Related, related-start, related-step}
 use Rattle.history.proofs.Merging.{merge-related}

@@ -20,10 +20,12 @@ use Rattle.rules.specs.Table.{Held, Table, emptyTable, made, withEntries, withK
 use Rattle.rules.specs.Context.{Context, fresh, limited, step}
 use Rattle.history.specs.Held.{endsEntry, entryStays, listOf, appendedTo, entriesHeld, endsKey, keyStays, heldOf, putOf, putTo, keyHeld}
 use Rattle.history.specs.Demand3.{entriesIn, keyIn}
-use Rattle.history.proofs.Basics.{ok-inj, andThen-ok}
+use Rattle.rules_by_group.specs.Group.{changed}
+use Rattle.rules_by_group.specs.ItemLaws.{after, step-taken}
+use Rattle.rules_by_group.specs.ResultLaws.{ok-inj, andThen-ok}
 use Rattle.history.proofs.Windows.{either, over-nil, over-cons}
 use Rattle.history.proofs.Group.{GoodIf, good-made, Fit, FitPut, appended-is, change-entries, change-clean, change-compact, change-put, change-del}
-use Rattle.history.proofs.Contexts.{changed, FitIf, after, GoodContext, step-ok}
+use Rattle.history.proofs.Contexts.{FitIf, GoodContext}
 
 -- ---- the rule, with one item more
 
@@ -179,7 +181,7 @@ entries-skipped (kv k c) o h = sym (append-of ∙ left-all (kv k c) (made o .ent
     append-of : leftOf (kv k c) (made o .entries) ++ listOf (kv k c) ≡ leftOf (kv k c) (made o .entries)
     append-of = unfold listOf in append-nil (leftOf (kv k c) (made o .entries))
 
-pub entries-kept : (x : Content) (o t : Option Table) → FitIf x → changed x o ≡ ok t → made t .entries ≡ leftOf x (made o .entries) ++ listOf x
+pub entries-kept : (x : Content) (o t : Option Table) → FitIf x → changed replayAppend x o ≡ ok t → made t .entries ≡ leftOf x (made o .entries) ++ listOf x
 unfolding FitIf changed
 entries-kept x o t f h =
     split (isReserved x)
@@ -318,7 +320,7 @@ keys-skipped (kv j (put v f)) o k n h =
     key-stayed k (kv j (put v f)) o o refl (unfold endsKey in refl) (unfold putOf in rw (ap (sameBytes k) (bytesLawful .same-eq j reservedKey h) ∙ n))
 
 -- what an accepted content does to a key that is not reserved
-pub keys-kept : (x : Content) (o t : Option Table) (k : List ℕ) → sameBytes k reservedKey ≡ false → GoodIf o → FitIf x → changed x o ≡ ok t → lookup bytes k (made t .keys) ≡ keyBy (endsKey k x) (putOf k x) (lookup bytes k (made o .keys))
+pub keys-kept : (x : Content) (o t : Option Table) (k : List ℕ) → sameBytes k reservedKey ≡ false → GoodIf o → FitIf x → changed replayAppend x o ≡ ok t → lookup bytes k (made t .keys) ≡ keyBy (endsKey k x) (putOf k x) (lookup bytes k (made o .keys))
 unfolding FitIf changed
 keys-kept x o t k n g f h =
     split (isReserved x)
@@ -365,8 +367,8 @@ at-store F G g k t m asc e =
     (λ u. rw u (e ∙ ap (λ j. G (F (lookup numbers j m))) (sym (eqb-true g k u))))
     (λ u. rw u)
 
-module _ (items : List LogItem) (x : Placed) (c : Context) (good : GoodContext c) (f : FitIf (x .item .content)) (held : HeldBy items c) (t : Option Table) (e : changed (x .item .content) (lookup numbers (x .item .group) (c .groups)) ≡ ok t) where
-  held-entries : (g : ℕ) → entriesIn g (after (x .item) t c) ≡ entriesHeld g (items ++ (x .item ∷ []))
+module _ (items : List LogItem) (x : Placed) (c : Context) (good : GoodContext c) (f : FitIf (x .item .content)) (held : HeldBy items c) (t : Option Table) (e : changed replayAppend (x .item .content) (lookup numbers (x .item .group) (c .groups)) ≡ ok t) where
+  held-entries : (g : ℕ) → entriesIn g (after replayAppend (x .item) t c) ≡ entriesHeld g (items ++ (x .item ∷ []))
   unfolding entriesIn after
   held-entries g =
       at-store (λ o. made o .entries) (λ es. leftOf (x .item .content) es ++ listOf (x .item .content)) g (x .item .group) t (c .groups) (good .ascend) (entries-kept (x .item .content) (lookup numbers (x .item .group) (c .groups)) t f e)
@@ -374,7 +376,7 @@ module _ (items : List LogItem) (x : Placed) (c : Context) (good : GoodContext c
       ∙ ap (λ es. select (leftBy g (x .item)) es ++ appendedTo g (x .item)) (held .entries-held g)
       ∙ sym (entries-snoc g items (x .item))
 
-  held-keys : (g : ℕ) (k : List ℕ) → sameBytes k reservedKey ≡ false → keyIn g k (after (x .item) t c) ≡ keyHeld g k (items ++ (x .item ∷ []))
+  held-keys : (g : ℕ) (k : List ℕ) → sameBytes k reservedKey ≡ false → keyIn g k (after replayAppend (x .item) t c) ≡ keyHeld g k (items ++ (x .item ∷ []))
   unfolding keyIn after
   held-keys g k n =
       at-store (λ o. lookup bytes k (made o .keys)) (λ old. keyBy (endsKey k (x .item .content)) (putOf k (x .item .content)) old) g (x .item .group) t (c .groups) (good .ascend) (keys-kept (x .item .content) (lookup numbers (x .item .group) (c .groups)) t k n (good .tables (x .item .group)) f e)
@@ -385,7 +387,7 @@ module _ (items : List LogItem) (x : Placed) (c : Context) (good : GoodContext c
 -- one step more, and one item more
 pub held-step : (items : List LogItem) (x : Placed) (c d : Context) → GoodContext c → FitIf (x .item .content) → step limited replayAppend x c ≡ ok d → HeldBy items c → HeldBy (items ++ (x .item ∷ [])) d
 held-step items x c d good f h held =
-    let s = step-ok x c (good .ascend) d h in
+    let s = step-taken replayAppend x c d (good .ascend) h in
     rw (s .2)
     (record { entries-held = held-entries items x c good f held (s .0) (s .1); keys-held = held-keys items x c good f held (s .0) (s .1) })
 

@@ -11,7 +11,7 @@ use Rattle.rules.specs.Queries.{takeCleaned, afterTaking}
 use Rattle.history.specs.Held.{Premise}
 use Rattle.history.specs.Recovery.{onePass, history, itemsOf, Runs, run, merged, batchesOf, Made}
 use Rattle.history.specs.Demand3.{Last, Demand3, Claim, Reached}
-use Rattle.history.proofs.Basics.{ok-inj}
+use Rattle.rules_by_group.specs.ResultLaws.{ok-inj}
 use Rattle.history.proofs.Contexts.{GoodContext, good-fresh}
 use Rattle.history.proofs.Passes.{Pass, pass-good, pass-split, pass-unique, batch-replay, run-merges}
 use Rattle.history.proofs.Rule.{held-fresh}

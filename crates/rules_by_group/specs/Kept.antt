@@ -1,0 +1,58 @@
+-- What every context keeps through every call, and the merge and the join rest on.
+use mathlib.Core.Bool.{Bool, true, false, _&&_}
+use mathlib.Core.List.{List, [], _∷_}
+use mathlib.Core.Path.{_≡_}
+use Prim.Native.Nat.{ℕ}
+use lib.Dec.{eqb}
+use Rattle.maps.specs.Lists.{every}
+use Rattle.maps.specs.Maps.{Pair, numbers}
+use Rattle.maps.specs.MapLaws.{Ascending}
+use Rattle.rules.specs.Items.{Append, Rewrite, LogItem, Status, begin, middle, end, isTombstone}
+use Rattle.rules.specs.Context.{Kind, context, index, Part, Context}
+use Rattle.rules_by_group.specs.Group.{cleansOf}
+
+unfoldable pub isBegin : Status → Bool
+isBegin begin = true
+isBegin middle = false
+isBegin end = false
+
+unfoldable pub isEnd : Status → Bool
+isEnd begin = false
+isEnd middle = false
+isEnd end = true
+
+-- what may stand behind a group's newest part: nothing, or an End behind a Begin
+unfoldable pub behind : Status → List Part → Bool
+behind s [] = true
+behind s (o ∷ []) = isBegin s && isEnd (o .status)
+behind s (o ∷ (r ∷ rs)) = false
+
+-- the shapes that `accept` makes, newest first
+unfoldable pub shaped : List Part → Bool
+shaped [] = false
+shaped (p ∷ ps) = behind (p .status) ps
+
+-- the items of a group's parts are the group's own
+unfoldable pub ownItems : ℕ → List LogItem → Bool
+ownItems g items = every (λ (it : LogItem). eqb (it .group) g) items
+
+unfoldable pub ownParts : ℕ → List Part → Bool
+ownParts g ps = every (λ (p : Part). ownItems g (p .items)) ps
+
+unfoldable pub allTombstones : List LogItem → Bool
+allTombstones items = every (λ (it : LogItem). isTombstone (it .content)) items
+
+-- by kind: the cleaned numbers of an Append context are the Cleans of its tombstones, and nothing waits there; a Rewrite context has no
+-- cleaned numbers; the index has no tombstones, and nothing waits there
+unfoldable pub KeptBy : Kind → Context → Type 0
+KeptBy (context Append) c = (c .waiting ≡ []) × (c .cleaned ≡ cleansOf (c .tombstones))
+KeptBy (context Rewrite) c = c .cleaned ≡ []
+KeptBy index c = (c .waiting ≡ []) × (c .tombstones ≡ [])
+
+pub record Kept (c : Context) : Type 0 where
+  pub groups-ascend : Ascending numbers (c .groups)
+  pub waiting-ascends : Ascending numbers (c .waiting)
+  pub own-items : every (λ (x : Pair ℕ (List Part)). ownParts (x .key) (x .val)) (c .waiting) ≡ true
+  pub shapes : every (λ (x : Pair ℕ (List Part)). shaped (x .val)) (c .waiting) ≡ true
+  pub tombstones-only : allTombstones (c .tombstones) ≡ true
+  pub by-kind : KeptBy (c .kind) c
