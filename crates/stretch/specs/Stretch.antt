@@ -1,6 +1,6 @@
 -- A stretch read as the rules' table of a group, or as a free place.
 -- The header's numbers: used, group, first index, entries, Rewrite entries, whether there is a span, its start and end, keys, counted.
-use mathlib.Core.Bool.{Bool, cond, not}
+use mathlib.Core.Bool.{Bool, cond}
 use mathlib.Core.List.{List, [], _∷_}
 use mathlib.Core.Option.{none, some}
 use mathlib.Core.Path.{_≡_}
@@ -23,7 +23,7 @@ use Rattle.stretch.specs.Layout.{entriesAt, entryNumbers, keysAt, keyNum
 -- ---- the header
 
 unfoldable pub isUsed : List ℕ → Bool
-isUsed p = not (eqb (getD p 0 0) 0)
+isUsed p = eqb (getD p 0 0) 1
 
 unfoldable pub groupIn : List ℕ → ℕ
 groupIn p = getD p 1 0
