@@ -1,0 +1,4 @@
+-- Eight stretches of an area as the rules' map of groups: the view, and what the calls on it promise.
+pub mod Area
+pub mod Calls
+pub mod Undo
