@@ -41,6 +41,12 @@ pub length-head : (h : Head) → length (headNumbers h) ≡ 6
 unfolding headNumbers
 length-head h = rw (length-span (h .«atomic_group»))
 
+-- they are 3
+pub three-numbers : (a : AtomicGroup) → spanNumbers a ≡ getD (spanNumbers a) 0 0 ∷ getD (spanNumbers a) 1 0 ∷ getD (spanNumbers a) 2 0 ∷ []
+unfolding spanNumbers
+three-numbers group.None = refl
+three-numbers (group.Span s e) = refl
+
 span-back : (a : AtomicGroup) → cond (eqb (getD (spanNumbers a) 0 0) 0) group.None (group.Span (getD (spanNumbers a) 1 0) (getD (spanNumbers a) 2 0)) ≡ a
 unfolding spanNumbers
 span-back group.None = refl
