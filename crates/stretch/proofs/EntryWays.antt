@@ -2,11 +2,11 @@
 use mathlib.Core.Bool.{true}
 use mathlib.Core.List.{List}
 use mathlib.Core.Option.{Option}
-use mathlib.Core.Path.{_≡_, refl, sym, ap, _∙_}
+use mathlib.Core.Path.{_≡_, ap, _∙_}
 use Prim.Native.Nat.{ℕ, _/_, _≤_}
 use native.Mathlib.Omega.{arith}
 use lib.ListN.{length, take}
-use Rattle.cells.specs.Part.{part, put}
+use Rattle.cells.specs.Part.{put}
 use borrow.Rule.Slice.PartMut.{putMid}
 use Rattle.cells.specs.PartLaws.{length-part, length-put, put-part, loan-put}
 use Rattle.maps.specs.Lists.{every}
@@ -28,7 +28,7 @@ use Rattle.memtable.specs.Views.{tableOf}
 use Rattle.memtable.specs.Views as memtable
 use Rattle.memtable.specs.SameLaws.{all-rewritten}
 use Rattle.stretch.specs.declared.Outcome.{Outcome}
-use Rattle.stretch.specs.declared.Outcome.the-variants.{Done, Refused}
+use Rattle.stretch.specs.declared.Outcome.the-variants.{Done}
 use Rattle.stretch.specs.Stretch.{headIn, keyCount, isCounted, headNumbers, entryRows, keyRows, tableIn, Wf}
 use Rattle.stretch.specs.StretchLaws.{Holds, own, with-entries, with-head, table-of, wf-of, front-put}
 use Rattle.stretch.specs.Changes.{Changed, laidOutcome, laidNumbers, movedOutcome, movedNumbers}

@@ -1,21 +1,21 @@
 -- Each way through the changes of a group's keys. The rows were lent and came back as rows′, the bytes as b′. Assumes nothing.
-use mathlib.Core.Bool.{true, false, cond, _&&_}
+use mathlib.Core.Bool.{false}
 use mathlib.Core.List.{List, [], _∷_}
 use mathlib.Core.Option.{Option, none, some}
 use mathlib.Core.Path.{_≡_, refl, sym, ap, _∙_}
-use Prim.Native.Nat.{ℕ, _*_, _≤_}
+use Prim.Native.Nat.{ℕ, _*_}
 use native.Mathlib.Omega.{arith}
 use lib.Dec.{leb, ltb}
 use lib.ListN.{length, take, set}
 use borrow.Author.Tests.{leb-true, le-leb, lt-leb, ltb-true}
-use Rattle.cells.specs.Part.{part, put}
+use Rattle.cells.specs.Part.{put}
 use borrow.Rule.Slice.PartMut.{putMid}
 use Rattle.cells.specs.PartLaws.{length-part, length-put, put-part, loan-put, set-put}
 use Rattle.maps.specs.BoolLaws.{and-false}
 use Rattle.maps.specs.Lists.{orElse}
-use Rattle.maps.specs.Maps.{lookup, insert, remove, bytes}
+use Rattle.maps.specs.Maps.{insert, bytes}
 use Rattle.maps.specs.OrderLaws.{split}
-use Rattle.rules.specs.Causes.{Refusal, Result, ok, refused, andThen}
+use Rattle.rules.specs.Causes.{Refusal, ok, refused, andThen}
 use Rattle.rules.specs.Items.{LogQueue, Append, Rewrite, sameQueue}
 use Rattle.rules.specs.Context.{tableFits}
 use Rattle.rules.specs.Table.{Held, Table, withKeys, putKey, deleteKey, rewriteFile, rewrittenKey}
@@ -24,7 +24,6 @@ use Rattle.kvs.specs.declared.Rewritten.the-variants.{Accepted, GoesBack}
 use Rattle.kvs.specs.Rows.{keysIn, fits}
 use Rattle.kvs.specs.Rows as rows
 use Rattle.kvs.specs.Calls.{roomFor, Stands, putRows, putBytes, PutKey, DeleteKey, rewrittenAs, moves, rewrittenRows, RewriteKey}
-use Rattle.kvs.specs.Places.{placeOf}
 use Rattle.kvs.specs.declared.Place.{Place}
 use Rattle.memtable.specs.Views.{tableOf}
 use Rattle.stretch.specs.declared.Outcome.the-variants.{Done, Refused}

@@ -8,7 +8,7 @@ use Rattle.maps.specs.Lists.{every}
 use Rattle.pipe_log.specs.Numbers.{gateOf}
 use Rattle.pipe_log.specs.Rows.{window}
 use Rattle.rules.specs.Causes.{Result, ok, refused, refuse, andThen, limitPassed}
-use Rattle.rules.specs.Items.{EntryIndex, isRewrite}
+use Rattle.rules.specs.Items.{isRewrite}
 use Rattle.rules.specs.Table.{Table, appended, replayedRewrite, rewritten, compacted, putKey, deleteKey, rewrittenKey}
 use Rattle.rules.specs.Context.{tableFits}
 use Rattle.kvs.specs.Calls.{heldBy}

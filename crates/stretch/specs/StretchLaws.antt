@@ -16,7 +16,7 @@ use Rattle.memtable.specs.declared.Head.{Head}
 use Rattle.memtable.specs.Views.{tableOf}
 use Rattle.memtable.specs.Views as memtable
 use Rattle.stretch.specs.Layout.{stretchWidth, bytesWidth, entryNumbers, keyNumbers}
-use Rattle.stretch.specs.Stretch.{spanIn, headIn, keyCount, isCounted, spanNumbers, headNumbers, entryRows, keyRows, tableIn, NumbersWf, Wf}
+use Rattle.stretch.specs.Stretch.{spanIn, headIn, keyCount, isCounted, spanNumbers, headNumbers, entryRows, keyRows, tableIn, Wf}
 
 -- the head, the rows of entries, the number of keys, their rows and the mark of counting that the numbers hold
 pub record Holds (q : List ℕ) (h : Head) (xs : List ℕ) (n : ℕ) (rows : List ℕ) (c : Bool) : Type 0 where

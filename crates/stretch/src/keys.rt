@@ -1,5 +1,4 @@
 // Changes of a group's keys, each by the keys' own function on the rows of the stretch and its bytes.
-ghost use mathlib.Core.Path.{_≡_};
 ghost use Prim.Native.Nat.{_≤_};
 ghost use lib.ListN.{length};
 ghost use Rattle.pipe_log.specs.Numbers.{gateOf};
