@@ -12,20 +12,20 @@ use Rattle.cells.specs.Part.{part, put}
 use Rattle.cells.specs.PartLaws.{length-part, length-put, getD-put-in, getD-part, part-put-after, part-front, part-part}
 use Rattle.maps.specs.BoolLaws.{and-false}
 use Rattle.maps.specs.Lists.{orElse, mapOption, first, last}
-use Rattle.maps.specs.Maps.{bytes}
+use Rattle.maps.specs.Maps.{lookup, bytes}
 use Rattle.maps.specs.MapLaws.{pair, ascending-nil}
+use Rattle.pipe_log.specs.Numbers.{gateOf}
 use Rattle.pipe_log.specs.Rows.{window}
 use Rattle.rules.specs.Causes.{Result, ok}
 use Rattle.rules.specs.Items.{EntryIndex}
 use Rattle.rules.specs.Context.{tableFits}
-use Rattle.rules.specs.Table.{Held, Table, emptyTable, firstIndex, lastIndex, isBelowFirst, isAboveLast, withEntries, over, appended, rewritten}
+use Rattle.rules.specs.Table.{Held, Table, emptyTable, firstIndex, lastIndex, isBelowFirst, isAboveLast, withEntries, over, appended, rewritten, rewrittenKey}
 use Rattle.kvs.specs.Rows.{rowsFrom, keysIn, RowsOk}
 use Rattle.kvs.specs.Rows as kvs
 use Rattle.kvs.specs.RowLaws.{Same, length-keys}
 use Rattle.kvs.specs.SameLaws as keys
 use Rattle.memtable.specs.declared.AtomicGroup.the-variants as group
 use Rattle.memtable.specs.declared.Head.{Head}
-use Rattle.memtable.specs.Rewrites.{gateOf}
 use Rattle.memtable.specs.Views.{spanOf, tableOf}
 use Rattle.memtable.specs.Views as memtable
 use Rattle.memtable.specs.SameLaws as entries
@@ -156,6 +156,10 @@ rewritten-empty : (gate : Option ℕ) (rs : List EntryIndex) → rewritten gate 
 unfolding rewritten emptyTable orElse
 rewritten-empty gate rs = rw no-first (or-same (ok emptyTable) (firstIndex rs))
 
+key-empty : (k : List ℕ) (gate : Option ℕ) (s : ℕ) → rewrittenKey k gate s emptyTable ≡ ok emptyTable
+unfolding rewrittenKey emptyTable lookup orElse
+key-empty k gate s = refl
+
 pub empty-taken : (c : Change) (rows key value : List ℕ) → Ready c rows key value emptyTable → (t : Table) × (ruleOf c rows key value emptyTable ≡ ok t)
 unfolding ruleOf
 empty-taken (change.Append first live) rows key value r = appended-empty live (window first (length rows / 8) rows)
@@ -164,6 +168,7 @@ empty-taken (change.Rewrite first gate) rows key value r = (emptyTable, rewritte
 empty-taken (change.Compact index) rows key value r = (_, refl)
 empty-taken (change.Put queue seq) rows key value r = (_, refl)
 empty-taken change.Delete rows key value r = (_, refl)
+empty-taken (change.RewriteKey gate seq) rows key value r = (emptyTable, key-empty key (gateOf gate) seq)
 empty-taken change.Make rows key value r = (_, refl)
 
 -- ---- a stretch depends on its header and its rows in use alone

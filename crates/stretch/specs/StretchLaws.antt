@@ -16,7 +16,7 @@ use Rattle.memtable.specs.declared.Head.{Head}
 use Rattle.memtable.specs.Views.{tableOf}
 use Rattle.memtable.specs.Views as memtable
 use Rattle.stretch.specs.Layout.{stretchWidth, bytesWidth, entryNumbers, keyNumbers}
-use Rattle.stretch.specs.Stretch.{spanIn, headIn, keyCount, isCounted, spanNumbers, headNumbers, entryRows, keyRows, tableIn, NumbersWf, Wf}
+use Rattle.stretch.specs.Stretch.{spanIn, headIn, keyCount, isCounted, spanNumbers, headNumbers, entryRows, keyRows, tableIn, Wf}
 
 -- the head, the rows of entries, the number of keys, their rows and the mark of counting that the numbers hold
 pub record Holds (q : List ℕ) (h : Head) (xs : List ℕ) (n : ℕ) (rows : List ℕ) (c : Bool) : Type 0 where
@@ -40,6 +40,12 @@ length-span (group.Span s e) = refl
 pub length-head : (h : Head) → length (headNumbers h) ≡ 6
 unfolding headNumbers
 length-head h = rw (length-span (h .«atomic_group»))
+
+-- they are 3
+pub three-numbers : (a : AtomicGroup) → spanNumbers a ≡ getD (spanNumbers a) 0 0 ∷ getD (spanNumbers a) 1 0 ∷ getD (spanNumbers a) 2 0 ∷ []
+unfolding spanNumbers
+three-numbers group.None = refl
+three-numbers (group.Span s e) = refl
 
 span-back : (a : AtomicGroup) → cond (eqb (getD (spanNumbers a) 0 0) 0) group.None (group.Span (getD (spanNumbers a) 1 0) (getD (spanNumbers a) 2 0)) ≡ a
 unfolding spanNumbers
