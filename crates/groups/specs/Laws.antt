@@ -8,14 +8,14 @@ use Prim.Native.Nat.{ℕ, _+_, _*_, _≤_, _<_}
 use native.Mathlib.Nat.{add-zero}
 use native.Mathlib.Omega.{arith}
 use lib.Dec.{eqb}
-use lib.ListN.{length, take, drop, getD, set}
+use lib.ListN.{length, take, drop, getD, set, length-drop}
 use borrow.Author.Tests.{eqb-true, eqb-false}
 use Rattle.cells.specs.PartLaws.{getD-part}
 use Rattle.maps.specs.Lists.{every}
 use Rattle.maps.specs.Maps.{lookup, numbers}
 use Rattle.maps.specs.MapLaws.{pair, Ascending}
 use Rattle.maps.specs.OrderLaws.{split, same-sym, numbersLawful}
-use Rattle.maps.specs.Cells.{Cell, holds, isFree}
+use Rattle.maps.specs.Cells.{Cell, mapOf, holds, isFree}
 use Rattle.maps.specs.CellLaws.{lookup-at, lookup-absent, mapOf-ascending, length-le, length-full, every-mapOf, all-free}
 use Rattle.rules.specs.Context.{tableFits}
 use Rattle.rules.specs.Table.{Table}
@@ -25,9 +25,9 @@ use Rattle.stretch.specs.Laws.{cell-used, cell-free, wf-fits}
 use Rattle.groups.specs.declared.Slot.{Slot}
 use Rattle.groups.specs.declared.Slot.the-variants.{At, Free, Full}
 use Rattle.groups.specs.Area.{slots, numbersInUse, bytesInUse, stretchAt, bytesAt, cellAt, cells, groupsOf, Wf, Only, isOf, AtSlot, FreeSlot, NoSlot, Found, OnlySlot}
-use Rattle.groups.specs.Undo.{liveNumbers, markAt, undoneCells, Undoable, Secured}
+use Rattle.groups.specs.Undo.{liveNumbers, liveBytes, markAt, undoneCells, Undoable, Secured}
 use Rattle.groups.specs.AreaLaws.{length-cells, getD-cells, Alike, same-back, same-cell, same-cells, same-groups, same-wf, same-found, same-stretch, same-bytes, front-fits, only-none, only-set, first-set, only-length, only-length-bytes, only-other, only-drop, only-drop-bytes}
-use Rattle.groups.specs.UndoLaws.{same-undone, same-undoneCells, Spares, same-undoable}
+use Rattle.groups.specs.UndoLaws.{same-mark, same-undone, same-undoneCells, Spares, same-undoable}
 
 -- ---- where a group stands
 
@@ -165,7 +165,22 @@ module _ (xs bs ys ds : List ℕ) (p : take numbersInUse xs ≡ take numbersInUs
   pub front-undoable : Undoable xs bs → Undoable ys ds
   front-undoable u = same-undoable (λ k l. front-alike (slots + k) (omega arith)) front-undone u
 
--- a search depends on the stretches without the spare ones
+  pub front-secured : (g : ℕ) (slot : Slot) → Found g xs slot → Secured slot xs → Secured slot ys
+  unfolding Found Secured
+  front-secured g (At k) f s = let b = f .inside in rw (same-mark k (front-alike (slots + k) (omega arith))) at s
+  front-secured g (Free k) f s = let b = f .inside in rw (same-mark k (front-alike (slots + k) (omega arith))) at s
+  front-secured g Full f s = tt
+
+-- the map is that of the cells
+pub cells-groups : (xs bs : List ℕ) (cs : List (Cell Table)) → cells xs bs ≡ cs → groupsOf xs bs ≡ mapOf cs
+unfolding groupsOf
+cells-groups xs bs cs e = rw e
+
+-- the cells depend on the stretches without the spare ones, and so does a search
+pub live-cells : (xs bs xs′ bs′ : List ℕ) → take liveNumbers xs′ ≡ take liveNumbers xs → take liveBytes bs′ ≡ take liveBytes bs → cells xs′ bs′ ≡ cells xs bs
+live-cells xs bs xs′ bs′ p q =
+    same-cells (λ j l. record { numbers = same-stretch j liveNumbers xs′ xs (omega arith) p; bytes = same-bytes j liveBytes bs′ bs (omega arith) q })
+
 pub live-found : (g : ℕ) (slot : Slot) (xs xs′ : List ℕ) → take liveNumbers xs′ ≡ take liveNumbers xs → Found g xs slot → Found g xs′ slot
 live-found g slot xs xs′ e f = same-found g slot xs xs′ (λ j l. same-stretch j liveNumbers xs xs′ (omega arith) (sym e)) f
 
@@ -177,6 +192,10 @@ pub record Behind (xs bs xs′ bs′ : List ℕ) : Type 0 where
   pub bytes : drop bytesInUse bs′ ≡ drop bytesInUse bs
   pub numbers-length : length xs′ ≡ length xs
   pub bytes-length : length bs′ ≡ length bs
+
+-- what follows the front has its length, and so has the whole
+pub behind-length : (n : ℕ) (xs xs′ : List ℕ) → n ≤ length xs → n ≤ length xs′ → drop n xs′ ≡ drop n xs → length xs′ ≡ length xs
+behind-length n xs xs′ p q e = omega (arith, simp length-drop at (ap length e))
 
 module _ (k : ℕ) (xs bs xs′ bs′ : List ℕ) (l : k < 16) (p : numbersInUse ≤ length xs) (q : bytesInUse ≤ length bs) (o : Only k xs bs xs′ bs′) where
   pub only-behind : Behind xs bs xs′ bs′

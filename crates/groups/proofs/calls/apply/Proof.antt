@@ -1,6 +1,7 @@
 -- `groups::calls::apply` meets its contract. Assumes nothing.
 use Rattle.stretch.specs.Laws.{empty-taken}
 use Rattle.groups.specs.Laws.{found-at, found-full}
+use Rattle.stretch.specs.Changes.{ruleOf}
 use Rattle.groups.proofs.Applying.{at-table, at-changed, full-refused, full-table}
 use borrow.Author.Needs.{needs}
 use Rattle.groups.proofs.calls.apply.Statement.{statement}
@@ -39,7 +40,7 @@ returns c =
     let start = c .before .before .before .before .before .before .before .before .before .before .before .before .before .before .before in
     let slot = c .before .before .before .before .before .before .before .before .slot in
     let apply-at = c .before .before .before .before .apply-at in
-    rw (slot .given .1) (at-changed _ _ _ (start .args .xs .now) (start .args .bs .now) _ _ _ (start .pre .0) (found-at _ _ _ _ (start .pre .1 .0) (slot .given .1)) (apply-at .ensures))
+    rw (slot .given .1) (at-changed (ruleOf (start .args .change) (start .args .rows .now) (start .args .key .now) (start .args .value .now)) _ _ (start .args .xs .now) (start .args .bs .now) _ _ _ (start .pre .0) (found-at _ _ _ _ (start .pre .1 .0) (slot .given .1)) (apply-at .ensures))
 
 same-length-3 : tie.Need-same-length-3
 same-length-3 c = search needs

@@ -2,6 +2,7 @@
 use mathlib.Core.Path.{refl}
 use native.Mathlib.Omega.{arith}
 use Rattle.groups.specs.Laws.{found-free}
+use Rattle.stretch.specs.Changes.{ruleOf}
 use Rattle.groups.proofs.Applying.{made-wf, made-at, made-same, grown-wf, made-done, made-refused}
 use borrow.Author.Needs.{needs}
 use Rattle.groups.proofs.calls.apply_made.Statement.{statement}
@@ -33,7 +34,7 @@ free-at-requires c κs =
     let make-at = c .before .before .before .before .before .before .before .before .before .before .before .before .before .make-at in
     let apply-at = c .before .before .before .before .before .before .before .before .apply-at in
     let f = found-free _ _ _ _ (start .pre .1 .0) refl in
-    (omega (arith, f .inside), grown-wf (start .args .group) (start .args .k) (start .args .xs .now) (start .args .bs .now) (start .pre .0) f _ _ _ _ (rw (make-at .ensures) at (apply-at .ensures)) .numbers-fit)
+    (omega (arith, f .inside), grown-wf (start .args .group) (start .args .k) (start .args .xs .now) (start .args .bs .now) (start .pre .0) f (ruleOf (start .args .change) (start .args .rows .now) (start .args .key .now) (start .args .value .now)) _ _ _ (rw (make-at .ensures) at (apply-at .ensures)) .numbers-fit)
 
 same-length : tie.Need-same-length
 same-length c = search needs

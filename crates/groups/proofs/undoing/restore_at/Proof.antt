@@ -1,8 +1,7 @@
 -- `groups::undoing::restore_at` meets its contract. Assumes nothing.
-use mathlib.Core.Path.{refl, ap}
+use mathlib.Core.Path.{refl}
 use Prim.Native.Nat.{_+_}
 use native.Mathlib.Omega.{arith}
-use lib.ListN.{length}
 use Rattle.groups.proofs.Copies.{in-use, copied}
 use borrow.Author.Needs.{needs}
 use Rattle.groups.proofs.undoing.restore_at.Statement.{statement}
@@ -64,8 +63,8 @@ mul-shift-down-u64-2 c =
 shift-down-u64-requires-2 : tie.Need-shift-down-u64-requires-2
 shift-down-u64-requires-2 c κs =
     let start = c .before .before .before .before .before .before .before .before .before in
-    let shift-down-u64 = c .before .before .before .shift-down-u64 in
-    let few = in-use (8 + start .args .k) (start .args .xs .now) (start .args .bs .now) (start .pre .1) in omega (arith, few, start .pre, ap length (shift-down-u64 .ensures))
+    let xs = c .before .before .xs in
+    let few = in-use (8 + start .args .k) (start .args .xs .now) (start .args .bs .now) (start .pre .1) in omega (arith, few, start .pre, xs .given)
 
 add-shift-down-u8 : tie.Need-add-shift-down-u8
 add-shift-down-u8 c = search needs

@@ -1,8 +1,7 @@
 -- `groups::undoing::save_at` meets its contract. Assumes nothing.
-use mathlib.Core.Path.{refl, ap}
+use mathlib.Core.Path.{refl}
 use Prim.Native.Nat.{_+_}
 use native.Mathlib.Omega.{arith}
-use lib.ListN.{length}
 use Rattle.groups.proofs.Copies.{in-use, copied}
 use borrow.Author.Needs.{needs}
 use Rattle.groups.proofs.undoing.save_at.Statement.{statement}
@@ -64,8 +63,8 @@ mul-shift-up-u64-2 c =
 shift-up-u64-requires-2 : tie.Need-shift-up-u64-requires-2
 shift-up-u64-requires-2 c κs =
     let start = c .before .before .before .before .before .before .before .before .before in
-    let shift-up-u64 = c .before .before .before .shift-up-u64 in
-    let few = in-use (start .args .k) (start .args .xs .now) (start .args .bs .now) (start .pre .1) in omega (arith, few, start .pre, ap length (shift-up-u64 .ensures))
+    let xs = c .before .before .xs in
+    let few = in-use (start .args .k) (start .args .xs .now) (start .args .bs .now) (start .pre .1) in omega (arith, few, start .pre, xs .given)
 
 mul-shift-up-u8 : tie.Need-mul-shift-up-u8
 mul-shift-up-u8 c = search needs
