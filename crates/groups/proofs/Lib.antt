@@ -1,0 +1,5 @@
+pub mod Copies
+pub mod Securings
+pub mod Undoings
+pub mod Finding
+pub mod Applying

@@ -1,0 +1,110 @@
+// Changes of a group's entries, each by the head's own method on the rows of the stretch. They see no bytes.
+ghost use mathlib.Core.List.{List};
+ghost use mathlib.Core.Path.{_≡_};
+ghost use Prim.Native.Nat.{ℕ, _/_, _≤_};
+ghost use lib.ListN.{length};
+ghost use Rattle.pipe_log.specs.Numbers.{gateOf};
+ghost use Rattle.pipe_log.specs.Rows.{window};
+ghost use Rattle.rules.specs.Causes.{ok};
+ghost use Rattle.rules.specs.Table.{appended, replayedRewrite, rewritten, compacted};
+ghost use Rattle.memtable.specs.Appends.{Lent};
+ghost use Rattle.stretch.specs.Stretch.{headIn, NumbersWf, Wf};
+ghost use Rattle.stretch.specs.Changes.{Changed, laidOutcome, laidNumbers, movedOutcome, movedNumbers};
+use crate::ABOVE_LAST;
+use crate::ALREADY_REWRITTEN;
+use crate::APPEND_LEFT;
+use crate::BELOW_FIRST;
+use crate::ENTRIES_AT;
+use crate::KEYS_AT;
+use crate::LIMIT_PASSED;
+use crate::Outcome;
+use crate::header::head_in;
+use crate::header::write_head;
+use memtable::Appended;
+use memtable::Rewritten;
+use pipe_log::Gate;
+
+// Writes the head that laying rows over gives, or answers the refusal.
+fn settle_laid(p: &mut [u64], answer: Appended) -> Outcome
+    requires { ⌜ 10 ≤ length (now p) ⌝ }
+    ensures { λ r. ⌜ (r ≡ laidOutcome answer) × (now (p .exit) ≡ laidNumbers answer (now (p .entry))) ⌝ }
+{
+    match answer {
+        Appended::Done(head) => {
+            write_head(p, head);
+            Outcome::Done
+        }
+        Appended::BelowFirst => Outcome::Refused(BELOW_FIRST),
+        Appended::AboveLast => Outcome::Refused(ABOVE_LAST),
+        Appended::Full => Outcome::Refused(LIMIT_PASSED),
+    }
+}
+
+// Appends entries of the Append queue, live or replayed.
+pub fn append(p: &mut [u64], first: u64, rows: &[u64], live: bool) -> Outcome
+    requires { ⌜ NumbersWf (now p) ⌝ }
+    requires { ⌜ Lent 0 first (now rows) ⌝ }
+    ensures { λ r. ⌜ ((b : List ℕ) → Wf (now (p .entry)) b → Changed (appended live (window first (length (now (rows .entry)) / 8) (now (rows .entry)))) (now (p .entry)) b r (now (p .exit)) b) ⌝ }
+{
+    let head = head_in(p);
+    let a = ENTRIES_AT;
+    let e = KEYS_AT;
+    let answer = head.append(&mut p[a..e], first, rows, live);
+    settle_laid(p, answer)
+}
+
+// Replays entries of the Rewrite queue on a group that has no others.
+pub fn replay_rewrite(p: &mut [u64], first: u64, rows: &[u64]) -> Outcome
+    requires { ⌜ NumbersWf (now p) ⌝ }
+    requires { ⌜ Lent 1 first (now rows) ⌝ }
+    requires { ⌜ headIn (now p) .len ≤ headIn (now p) .«rewrite_count» ⌝ }
+    ensures { λ r. ⌜ ((b : List ℕ) → Wf (now (p .entry)) b → Changed (λ t. ok (replayedRewrite (window first (length (now (rows .entry)) / 8) (now (rows .entry))) t)) (now (p .entry)) b r (now (p .exit)) b) ⌝ }
+{
+    let head = head_in(p);
+    let a = ENTRIES_AT;
+    let e = KEYS_AT;
+    let answer = head.replay_rewrite(&mut p[a..e], first, rows);
+    settle_laid(p, answer)
+}
+
+// Writes the head that a rewrite gives, or answers the refusal.
+fn settle_rewritten(p: &mut [u64], answer: Rewritten) -> Outcome
+    requires { ⌜ 10 ≤ length (now p) ⌝ }
+    ensures { λ r. ⌜ (r ≡ movedOutcome answer) × (now (p .exit) ≡ movedNumbers answer (now (p .entry))) ⌝ }
+{
+    match answer {
+        Rewritten::Done(head) => {
+            write_head(p, head);
+            Outcome::Done
+        }
+        Rewritten::AppendLeft => Outcome::Refused(APPEND_LEFT),
+        Rewritten::AlreadyRewritten => Outcome::Refused(ALREADY_REWRITTEN),
+    }
+}
+
+// Rewrites entries where the rows overlap them.
+pub fn rewrite(p: &mut [u64], first: u64, rows: &[u64], gate: Gate) -> Outcome
+    requires { ⌜ NumbersWf (now p) ⌝ }
+    requires { ⌜ Lent 1 first (now rows) ⌝ }
+    ensures { λ r. ⌜ ((b : List ℕ) → Wf (now (p .entry)) b → Changed (rewritten (gateOf gate) (window first (length (now (rows .entry)) / 8) (now (rows .entry)))) (now (p .entry)) b r (now (p .exit)) b) ⌝ }
+{
+    let head = head_in(p);
+    let a = ENTRIES_AT;
+    let e = KEYS_AT;
+    let answer = head.rewrite(&mut p[a..e], first, rows, gate);
+    settle_rewritten(p, answer)
+}
+
+// Drops the entries below an index.
+pub fn compact(p: &mut [u64], index: u64) -> Outcome
+    requires { ⌜ NumbersWf (now p) ⌝ }
+    ensures { λ r. ⌜ ((b : List ℕ) → Wf (now (p .entry)) b → Changed (λ t. ok (compacted index t)) (now (p .entry)) b r (now (p .exit)) b) ⌝ }
+{
+    let head = head_in(p);
+    let a = ENTRIES_AT;
+    let e = KEYS_AT;
+    let answer = head.compact_to(&mut p[a..e], index);
+    let next = answer.head;
+    write_head(p, next);
+    Outcome::Done
+}

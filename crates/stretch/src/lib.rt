@@ -1,0 +1,51 @@
+// The stretch of an area that holds one group: a header, rows of entries and rows of keys in numbers, and the keys' bytes.
+// A change is carried out by the tables' own functions, `memtable` and `kvs`, each on its part of the stretch.
+mod changes;
+mod entries;
+mod header;
+mod keys;
+
+pub use changes::apply;
+pub use header::make;
+use pipe_log::Gate;
+use pipe_log::LogQueue;
+
+// The layout of a stretch.
+pub const ENTRIES_AT: usize = 10;
+
+pub const KEYS_AT: usize = 522;
+
+pub const STRETCH: usize = 586;
+
+pub const BYTES: usize = 1024;
+
+// What an item does to its group. The rows of entries, the key and the value are lent beside it.
+pub enum Change {
+    Append { first: u64, live: bool },
+    ReplayRewrite { first: u64 },
+    Rewrite { first: u64, gate: Gate },
+    Compact { index: u64 },
+    Put { queue: LogQueue, seq: u64 },
+    Delete,
+    RewriteKey { gate: Gate, seq: u64 },
+    Make,
+}
+
+// How a change ends: done, or refused with document 01's number.
+pub enum Outcome {
+    Done,
+    Refused(u64),
+}
+
+// Document 01's numbers of the causes that a change meets.
+pub const BELOW_FIRST: u64 = 13;
+
+pub const ABOVE_LAST: u64 = 14;
+
+pub const APPEND_LEFT: u64 = 15;
+
+pub const ALREADY_REWRITTEN: u64 = 16;
+
+pub const KEY_GOES_BACK: u64 = 17;
+
+pub const LIMIT_PASSED: u64 = 18;
