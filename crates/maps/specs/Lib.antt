@@ -5,3 +5,5 @@ pub mod OrderLaws
 pub mod MapLaws
 pub mod ListLaws
 pub mod BoolLaws
+pub mod Cells
+pub mod CellLaws

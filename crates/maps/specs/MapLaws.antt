@@ -227,6 +227,44 @@ module _ {K A : Type 0} (o : Order K) (law : Lawful o) where
   store-again k none m e h = remove-absent k m e
   store-again k (some a) m e h = insert-again k a m e h
 
+  -- ---- two stores
+
+  -- at one key the last one counts
+  pub store-store : (k : K) (x y : Option A) (m : Map K A) → Ascending o m → store o k x (store o k y m) ≡ store o k x m
+  store-store k x y m h =
+      let h₁ = ascending-store k y m h in
+      ext _ _ (ascending-store k x _ h₁) (ascending-store k x m h)
+      (λ j. split (o .same j k)
+      (λ s. rw (lookup-store j k x (store o k y m) h₁, lookup-store j k x m h, s))
+      (λ s. rw (lookup-store j k x (store o k y m) h₁, lookup-store j k x m h, lookup-store j k y m h, s)))
+
+  -- at two keys either comes first
+  pub store-comm : (j k : K) (x y : Option A) (m : Map K A) → o .same j k ≡ false → Ascending o m → store o j x (store o k y m) ≡ store o k y (store o j x m)
+  store-comm j k x y m n h =
+      let hj = ascending-store j x m h in
+      let hk = ascending-store k y m h in
+      ext _ _ (ascending-store j x _ hk) (ascending-store k y _ hj)
+      (λ l. rw (lookup-store l j x (store o k y m) hk, lookup-store l k y (store o j x m) hj, lookup-store l k y m h, lookup-store l j x m h)
+      (split (o .same l j)
+      (λ s. let t : o .same l k ≡ false = rw (law .same-eq l j s) n in rw (s, t))
+      (λ s. rw s)))
+
+  pub insert-insert : (k : K) (a b : A) (m : Map K A) → Ascending o m → insert o k a (insert o k b m) ≡ insert o k a m
+  unfolding store
+  insert-insert k a b m h = store-store k (some a) (some b) m h
+
+  pub remove-insert : (k : K) (a : A) (m : Map K A) → lookup o k m ≡ none → Ascending o m → remove o k (insert o k a m) ≡ m
+  unfolding store
+  remove-insert k a m n h = store-store k none (some a) m h ∙ remove-absent k m n
+
+  pub insert-comm : (j k : K) (a b : A) (m : Map K A) → o .same j k ≡ false → Ascending o m → insert o j a (insert o k b m) ≡ insert o k b (insert o j a m)
+  unfolding store
+  insert-comm j k a b m n h = store-comm j k (some a) (some b) m n h
+
+  pub insert-remove-comm : (j k : K) (a : A) (m : Map K A) → o .same j k ≡ false → Ascending o m → insert o j a (remove o k m) ≡ remove o k (insert o j a m)
+  unfolding store
+  insert-remove-comm j k a m n h = store-comm j k (some a) none m n h
+
   -- ---- sums over a map
 
   pub sum-insert-none : (g : Pair K A → ℕ) (k : K) (a : A) (m : Map K A) → lookup o k m ≡ none → sum g (insert o k a m) ≡ g (pair k a) + sum g m
@@ -297,6 +335,15 @@ module _ {K A : Type 0} (o : Order K) (law : Lawful o) where
       (λ s p. rw s (omega arith))
       (λ s p. rw (s, p) (omega arith))
       (λ s p q. rw (s, p) (let ih = length-insert-le k a xs in omega arith))
+
+  pub length-insert-most : (k : K) (a : A) (m : Map K A) → length (insert o k a m) ≤ suc (length m)
+  unfolding insert
+  length-insert-most k a [] = omega arith
+  length-insert-most k a (x ∷ xs) =
+      three o law k (x .key)
+      (λ s p. rw s (omega arith))
+      (λ s p. rw (s, p) (omega arith))
+      (λ s p q. rw (s, p) (let ih = length-insert-most k a xs in omega arith))
 
   pub length-remove-some : (k : K) (b : A) (m : Map K A) → lookup o k m ≡ some b → suc (length (remove o k m)) ≡ length m
   unfolding lookup remove
