@@ -7,7 +7,7 @@ use Prim.Native.Nat.{ℕ, _≤_}
 use lib.Dec.{eqb}
 use lib.ListN.{length, getD}
 use Rattle.cells.specs.Part.{part, put}
-use Rattle.rules.specs.Items.{LogQueue, Append, Rewrite, LogItem}
+use Rattle.rules.specs.Items.{Append, Rewrite, LogItem}
 use Rattle.rules.specs.Context.{Kind, context, index, Context}
 use Rattle.stores.specs.declared.Store.{Store}
 use Rattle.stores.specs.Stores.{Area, area, storeItems, Stored}

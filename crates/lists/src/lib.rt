@@ -1,7 +1,7 @@
 // The kind and the lists of a context: tombstones and cleaned numbers. They stand behind the groups of an area.
 ghost use mathlib.Core.List.{List};
 ghost use mathlib.Core.Path.{_≡_};
-ghost use Prim.Native.Nat.{ℕ, _≤_, _<_};
+ghost use Prim.Native.Nat.{ℕ, _<_};
 ghost use lib.ListN.{length, getD};
 ghost use Rattle.log_batch.specs.Lent.{itemOf};
 ghost use Rattle.stores.specs.Written.{Lent, countOf};
