@@ -119,6 +119,7 @@ module _ (gate : Option ℕ) (h : Head) (xs : List ℕ) (s : ℕ) (rows : List �
                   ]
             ];
         laid = unmoved (rw (none-from l, take-nil {A = EntryIndex} (length (entriesFrom (h .«first_index») list))));
+        first = refl;
         wf = w;
       }
 
@@ -137,6 +138,7 @@ module _ (gate : Option ℕ) (h : Head) (xs : List ℕ) (s : ℕ) (rows : List �
                   ]
             ];
         laid = unmoved (rw (none-listed l));
+        first = refl;
         wf = w;
       }
 
@@ -209,11 +211,11 @@ module _ (gate : Option ℕ) (h : Head) (xs : List ℕ) (s : ℕ) (rows : List �
 
     pub rewrite-left : h .«rewrite_count» < p → Rewriting gate h xs s rows AppendLeft xs
     unfolding andThen
-    rewrite-left l = record { rule = λ keys counted. rw (by-rows keys counted, append-before l); laid = refl; wf = w }
+    rewrite-left l = record { rule = λ keys counted. rw (by-rows keys counted, append-before l); laid = refl; first = refl; wf = w }
 
     pub rewrite-met : p ≤ h .«rewrite_count» → meetsRewrite gate (stopsAt gate held lent) ≡ true → Rewriting gate h xs s rows AlreadyRewritten xs
     unfolding andThen
-    rewrite-met l e = record { rule = λ keys counted. rw (by-rows keys counted, rewrite-before l, e); laid = refl; wf = w }
+    rewrite-met l e = record { rule = λ keys counted. rw (by-rows keys counted, rewrite-before l, e); laid = refl; first = refl; wf = w }
 
     -- k rows of the list laid in
     module _ (k : ℕ) (r : Run gate (h .«first_index» + p) (drop (p * 8) xs) (min (h .len - p) (length rows / 8 - q)) k) (l : Lent 1 s rows)
@@ -271,6 +273,7 @@ module _ (gate : Option ℕ) (h : Head) (xs : List ℕ) (s : ℕ) (rows : List �
                   entries-after,
                 );
             laid = part-after;
+            first = refl;
             wf =
                 record {
                   room = rw (d, length-put xs (p * 8) (part (q * 8) (k * 8) rows) (omega (arith, laid-length, w .room, r .most))) (w .room);

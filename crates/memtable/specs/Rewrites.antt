@@ -60,6 +60,7 @@ pub record Rewriting (gate : Option ℕ) (h : Head) (xs : List ℕ) (s : ℕ) (r
   pub rule : (keys : Map (List ℕ) Held) (counted : Bool)
       → rewrittenOf r ys keys counted ≡ rewritten gate (window s (length rows / 8) rows) (tableOf h xs keys counted)
   pub laid : ys ≡ rewrittenPart gate h xs s rows r
+  pub first : rewrittenHead h r .«first_index» ≡ h .«first_index»
   pub wf : Wf (rewrittenHead h r) ys
 
 -- ---- how many entries are replaced
