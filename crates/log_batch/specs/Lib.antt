@@ -1,3 +1,4 @@
 -- What the contracts of `log_batch` cite.
 pub mod Lent
 pub mod Judged
+pub mod Plain
