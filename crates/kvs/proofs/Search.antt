@@ -3,7 +3,7 @@ use Prim.Native.Nat.{ℕ, zero, suc, _+_, _-_, _≤_, _<_}
 use native.Mathlib.Nat.{add-zero, suc-add, add-suc}
 use native.Mathlib.Numerals.{add-one}
 use native.Mathlib.Omega.{arith}
-use mathlib.Core.Bool.{true, false, cond, true≢false}
+use mathlib.Core.Bool.{true, false, cond}
 use mathlib.Core.Path.{_≡_, refl, sym, ap, _∙_}
 use mathlib.Core.List.{List, [], _∷_, _++_}
 use lib.ListN.{length, take, drop}
@@ -13,7 +13,7 @@ use Rattle.cells.specs.declared.order.Order.{Order}
 use Rattle.cells.specs.declared.order.Order.the-variants.{Less, Equal, Greater}
 use Rattle.cells.specs.Bytes.{byteOrder}
 use Rattle.maps.specs.Maps.{Pair, Map, bytes, sameBytes, bytesBelow}
-use Rattle.maps.specs.OrderLaws.{three, bytesLawful, below-differs, above-differs, below-not-back}
+use Rattle.maps.specs.OrderLaws.{bytesLawful, below-differs, above-differs, below-not-back}
 use Rattle.maps.specs.MapLaws.{AllBelow, Ascending}
 use Rattle.rules.specs.Table.{Held}
 use Rattle.kvs.specs.Rows.{rowAt, keyOf, pairOf, keysIn, Wf}
@@ -21,31 +21,8 @@ use Rattle.kvs.specs.RowLaws.{length-keys, keys-from}
 use Rattle.kvs.specs.Orders.{below-by-order, same-by-order}
 use Rattle.kvs.specs.Places.{placeFrom, placeOf, Within}
 use Rattle.kvs.specs.PlaceLaws.{place-within}
+use Rattle.kvs.specs.Stretches.{ascending-part, below-through}
 use Rattle.kvs.specs.declared.Place.the-variants.{At, Before}
-
--- ---- stretches of ascending keys ascend
-
-below-take : (j : List ℕ) (n : ℕ) (m : Map (List ℕ) Held) → AllBelow bytes j m → AllBelow bytes j (take n m)
-unfolding AllBelow
-below-take j zero m h = tt
-below-take j (suc n) [] h = tt
-below-take j (suc n) (x ∷ m) h = (h .0, below-take j n m (h .1))
-
-ascending-take : (n : ℕ) (m : Map (List ℕ) Held) → Ascending bytes m → Ascending bytes (take n m)
-unfolding Ascending
-ascending-take zero m h = tt
-ascending-take (suc n) [] h = tt
-ascending-take (suc n) (x ∷ m) h = (below-take (x .key) n m (h .0), ascending-take n m (h .1))
-
-ascending-drop : (n : ℕ) (m : Map (List ℕ) Held) → Ascending bytes m → Ascending bytes (drop n m)
-unfolding Ascending
-ascending-drop zero m h = h
-ascending-drop (suc n) [] h = tt
-ascending-drop (suc n) (x ∷ m) h = ascending-drop n m (h .1)
-
-ascending-part : (a n : ℕ) (m : Map (List ℕ) Held) → Ascending bytes m → Ascending bytes (part a n m)
-unfolding part
-ascending-part a n m h = ascending-take n (drop a m) (ascending-drop a m h)
 
 -- ---- the place of k among keys with x between them
 
@@ -61,20 +38,12 @@ module _ (k : List ℕ) (x : Pair (List ℕ) Held) (t : Map (List ℕ) Held) whe
   below-later j [] h = h .0
   below-later j (y ∷ s) h = below-later j s (h .1)
 
-  -- what is below x is below k, if k is not
-  below-through : (j : List ℕ) → bytesBelow j (x .key) ≡ true → bytesBelow k (x .key) ≡ false → bytesBelow j k ≡ true
-  below-through j p q =
-      three bytes bytesLawful k (x .key)
-      (λ e f. rw f p)
-      (λ e b. absurd (true≢false (sym b ∙ q)))
-      (λ e b f. bytesLawful .below-trans j (x .key) k p f)
-
   -- k is not below x: x and the keys after it have its place
   place-rest : (i : ℕ) (s : Map (List ℕ) Held) → Ascending bytes (s ++ (x ∷ t)) → bytesBelow k (x .key) ≡ false → placeFrom i k (s ++ (x ∷ t)) ≡ placeFrom (i + length s) k (x ∷ t)
   unfolding placeFrom Ascending
   place-rest i [] a b = rw (add-zero i)
   place-rest i (y ∷ s) a b =
-      let below : bytesBelow (y .key) k ≡ true = below-through (y .key) (below-later (y .key) s (a .0)) b in
+      let below : bytesBelow (y .key) k ≡ true = below-through k (x .key) (y .key) (below-later (y .key) s (a .0)) b in
       rw (
         above-differs bytes bytesLawful (y .key) k below,
         below-not-back bytes bytesLawful (y .key) k below,
