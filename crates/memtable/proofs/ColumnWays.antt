@@ -1,12 +1,13 @@
 -- The turns of the loops that fill lent slices, and what the slices then hold. Assumes nothing.
 use mathlib.Core.List.{List, [], _∷_, _++_}
-use mathlib.Core.Path.{_≡_, sym, ap, _∙_}
-use Prim.Native.Nat.{ℕ, _+_, _*_, _≤_, _<_}
+use mathlib.Core.Path.{_≡_, refl, sym, ap, _∙_}
+use Prim.Native.Nat.{ℕ, _+_, _-_, _*_, _≤_, _<_}
 use native.Mathlib.Nat.{zero-add, le-antisymm}
 use native.Mathlib.Omega.{arith}
 use lib.ListN.{length, getD, set, drop}
-use lib.Seq.{getD-drop}
+use lib.Seq.{getD-drop, drop-drop}
 use Rattle.cells.specs.Part.{put}
+use Rattle.cells.specs.PartLaws.{put-append}
 use Rattle.cells.proofs.Steps.{Laid, laid-snoc}
 use borrow.Author.Tests.{le-leb, lt-leb}
 use Rattle.pipe_log.specs.Numbers.{queueNumber, compressionNumber}
@@ -18,28 +19,64 @@ use Rattle.memtable.specs.Views.{AnyRow}
 use Rattle.memtable.specs.RowLaws.{row-queue, row-seq, row-offset, row-len, row-compression, row-entry-offset, row-entry-len}
 use Rattle.memtable.specs.WindowLaws.{length-window}
 use Rattle.memtable.specs.Columns.{Columns, columns, blockOffset, blockLen, laidInto, judged, columnsAfter, Answered, column, upFrom}
-use Rattle.memtable.specs.ColumnLaws.{length-column, length-upFrom, column-snoc, upFrom-snoc, map-window, map-index}
+use Rattle.memtable.specs.ColumnLaws.{length-column, length-upFrom, column-snoc, column-append, upFrom-snoc, map-window, map-index}
+
+-- a cell of the rows from row `from` on, which stands at place p of xs
+cell-at : (xs : List ℕ) (from k i p : ℕ) → p ≡ (from + i) * 8 + k → getD (drop (from * 8) xs) (i * 8 + k) 0 ≡ getD xs p 0
+cell-at xs from k i p e =
+    let z : from * 8 + (i * 8 + k) ≡ p = omega arith in
+    rw (getD-drop (from * 8) xs (i * 8 + k) 0, z)
 
 module _ {d l : List ℕ} where
   -- one more behind what is laid in from the first place
   more : {s s′ : List ℕ} (i v : ℕ) → Laid d 0 s l → s ++ (v ∷ []) ≡ s′ → length s ≡ i → i < length d → Laid d 0 s′ (set l i v)
   more i v h e n b = rw (zero-add i) at (laid-snoc i v h e n (omega arith))
 
-  pub column-more : (xs : List ℕ) (from k i : ℕ) → Laid d 0 (column k i (drop (from * 8) xs)) l → i < length d
-      → Laid d 0 (column k (i + 1) (drop (from * 8) xs)) (set l i (getD xs ((from + i) * 8 + k) 0))
-  column-more xs from k i h b =
-      let z : from * 8 + (i * 8 + k) ≡ (from + i) * 8 + k = omega arith in
-      let e : getD (drop (from * 8) xs) (i * 8 + k) 0 ≡ getD xs ((from + i) * 8 + k) 0 = rw (getD-drop (from * 8) xs (i * 8 + k) 0, z) in
-      more i (getD xs ((from + i) * 8 + k) 0) h (rw (← e) (column-snoc k i (drop (from * 8) xs))) (length-column k i (drop (from * 8) xs)) b
+  -- one cell more
+  pub cell-more : (xs : List ℕ) (from k i at : ℕ) → Laid d at (column k i (drop (from * 8) xs)) l → at + i < length d
+      → Laid d at (column k (i + 1) (drop (from * 8) xs)) (set l (at + i) (getD xs ((from + i) * 8 + k) 0))
+  cell-more xs from k i at h b =
+      laid-snoc i (getD xs ((from + i) * 8 + k) 0) h (rw (← cell-at xs from k i ((from + i) * 8 + k) refl) (column-snoc k i (drop (from * 8) xs))) (length-column k i (drop (from * 8) xs)) b
 
-  pub column-all : (k i n : ℕ) (ys : List ℕ) → Laid d 0 (column k i ys) l → i ≤ n → n ≤ i → l ≡ put d 0 (column k n ys)
-  column-all k i n ys h a b = rw (le-antisymm a b) at (h .is)
+  -- the same at the first places
+  next-cell : (xs : List ℕ) (from k i j p : ℕ) → p ≡ (from + i) * 8 + k → j ≡ i + 1 → Laid d 0 (column k i (drop (from * 8) xs)) l → i < length d
+      → Laid d 0 (column k j (drop (from * 8) xs)) (set l i (getD xs p 0))
+  next-cell xs from k i j p e f h b =
+      rw f (more i (getD xs p 0) h (rw (← cell-at xs from k i p e) (column-snoc k i (drop (from * 8) xs))) (length-column k i (drop (from * 8) xs)) b)
+
+  pub cells-all : (k i n at : ℕ) (ys : List ℕ) → Laid d at (column k i ys) l → i ≤ n → n ≤ i → l ≡ put d at (column k n ys)
+  cells-all k i n at ys h a b = rw (le-antisymm a b) at (h .is)
 
   pub index-more : (f i : ℕ) → Laid d 0 (upFrom f i) l → i < length d → Laid d 0 (upFrom f (i + 1)) (set l i (f + i))
   index-more f i h b = more i (f + i) h (upFrom-snoc f i) (length-upFrom f i) b
 
   pub index-all : (f i n : ℕ) → Laid d 0 (upFrom f i) l → i ≤ n → n ≤ i → l ≡ put d 0 (upFrom f n)
   index-all f i n h a b = rw (le-antisymm a b) at (h .is)
+
+-- four cells more
+pub column-four : {d l : List ℕ} (xs : List ℕ) (from k i : ℕ) → Laid d 0 (column k i (drop (from * 8) xs)) l → i + 4 ≤ length d
+    → Laid d 0 (column k (i + 4) (drop (from * 8) xs))
+    (set (set (set (set l i (getD xs ((from + i) * 8 + k) 0)) (i + 1) (getD xs ((from + i) * 8 + k + 8) 0)) (i + 2) (getD xs ((from + i) * 8 + k + 16) 0)) (i + 3) (getD xs ((from + i) * 8 + k + 24) 0))
+column-four xs from k i h b =
+    next-cell xs from k (i + 3) (i + 4) _ (omega arith) (omega arith)
+    (next-cell xs from k (i + 2) (i + 3) _ (omega arith) (omega arith)
+    (next-cell xs from k (i + 1) (i + 2) _ (omega arith) (omega arith)
+    (next-cell xs from k i (i + 1) _ refl refl h (omega arith)) (omega arith)) (omega arith)) (omega arith)
+
+-- the rest behind them
+pub column-rest : {d l : List ℕ} (xs : List ℕ) (from k i n : ℕ) (r : List ℕ) → Laid d 0 (column k i (drop (from * 8) xs)) l → i ≤ n
+    → r ≡ put l i (column k (n - i) (drop ((from + i) * 8) xs)) → r ≡ put d 0 (column k n (drop (from * 8) xs))
+column-rest {d} {l} xs from k i n r h b e =
+    let A = column k i (drop (from * 8) xs) in
+    let B = column k (n - i) (drop (i * 8) (drop (from * 8) xs)) in
+    let z : from * 8 + i * 8 ≡ (from + i) * 8 = omega arith in
+    let m : length A ≡ i = length-column k i (drop (from * 8) xs) in
+    let t : i + (n - i) ≡ n = omega arith in
+    let q : put (put d 0 A) (0 + length A) B ≡ put d 0 (A ++ B) = sym (put-append d 0 A B (omega arith)) in
+    e
+    ∙ rw (h .is, ← z, ← drop-drop (i * 8) (from * 8) xs) (rw (m, zero-add i) at q)
+    ∙ ap (put d 0) (column-append k i (n - i) (drop (from * 8) xs))
+    ∙ rw t
 
 -- ---- rows as an answer
 

@@ -10,16 +10,33 @@ ghost use Rattle.memtable.specs.Columns.{columns, SameLength, Answered, 
 use crate::Fetched;
 use crate::Head;
 
-// Copies cell `cell` of `count` rows from row `from` on.
+// Copies cell `cell` of `count` rows from row `from` on to the places from `at` on.
+fn copy_cells(part: &[u64], from: usize, cell: usize, count: usize, out: &mut [u64], at: usize)
+    requires { ⌜ ((from + count) * 8 ≤ length (now part)) × (cell < 8) × (at + count ≤ length (now out)) ⌝ }
+    ensures { λ _. ⌜ now (out .exit) ≡ put (now (out .entry)) at (column cell count (drop (from * 8) (now (part .entry)))) ⌝ }
+{
+    let mut i = 0;
+    while i < count {
+        out[at + i] = part[(from + i) * 8 + cell];
+        i += 1;
+    }
+}
+
+// The same to the first places, by four rows and a rest: a loop row by row is compiled with tests for overlap before each run.
 fn copy_column(part: &[u64], from: usize, cell: usize, count: usize, out: &mut [u64])
     requires { ⌜ ((from + count) * 8 ≤ length (now part)) × (cell < 8) × (count ≤ length (now out)) ⌝ }
     ensures { λ _. ⌜ now (out .exit) ≡ put (now (out .entry)) 0 (column cell count (drop (from * 8) (now (part .entry)))) ⌝ }
 {
     let mut i = 0;
-    while i < count {
-        out[i] = part[(from + i) * 8 + cell];
-        i += 1;
+    while 4 <= count - i {
+        let at = (from + i) * 8 + cell;
+        out[i] = part[at];
+        out[i + 1] = part[at + 8];
+        out[i + 2] = part[at + 16];
+        out[i + 3] = part[at + 24];
+        i += 4;
     }
+    copy_cells(part, from + i, cell, count - i, out, i);
 }
 
 // Writes `count` indexes from `first` up.
