@@ -11,8 +11,8 @@ pub enum Order {
     Greater,
 }
 
-// Eight bytes as one number, `a` the highest. Summed from the lowest byte up, it compiles to one load and a swap.
-fn joined(a: u8, b: u8, c: u8, d: u8, e: u8, f: u8, g: u8, h: u8) -> u64
+// Eight bytes as one number, `a` the highest. Read and summed from the lowest byte up, they compile to one load and a swap.
+fn joined(h: u8, g: u8, f: u8, e: u8, d: u8, c: u8, b: u8, a: u8) -> u64
     ensures { λ r. ⌜ r ≡ h + g * 0x100 + f * 0x1_0000 + e * 0x100_0000 + d * 0x1_0000_0000 + c * 0x100_0000_0000 + b * 0x1_0000_0000_0000 + a * 0x100_0000_0000_0000 ⌝ }
 {
     h as u64
@@ -31,14 +31,14 @@ fn word_at(s: &[u8], i: usize) -> u64
     ensures { λ r. ⌜ r ≡ wordAt 8 i (now (s .entry)) ⌝ }
 {
     joined(
-        s[i],
-        s[i + 1],
-        s[i + 2],
-        s[i + 3],
-        s[i + 4],
-        s[i + 5],
-        s[i + 6],
         s[i + 7],
+        s[i + 6],
+        s[i + 5],
+        s[i + 4],
+        s[i + 3],
+        s[i + 2],
+        s[i + 1],
+        s[i],
     )
 }
 

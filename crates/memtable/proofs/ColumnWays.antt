@@ -8,7 +8,7 @@ use lib.ListN.{length, getD, set, drop}
 use lib.Seq.{getD-drop, drop-drop}
 use Rattle.cells.specs.Part.{put}
 use Rattle.cells.specs.PartLaws.{put-append}
-use Rattle.cells.proofs.Steps.{Laid, laid-snoc}
+use Rattle.cells.proofs.Steps.{Laid, laid-none, laid-snoc}
 use borrow.Author.Tests.{le-leb, lt-leb}
 use Rattle.pipe_log.specs.Numbers.{queueNumber, compressionNumber}
 use Rattle.pipe_log.specs.Rows.{window}
@@ -32,20 +32,11 @@ module _ {d l : List ℕ} where
   more : {s s′ : List ℕ} (i v : ℕ) → Laid d 0 s l → s ++ (v ∷ []) ≡ s′ → length s ≡ i → i < length d → Laid d 0 s′ (set l i v)
   more i v h e n b = rw (zero-add i) at (laid-snoc i v h e n (omega arith))
 
-  -- one cell more
-  pub cell-more : (xs : List ℕ) (from k i at : ℕ) → Laid d at (column k i (drop (from * 8) xs)) l → at + i < length d
-      → Laid d at (column k (i + 1) (drop (from * 8) xs)) (set l (at + i) (getD xs ((from + i) * 8 + k) 0))
-  cell-more xs from k i at h b =
-      laid-snoc i (getD xs ((from + i) * 8 + k) 0) h (rw (← cell-at xs from k i ((from + i) * 8 + k) refl) (column-snoc k i (drop (from * 8) xs))) (length-column k i (drop (from * 8) xs)) b
-
-  -- the same at the first places
-  next-cell : (xs : List ℕ) (from k i j p : ℕ) → p ≡ (from + i) * 8 + k → j ≡ i + 1 → Laid d 0 (column k i (drop (from * 8) xs)) l → i < length d
-      → Laid d 0 (column k j (drop (from * 8) xs)) (set l i (getD xs p 0))
-  next-cell xs from k i j p e f h b =
-      rw f (more i (getD xs p 0) h (rw (← cell-at xs from k i p e) (column-snoc k i (drop (from * 8) xs))) (length-column k i (drop (from * 8) xs)) b)
-
-  pub cells-all : (k i n at : ℕ) (ys : List ℕ) → Laid d at (column k i ys) l → i ≤ n → n ≤ i → l ≡ put d at (column k n ys)
-  cells-all k i n at ys h a b = rw (le-antisymm a b) at (h .is)
+  -- one cell more, at place t
+  next-cell : (xs : List ℕ) (from k at i j t p : ℕ) → p ≡ (from + i) * 8 + k → j ≡ i + 1 → t ≡ at + i → Laid d at (column k i (drop (from * 8) xs)) l → t < length d
+      → Laid d at (column k j (drop (from * 8) xs)) (set l t (getD xs p 0))
+  next-cell xs from k at i j t p e f g h b =
+      rw (f, g) (laid-snoc i (getD xs p 0) h (rw (← cell-at xs from k i p e) (column-snoc k i (drop (from * 8) xs))) (length-column k i (drop (from * 8) xs)) (omega arith))
 
   pub index-more : (f i : ℕ) → Laid d 0 (upFrom f i) l → i < length d → Laid d 0 (upFrom f (i + 1)) (set l i (f + i))
   index-more f i h b = more i (f + i) h (upFrom-snoc f i) (length-upFrom f i) b
@@ -58,10 +49,36 @@ pub column-four : {d l : List ℕ} (xs : List ℕ) (from k i : ℕ) → Laid d 0
     → Laid d 0 (column k (i + 4) (drop (from * 8) xs))
     (set (set (set (set l i (getD xs ((from + i) * 8 + k) 0)) (i + 1) (getD xs ((from + i) * 8 + k + 8) 0)) (i + 2) (getD xs ((from + i) * 8 + k + 16) 0)) (i + 3) (getD xs ((from + i) * 8 + k + 24) 0))
 column-four xs from k i h b =
-    next-cell xs from k (i + 3) (i + 4) _ (omega arith) (omega arith)
-    (next-cell xs from k (i + 2) (i + 3) _ (omega arith) (omega arith)
-    (next-cell xs from k (i + 1) (i + 2) _ (omega arith) (omega arith)
-    (next-cell xs from k i (i + 1) _ refl refl h (omega arith)) (omega arith)) (omega arith)) (omega arith)
+    next-cell xs from k 0 (i + 3) (i + 4) (i + 3) _ (omega arith) (omega arith) (omega arith)
+    (next-cell xs from k 0 (i + 2) (i + 3) (i + 2) _ (omega arith) (omega arith) (omega arith)
+    (next-cell xs from k 0 (i + 1) (i + 2) (i + 1) _ (omega arith) (omega arith) (omega arith)
+    (next-cell xs from k 0 i (i + 1) i _ refl refl (omega arith) h (omega arith)) (omega arith)) (omega arith)) (omega arith)
+
+-- up to three cells from place `at` on
+module _ (d xs : List ℕ) (from k at n : ℕ) (b : at + n ≤ length d) where
+  none-laid : Laid d at (column k 0 (drop (from * 8) xs)) d
+  unfolding column
+  none-laid = laid-none d at
+
+  one-laid : 1 ≤ n → Laid d at (column k 1 (drop (from * 8) xs)) (set d at (getD xs (from * 8 + k) 0))
+  one-laid m = next-cell xs from k at 0 1 at (from * 8 + k) (omega arith) refl (omega arith) none-laid (omega arith)
+
+  two-laid : 2 ≤ n → Laid d at (column k 2 (drop (from * 8) xs)) (set (set d at (getD xs (from * 8 + k) 0)) (at + 1) (getD xs (from * 8 + k + 8) 0))
+  two-laid m = next-cell xs from k at 1 2 (at + 1) (from * 8 + k + 8) (omega arith) refl refl (one-laid (omega arith)) (omega arith)
+
+  pub rest-none : n ≡ 0 → d ≡ put d at (column k n (drop (from * 8) xs))
+  rest-none e = rw e (none-laid .is)
+
+  pub rest-one : n ≡ 1 → set d at (getD xs (from * 8 + k) 0) ≡ put d at (column k n (drop (from * 8) xs))
+  rest-one e = let f = one-laid (omega arith) in rw e (f .is)
+
+  pub rest-two : n ≡ 2 → set (set d at (getD xs (from * 8 + k) 0)) (at + 1) (getD xs (from * 8 + k + 8) 0) ≡ put d at (column k n (drop (from * 8) xs))
+  rest-two e = let f = two-laid (omega arith) in rw e (f .is)
+
+  pub rest-three : n ≡ 3 → set (set (set d at (getD xs (from * 8 + k) 0)) (at + 1) (getD xs (from * 8 + k + 8) 0)) (at + 2) (getD xs (from * 8 + k + 16) 0) ≡ put d at (column k n (drop (from * 8) xs))
+  rest-three e =
+      let f = next-cell xs from k at 2 3 (at + 2) (from * 8 + k + 16) (omega arith) refl refl (two-laid (omega arith)) (omega arith) in
+      rw e (f .is)
 
 -- the rest behind them
 pub column-rest : {d l : List ℕ} (xs : List ℕ) (from k i n : ℕ) (r : List ℕ) → Laid d 0 (column k i (drop (from * 8) xs)) l → i ≤ n

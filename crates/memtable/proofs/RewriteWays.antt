@@ -10,7 +10,8 @@ use lib.ListN.{length, getD, take, drop}
 use lib.Seq.{getD-drop, take-nil}
 use borrow.Author.Tests.{le-leb, lt-leb}
 use Rattle.cells.specs.Part.{part, put}
-use Rattle.cells.specs.PartLaws.{length-part, getD-part, part-none, length-put, getD-put-before, getD-put-in, getD-put-after, put-nil}
+use Rattle.cells.proofs.Steps.{Laid}
+use Rattle.cells.specs.PartLaws.{length-part, getD-part, part-none, part-append, length-put, getD-put-before, getD-put-in, getD-put-after, put-nil, put-append}
 use Rattle.maps.specs.Lists.{front, first, last, mapOption, orElse}
 use Rattle.maps.specs.Maps.{Map}
 use Rattle.pipe_log.specs.Rows.{window}
@@ -21,7 +22,7 @@ use Rattle.memtable.specs.declared.Head.{Head}
 use Rattle.memtable.specs.declared.Rewritten.{the-variants.Done, the-variants.AppendLeft, the-variants.AlreadyRewritten}
 use Rattle.memtable.specs.Views.{tableOf, rowAt, Row, Wf}
 use Rattle.memtable.specs.Appends.{Lent}
-use Rattle.memtable.specs.Rewrites.{moved, replacedPart, Rewriting, Run, Met, counting, Replaced}
+use Rattle.memtable.specs.Rewrites.{moved, replacedPart, Rewriting, Run, Met, Overlap, Passed, counting, Replaced}
 use Rattle.memtable.specs.RowLaws.{row-moved, row-seq, any-drop, held-row, rowAt-rewrite, rowAt-append}
 use Rattle.memtable.specs.Scans.{countBefore}
 use Rattle.memtable.specs.ScanLaws.{before-all, before-next}
@@ -362,6 +363,37 @@ module _ (h : Head) (xs : List ℕ) (w : Wf h xs) (p c : ℕ) (l : p + c ≤ h .
         meets = λ b. in-appends k (omega arith) b;
       }
 
+-- ---- an overlap without a gate, and with one
+
+within : (p k n x : ℕ) → k ≤ n - p → p < n → n * 8 ≤ x → (p + k) * 8 ≤ x
+within p k n x a b c = omega arith
+
+module _ (h : Head) (xs : List ℕ) (s : ℕ) (rows : List ℕ) (w : Wf h xs) (l : Lent 1 s rows) (p q c : ℕ) (o : Overlap h s rows p q c) where
+  -- k rows of it are within the part and within the list
+  pub overlap-within : (k : ℕ) → k ≤ c → ((p + k) * 8 ≤ length xs) × ((q + k) * 8 ≤ length rows)
+  overlap-within k b =
+      let a : k ≤ h .len - p = omega (arith, o .most) in
+      let d : k ≤ length rows / 8 - q = omega (arith, o .most) in
+      let e : q < length rows / 8 = omega (arith, o .skipped, o .listed) in
+      let f : length rows / 8 * 8 ≤ length rows = omega (arith, l .whole) in
+      (within p k (h .len) (length xs) a (o .held) (w .room), within q k (length rows / 8) (length rows) d e f)
+
+  pub overlap-ungated : (k : ℕ) (g : Head) (ys : List ℕ) → k ≡ min c (h .«rewrite_count» - p) → Replaced h xs rows p q k g ys → Rewriting none h xs s rows (Done g) ys
+  overlap-ungated k g ys e d =
+      replace-done none h xs s rows w p q (o .place) (o .skipped) (o .held) (o .listed) (o .behind) c k g ys (o .most) l
+      (run-ungated h xs w p c (omega (arith, o .most, o .held)) k e) d
+
+  pub overlap-met : (gate : ℕ) → p < h .«rewrite_count» → Rewriting (some gate) h xs s rows AlreadyRewritten xs
+  overlap-met gate b =
+      replace-already (some gate) h xs s rows w p q (o .place) (o .skipped) (o .held) (o .listed) (o .behind)
+      (met-gated h xs w p c (omega (arith, o .most, o .held)) gate b)
+
+  pub overlap-gated : (gate k : ℕ) (g : Head) (ys : List ℕ) → h .«rewrite_count» ≤ p → Passed gate xs rows p q c k ys → g ≡ counting (max (h .«rewrite_count») (p + k)) h
+      → Rewriting (some gate) h xs s rows (Done g) ys
+  overlap-gated gate k g ys b d e =
+      replace-done (some gate) h xs s rows w p q (o .place) (o .skipped) (o .held) (o .listed) (o .behind) c k g ys (o .most) l
+      (run-gated h xs w p c (omega (arith, o .most, o .held)) gate k b (d .count) (d .most)) (record { head = e; laid = d .laid })
+
 -- ---- `lay_replaced`
 
 module _ (h : Head) (xs rows : List ℕ) (p q k : ℕ) (ys : List ℕ) (d : ys ≡ put xs (p * 8) (take ((q + k) * 8 - q * 8) (drop (q * 8) rows))) where
@@ -371,12 +403,43 @@ module _ (h : Head) (xs rows : List ℕ) (p q k : ℕ) (ys : List ℕ) (d : ys �
       let e : (q + k) * 8 - q * 8 ≡ k * 8 = omega arith in
       rw e at d
 
-  pub lay-more : h .«rewrite_count» < p + k → Replaced h xs rows p q k (counting (p + k) h) ys
-  lay-more l =
-      let e : p + k ≡ max (h .«rewrite_count») (p + k) = omega arith in
-      record { head = ap (λ (n : ℕ). counting n h) e; laid = laid-part }
+  pub lay-done : (g : Head) → g ≡ counting (max (h .«rewrite_count») (p + k)) h → Replaced h xs rows p q k g ys
+  lay-done g e = record { head = e; laid = laid-part }
 
-  pub lay-same : p + k ≤ h .«rewrite_count» → Replaced h xs rows p q k h ys
-  lay-same l =
-      let e : h .«rewrite_count» ≡ max (h .«rewrite_count») (p + k) = omega arith in
-      record { head = ap (λ (n : ℕ). counting n h) e; laid = laid-part }
+-- ---- `replaced_to`
+
+module _ (h : Head) (n : ℕ) where
+  pub to-more : h .«rewrite_count» < n → counting n h ≡ counting (max (h .«rewrite_count») n) h
+  to-more l = let e : n ≡ max (h .«rewrite_count») n = omega arith in ap (λ (k : ℕ). counting k h) e
+
+  pub to-same : n ≤ h .«rewrite_count» → h ≡ counting (max (h .«rewrite_count») n) h
+  to-same l = let e : h .«rewrite_count» ≡ max (h .«rewrite_count») n = omega arith in ap (λ (k : ℕ). counting k h) e
+
+-- ---- the pass of a gated rewrite
+
+pub row-copied : (xs rows ys : List ℕ) (at from : ℕ) → ys ≡ put xs at (take (from + 8 - from) (drop from rows)) → ys ≡ put xs at (part from 8 rows)
+unfolding part
+row-copied xs rows ys at from e = let n : from + 8 - from ≡ 8 = omega arith in rw n at e
+
+-- what lies behind what is laid in is as it was
+behind-laid : {d s l : List ℕ} (at i j : ℕ) → Laid d at s l → length s ≡ i → at + i ≤ j → at ≤ length d → getD l j 0 ≡ getD d j 0
+behind-laid {d} {s} {l} at i j h n b f = rw (h .is) (getD-put-after d at s j 0 (omega arith) f)
+
+module _ (xs rows : List ℕ) (p q : ℕ) {l : List ℕ} (i : ℕ) (h : Laid xs (p * 8) (part (q * 8) (i * 8) rows) l) where
+  module _ (c : ℕ) (a : (p + c) * 8 ≤ length xs) (b : (q + c) * 8 ≤ length rows) (m : i ≤ c) where
+    rows-long : length (part (q * 8) (i * 8) rows) ≡ i * 8
+    rows-long = length-part (q * 8) (i * 8) rows (omega arith)
+
+    pub held-cell : (k : ℕ) → getD l ((p + i) * 8 + k) 0 ≡ getD xs ((p + i) * 8 + k) 0
+    held-cell k = behind-laid (p * 8) (i * 8) ((p + i) * 8 + k) h rows-long (omega arith) (omega arith)
+
+    pub row-more : i < c → (y : List ℕ) → y ≡ put l ((p + i) * 8) (part ((q + i) * 8) 8 rows) → length y ≡ length l → Laid xs (p * 8) (part (q * 8) ((i + 1) * 8) rows) y
+    row-more n y e f =
+        let z : p * 8 + i * 8 ≡ (p + i) * 8 = omega arith in
+        let w : q * 8 + i * 8 ≡ (q + i) * 8 = omega arith in
+        let t : i * 8 + 8 ≡ (i + 1) * 8 = omega arith in
+        let A = part (q * 8) (i * 8) rows in
+        let B = part ((q + i) * 8) 8 rows in
+        let g : put (put xs (p * 8) A) (p * 8 + length A) B ≡ put xs (p * 8) (A ++ B) = sym (put-append xs (p * 8) A B (omega arith)) in
+        let k : A ++ B ≡ part (q * 8) ((i + 1) * 8) rows = rw (w, t) at (part-append (q * 8) (i * 8) 8 rows) in
+        record { is = e ∙ rw (h .is, ← k) (rw (rows-long, z) at g); long = f ∙ h .long }

@@ -10,19 +10,28 @@ ghost use Rattle.memtable.specs.Columns.{columns, SameLength, Answered, 
 use crate::Fetched;
 use crate::Head;
 
-// Copies cell `cell` of `count` rows from row `from` on to the places from `at` on.
-fn copy_cells(part: &[u64], from: usize, cell: usize, count: usize, out: &mut [u64], at: usize)
-    requires { ⌜ ((from + count) * 8 ≤ length (now part)) × (cell < 8) × (at + count ≤ length (now out)) ⌝ }
+// Copies cell `cell` of up to three rows from row `from` on to the places from `at` on.
+fn copy_rest(part: &[u64], from: usize, cell: usize, count: usize, out: &mut [u64], at: usize)
+    requires { ⌜ ((from + count) * 8 ≤ length (now part)) × (cell < 8) × (at + count ≤ length (now out)) × (count ≤ 3) ⌝ }
     ensures { λ _. ⌜ now (out .exit) ≡ put (now (out .entry)) at (column cell count (drop (from * 8) (now (part .entry)))) ⌝ }
 {
-    let mut i = 0;
-    while i < count {
-        out[at + i] = part[(from + i) * 8 + cell];
-        i += 1;
+    if count == 0 {
+        return;
     }
+    let first = from * 8 + cell;
+    out[at] = part[first];
+    if count == 1 {
+        return;
+    }
+    out[at + 1] = part[first + 8];
+    if count == 2 {
+        return;
+    }
+    out[at + 2] = part[first + 16];
 }
 
-// The same to the first places, by four rows and a rest: a loop row by row is compiled with tests for overlap before each run.
+// Copies cell `cell` of `count` rows from row `from` on, by four rows and a rest: a loop row by row is compiled with tests for
+// an overlap of the two slices.
 fn copy_column(part: &[u64], from: usize, cell: usize, count: usize, out: &mut [u64])
     requires { ⌜ ((from + count) * 8 ≤ length (now part)) × (cell < 8) × (count ≤ length (now out)) ⌝ }
     ensures { λ _. ⌜ now (out .exit) ≡ put (now (out .entry)) 0 (column cell count (drop (from * 8) (now (part .entry)))) ⌝ }
@@ -30,13 +39,17 @@ fn copy_column(part: &[u64], from: usize, cell: usize, count: usize, out: &mut [
     let mut i = 0;
     while 4 <= count - i {
         let at = (from + i) * 8 + cell;
-        out[i] = part[at];
-        out[i + 1] = part[at + 8];
-        out[i + 2] = part[at + 16];
-        out[i + 3] = part[at + 24];
+        let a = part[at];
+        let b = part[at + 8];
+        let c = part[at + 16];
+        let d = part[at + 24];
+        out[i] = a;
+        out[i + 1] = b;
+        out[i + 2] = c;
+        out[i + 3] = d;
         i += 4;
     }
-    copy_cells(part, from + i, cell, count - i, out, i);
+    copy_rest(part, from + i, cell, count - i, out, i);
 }
 
 // Writes `count` indexes from `first` up.

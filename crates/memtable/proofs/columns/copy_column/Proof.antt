@@ -31,14 +31,41 @@ mul-at c = search needs
 add-at-2 : tie.Need-add-at-2 Inv-loop μ-loop
 add-at-2 c = search needs
 
+mul-a : tie.Need-mul-a Inv-loop μ-loop
+mul-a c = search needs
+
+shared-slice-read-a : tie.Need-shared-slice-read-a Inv-loop μ-loop
+shared-slice-read-a c = search needs
+
+add-b : tie.Need-add-b Inv-loop μ-loop
+add-b c = search needs
+
+mul-b : tie.Need-mul-b Inv-loop μ-loop
+mul-b c = search needs
+
+shared-slice-read-b : tie.Need-shared-slice-read-b Inv-loop μ-loop
+shared-slice-read-b c = search needs
+
+add-c : tie.Need-add-c Inv-loop μ-loop
+add-c c = search needs
+
+mul-c : tie.Need-mul-c Inv-loop μ-loop
+mul-c c = search needs
+
+shared-slice-read-c : tie.Need-shared-slice-read-c Inv-loop μ-loop
+shared-slice-read-c c = search needs
+
+add-d : tie.Need-add-d Inv-loop μ-loop
+add-d c = search needs
+
+mul-d : tie.Need-mul-d Inv-loop μ-loop
+mul-d c = search needs
+
+shared-slice-read-d : tie.Need-shared-slice-read-d Inv-loop μ-loop
+shared-slice-read-d c = search needs
+
 mul-out : tie.Need-mul-out Inv-loop μ-loop
 mul-out c = search needs
-
-shared-slice-read-out : tie.Need-shared-slice-read-out Inv-loop μ-loop
-shared-slice-read-out c = search needs
-
-mul-out-2 : tie.Need-mul-out-2 Inv-loop μ-loop
-mul-out-2 c = search needs
 
 slice-write-out : tie.Need-slice-write-out Inv-loop μ-loop
 slice-write-out c = search needs
@@ -46,53 +73,26 @@ slice-write-out c = search needs
 add-out : tie.Need-add-out Inv-loop μ-loop
 add-out c = search needs
 
-mul-out-3 : tie.Need-mul-out-3 Inv-loop μ-loop
-mul-out-3 c = search needs
-
-shared-slice-read-out-2 : tie.Need-shared-slice-read-out-2 Inv-loop μ-loop
-shared-slice-read-out-2 c = search needs
-
-add-out-2 : tie.Need-add-out-2 Inv-loop μ-loop
-add-out-2 c = search needs
-
-mul-out-4 : tie.Need-mul-out-4 Inv-loop μ-loop
-mul-out-4 c = search needs
+mul-out-2 : tie.Need-mul-out-2 Inv-loop μ-loop
+mul-out-2 c = search needs
 
 slice-write-out-2 : tie.Need-slice-write-out-2 Inv-loop μ-loop
 slice-write-out-2 c = simp length-set (omega arith)
 
-add-out-3 : tie.Need-add-out-3 Inv-loop μ-loop
-add-out-3 c = search needs
+add-out-2 : tie.Need-add-out-2 Inv-loop μ-loop
+add-out-2 c = search needs
 
-mul-out-5 : tie.Need-mul-out-5 Inv-loop μ-loop
-mul-out-5 c = search needs
-
-shared-slice-read-out-3 : tie.Need-shared-slice-read-out-3 Inv-loop μ-loop
-shared-slice-read-out-3 c = search needs
-
-add-out-4 : tie.Need-add-out-4 Inv-loop μ-loop
-add-out-4 c = search needs
-
-mul-out-6 : tie.Need-mul-out-6 Inv-loop μ-loop
-mul-out-6 c = search needs
+mul-out-3 : tie.Need-mul-out-3 Inv-loop μ-loop
+mul-out-3 c = search needs
 
 slice-write-out-3 : tie.Need-slice-write-out-3 Inv-loop μ-loop
 slice-write-out-3 c = simp length-set (omega arith)
 
-add-out-5 : tie.Need-add-out-5 Inv-loop μ-loop
-add-out-5 c = search needs
+add-out-3 : tie.Need-add-out-3 Inv-loop μ-loop
+add-out-3 c = search needs
 
-mul-out-7 : tie.Need-mul-out-7 Inv-loop μ-loop
-mul-out-7 c = search needs
-
-shared-slice-read-out-4 : tie.Need-shared-slice-read-out-4 Inv-loop μ-loop
-shared-slice-read-out-4 c = search needs
-
-add-out-6 : tie.Need-add-out-6 Inv-loop μ-loop
-add-out-6 c = search needs
-
-mul-out-8 : tie.Need-mul-out-8 Inv-loop μ-loop
-mul-out-8 c = search needs
+mul-out-4 : tie.Need-mul-out-4 Inv-loop μ-loop
+mul-out-4 c = search needs
 
 slice-write-out-4 : tie.Need-slice-write-out-4 Inv-loop μ-loop
 slice-write-out-4 c = simp length-set (omega arith)
@@ -109,14 +109,14 @@ loop-again c =
     let loop = c .before .before .before .before .before .loop in
     (search needs, column-four _ (start .args .from) (start .args .cell) (loop .i) (loop .inv .1) (search needs))
 
-add-copy-cells : tie.Need-add-copy-cells Inv-loop μ-loop
-add-copy-cells c = search needs
+add-copy-rest : tie.Need-add-copy-rest Inv-loop μ-loop
+add-copy-rest c = search needs
 
-sub-copy-cells : tie.Need-sub-copy-cells Inv-loop μ-loop
-sub-copy-cells c = search needs
+sub-copy-rest : tie.Need-sub-copy-rest Inv-loop μ-loop
+sub-copy-rest c = search needs
 
-copy-cells-requires : tie.Need-copy-cells-requires Inv-loop μ-loop
-copy-cells-requires c κs = search needs
+copy-rest-requires : tie.Need-copy-rest-requires Inv-loop μ-loop
+copy-rest-requires c κs = search needs
 
 same-length : tie.Need-same-length Inv-loop μ-loop
 same-length c = search needs
@@ -125,8 +125,8 @@ returns : tie.Need-returns Inv-loop μ-loop
 returns c =
     let start = c .before .before .before .before .before .before .before .before in
     let loop = c .before .before .before .before .before .loop in
-    let copy-cells = c .before .before .copy-cells in
-    column-rest (start .args .part .now) (start .args .from) (start .args .cell) (loop .i) (start .args .count) _ (loop .inv .1) (search needs) (copy-cells .ensures)
+    let copy-rest = c .before .before .copy-rest in
+    column-rest (start .args .part .now) (start .args .from) (start .args .cell) (loop .i) (start .args .count) _ (loop .inv .1) (search needs) (copy-rest .ensures)
 
 pub copy-column-spec : {M : Type 1} → statement M
 copy-column-spec =
@@ -139,33 +139,33 @@ copy-column-spec =
     add-at
     mul-at
     add-at-2
+    mul-a
+    shared-slice-read-a
+    add-b
+    mul-b
+    shared-slice-read-b
+    add-c
+    mul-c
+    shared-slice-read-c
+    add-d
+    mul-d
+    shared-slice-read-d
     mul-out
-    shared-slice-read-out
-    mul-out-2
     slice-write-out
     add-out
-    mul-out-3
-    shared-slice-read-out-2
-    add-out-2
-    mul-out-4
+    mul-out-2
     slice-write-out-2
-    add-out-3
-    mul-out-5
-    shared-slice-read-out-3
-    add-out-4
-    mul-out-6
+    add-out-2
+    mul-out-3
     slice-write-out-3
-    add-out-5
-    mul-out-7
-    shared-slice-read-out-4
-    add-out-6
-    mul-out-8
+    add-out-3
+    mul-out-4
     slice-write-out-4
     add-i
     loop-less
     loop-again
-    add-copy-cells
-    sub-copy-cells
-    copy-cells-requires
+    add-copy-rest
+    sub-copy-rest
+    copy-rest-requires
     same-length
     returns)
