@@ -6,12 +6,12 @@ use mathlib.Core.Path.{_≡_, refl, sym, ap, _∙_}
 use Prim.Native.Nat.{ℕ, zero, suc, _+_, _-_, _*_, _/_, _≤_, _<_, min, max}
 use native.Mathlib.Decide.{decLt}
 use native.Mathlib.Omega.{arith}
-use lib.ListN.{length, getD, take, drop}
+use lib.ListN.{length, getD, set, take, drop}
 use lib.Seq.{getD-drop, take-nil}
 use borrow.Author.Tests.{le-leb, lt-leb}
 use Rattle.cells.specs.Part.{part, put}
-use Rattle.cells.proofs.Steps.{Laid}
-use Rattle.cells.specs.PartLaws.{length-part, getD-part, part-none, part-append, length-put, getD-put-before, getD-put-in, getD-put-after, put-nil, put-append}
+use Rattle.cells.proofs.Steps.{Laid, laid-none, laid-snoc}
+use Rattle.cells.specs.PartLaws.{length-part, getD-part, part-none, part-snoc, part-append, length-put, getD-put-before, getD-put-in, getD-put-after, put-nil, put-append}
 use Rattle.maps.specs.Lists.{front, first, last, mapOption, orElse}
 use Rattle.maps.specs.Maps.{Map}
 use Rattle.pipe_log.specs.Rows.{window}
@@ -417,9 +417,26 @@ module _ (h : Head) (n : ℕ) where
 
 -- ---- the pass of a gated rewrite
 
-pub row-copied : (xs rows ys : List ℕ) (at from : ℕ) → ys ≡ put xs at (take (from + 8 - from) (drop from rows)) → ys ≡ put xs at (part from 8 rows)
-unfolding part
-row-copied xs rows ys at from e = let n : from + 8 - from ≡ 8 = omega arith in rw n at e
+-- one number of a row more
+next-number : {d l : List ℕ} (at from i j t p : ℕ) (x : List ℕ) → t ≡ at + i → p ≡ from + i → j ≡ i + 1 → Laid d at (part from i x) l → from + i < length x → at + i < length d
+    → Laid d at (part from j x) (set l t (getD x p 0))
+next-number at from i j t p x e f g h a b =
+    rw (e, f, g) (laid-snoc i (getD x (from + i) 0) h (part-snoc from i x 0 a) (length-part from i x (omega arith)) b)
+
+pub row-copied : (d rows : List ℕ) (at from : ℕ) → at + 8 ≤ length d → from + 8 ≤ length rows
+    → set (set (set (set (set (set (set (set d at (getD rows from 0)) (at + 1) (getD rows (from + 1) 0)) (at + 2) (getD rows (from + 2) 0)) (at + 3) (getD rows (from + 3) 0)) (at + 4) (getD rows (from + 4) 0)) (at + 5) (getD rows (from + 5) 0)) (at + 6) (getD rows (from + 6) 0)) (at + 7) (getD rows (from + 7) 0)
+    ≡ put d at (part from 8 rows)
+row-copied d rows at from a b =
+    let l₀ : Laid d at (part from 0 rows) d = rw (part-none from rows) (laid-none d at) in
+    let l₁ = next-number at from 0 1 at from rows (omega arith) (omega arith) refl l₀ (omega arith) (omega arith) in
+    let l₂ = next-number at from 1 2 (at + 1) (from + 1) rows refl refl refl l₁ (omega arith) (omega arith) in
+    let l₃ = next-number at from 2 3 (at + 2) (from + 2) rows refl refl refl l₂ (omega arith) (omega arith) in
+    let l₄ = next-number at from 3 4 (at + 3) (from + 3) rows refl refl refl l₃ (omega arith) (omega arith) in
+    let l₅ = next-number at from 4 5 (at + 4) (from + 4) rows refl refl refl l₄ (omega arith) (omega arith) in
+    let l₆ = next-number at from 5 6 (at + 5) (from + 5) rows refl refl refl l₅ (omega arith) (omega arith) in
+    let l₇ = next-number at from 6 7 (at + 6) (from + 6) rows refl refl refl l₆ (omega arith) (omega arith) in
+    let l₈ = next-number at from 7 8 (at + 7) (from + 7) rows refl refl refl l₇ (omega arith) (omega arith) in
+    l₈ .is
 
 -- what lies behind what is laid in is as it was
 behind-laid : {d s l : List ℕ} (at i j : ℕ) → Laid d at s l → length s ≡ i → at + i ≤ j → at ≤ length d → getD l j 0 ≡ getD d j 0

@@ -14,13 +14,28 @@ use crate::Rewritten;
 use crate::numbers::beyond;
 use crate::numbers::lesser;
 
-// Copies a row of `rows`, which stands from place `from` on, to the places of `part` from `at` on.
+// Copies a row of `rows`, which stands from place `from` on, to the places of `part` from `at` on. All of it is read before it is
+// written, so that it is moved in the machine's widest pieces.
 fn copy_row(part: &mut [u64], at: usize, rows: &[u64], from: usize)
     requires { ⌜ (at + 8 ≤ length (now part)) × (from + 8 ≤ length (now rows)) ⌝ }
     ensures { λ _. ⌜ now (part .exit) ≡ put (now (part .entry)) at (stretch.part from 8 (now (rows .entry))) ⌝ }
 {
-    let to = from + 8;
-    cells::copy_in_u64(part, at, &rows[from..to]);
+    let a = rows[from];
+    let b = rows[from + 1];
+    let c = rows[from + 2];
+    let d = rows[from + 3];
+    let e = rows[from + 4];
+    let f = rows[from + 5];
+    let g = rows[from + 6];
+    let h = rows[from + 7];
+    part[at] = a;
+    part[at + 1] = b;
+    part[at + 2] = c;
+    part[at + 3] = d;
+    part[at + 4] = e;
+    part[at + 5] = f;
+    part[at + 6] = g;
+    part[at + 7] = h;
 }
 
 // Lays rows from row `skip` on in at place `pos`, up to `most`, until an entry has a sequence number above the gate; how many.
