@@ -8,17 +8,18 @@ use mathlib.Core.Path.{_≡_, refl, sym, ap, _∙_}
 use mathlib.Core.List.{List, [], _∷_, map}
 use mathlib.Core.Option.{Option}
 use lib.Dec.{ltb, leb, eqb}
-use lib.ListN.{length, getD, set, take, length-take, length-map, length-reverse}
+use lib.ListN.{length, getD, set, take, length-take, length-map}
 use lib.Seq.{take-all, take-nil}
 use borrow.Author.Tests.{ltb-true, ltb-false, leb-true, leb-false, lt-ltb, le-ltb, le-leb, lt-leb, eq-eqb, ne-eqb}
 use Rattle.cells.specs.declared.order.Order.{Order}
 use Rattle.cells.specs.Bytes.{byteOrder}
-use Rattle.cells.specs.Part.{put}
+use Rattle.cells.specs.Part.{part, put}
 use Rattle.cells.specs.PartLaws.{set-put, put-snoc}
 use Rattle.pipe_log.specs.Rows.{queueAt}
 use Rattle.maps.specs.Lists.{select}
-use Rattle.maps.specs.Maps.{Map, bytesBelow}
+use Rattle.maps.specs.Maps.{Map, bytes, bytesBelow}
 use Rattle.maps.specs.OrderLaws.{split}
+use Rattle.maps.specs.MapLaws.{Ascending}
 use Rattle.maps.specs.ListLaws.{select-select, length-select}
 use Rattle.rules.specs.Causes.{ok, refuse, andThen, badRange}
 use Rattle.rules.specs.Items.{Append, Rewrite, sameQueue}
@@ -32,9 +33,12 @@ use Rattle.kvs.specs.declared.fetch.Fetched.the-variants.{Done, BadRange
 use Rattle.kvs.specs.Rows.{rowAt, keyOf, heldOf, pairOf, keysIn}
 use Rattle.kvs.specs.RowIn.{number-at}
 use Rattle.kvs.specs.Orders.{isLess, below-by-order}
+use Rattle.kvs.specs.Places.{belowBound}
+use Rattle.kvs.specs.Stretches.{in-stretch}
 use Rattle.kvs.specs.Calls.{given}
-use Rattle.kvs.specs.Lists.{meets, inList, rowLens, rowBytes, laidBy, lentLens, lentBytes, listFrom, lentList, fetchedAs, lensAfter, bytesAfter, Fetches, taken, CopyIf}
+use Rattle.kvs.specs.Lists.{meets, inList, stretch, rowLens, rowBytes, laidBy, lentLens, lentBytes, listFrom, lentList, fetchedAs, lensAfter, bytesAfter, Fetches, taken, CopyIf}
 use Rattle.kvs.proofs.Selected.{left, left-all, left-none, left-more}
+use Rattle.kvs.proofs.Stretched.{length-direction, length-stretch}
 
 -- ---- which rows
 
@@ -179,37 +183,54 @@ module _ (A : List KeyValue) (lens out : List ℕ) where
   unfolding answered andThen fetchedAs lensAfter bytesAfter
   bad-range = record { answer = refl; lens-are = refl; bytes-are = refl }
 
+-- up to `count` of the rows L
+module _ (L : List KeyValue) (count limit : ℕ) (l : limit ≡ min count (length L)) where
+  length-limited : length (take count L) ≡ limit
+  length-limited = length-take count L ∙ rw l
+
+  limited : take limit L ≡ take count L
+  limited =
+      split (leb count (length L))
+      (λ t. let c : limit ≡ count = omega (arith, leb-true count (length L) t) in rw c)
+      (λ t. let f = leb-false count (length L) t in take-all limit L (omega arith) ∙ sym (take-all count L (omega arith)))
+
+  pub rows-short : (lens out : List ℕ) → min (length lens / 2) (length out / 64) < limit → Fetches (ok (take count L)) lens out TooShort lens out
+  rows-short lens out h = too-short (take count L) lens out (rw (length-lent lens out, length-limited) h)
+
+  pub rows-full : (lens out lens′ out′ : List ℕ) → limit ≤ min (length lens / 2) (length out / 64)
+      → lens′ ≡ lentLens 0 (take limit L) lens → out′ ≡ lentBytes 0 (take limit L) out → Fetches (ok (take count L)) lens out (Done limit) lens′ out′
+  rows-full lens out lens′ out′ h p q =
+      rw (p, q, limited) (rw length-limited at (all-rows (take count L) lens out (rw (length-lent lens out, length-limited) h)))
+
 module _ (which : Which) (s e : List ℕ) (b : Bool) (m : Map (List ℕ) Held) where
   pub length-in : length (inList which s e b m) ≡ length (select (meets which s e) m)
-  unfolding inList inDirection
-  length-in = turned b (map rowOf (select (meets which s e) m)) ∙ length-map (select (meets which s e) m) rowOf
-    where
-      turned : (b : Bool) (l : List KeyValue) → length (inDirection b l) ≡ length l
-      turned false l = refl
-      turned true l = length-reverse l
+  unfolding inList
+  length-in = length-direction b (map rowOf (select (meets which s e) m)) ∙ length-map (select (meets which s e) m) rowOf
 
   module _ (count limit : ℕ) (l : limit ≡ min count (length (select (meets which s e) m))) where
-    pub length-limited : length (take count (inList which s e b m)) ≡ limit
-    length-limited = length-take count (inList which s e b m) ∙ rw (length-in, l)
-
-    limited : take limit (inList which s e b m) ≡ take count (inList which s e b m)
-    limited =
-        split (leb count (length (select (meets which s e) m)))
-        (λ t. let c : limit ≡ count = omega (arith, leb-true count (length (select (meets which s e) m)) t) in rw c)
-        (λ t.
-        let i = length-in in
-        let f = leb-false count (length (select (meets which s e) m)) t in
-        take-all limit (inList which s e b m) (omega arith) ∙ sym (take-all count (inList which s e b m) (omega arith)))
+    by-list : limit ≡ min count (length (inList which s e b m))
+    by-list = rw length-in l
 
     pub list-short : (lens out : List ℕ) → min (length lens / 2) (length out / 64) < limit → Fetches (ok (take count (inList which s e b m))) lens out TooShort lens out
-    list-short lens out h = too-short (take count (inList which s e b m)) lens out (rw (length-lent lens out, length-limited) h)
+    list-short = rows-short (inList which s e b m) count limit by-list
 
     pub list-full : (lens out lens′ out′ : List ℕ) → limit ≤ min (length lens / 2) (length out / 64)
         → lens′ ≡ lentLens 0 (take limit (inList which s e b m)) lens → out′ ≡ lentBytes 0 (take limit (inList which s e b m)) out
         → Fetches (ok (take count (inList which s e b m))) lens out (Done limit) lens′ out′
-    list-full lens out lens′ out′ h p q =
-        rw (p, q, limited)
-        (rw length-limited at (all-rows (take count (inList which s e b m)) lens out (rw (length-lent lens out, length-limited) h)))
+    list-full = rows-full (inList which s e b m) count limit by-list
+
+-- ... of a stretch
+module _ (n : ℕ) (rows bs : List ℕ) (low high : ℕ) (b : Bool) (count limit : ℕ) (g : low ≤ high) (h : high ≤ n) (l : limit ≡ min count (high - low)) where
+  by-stretch : limit ≡ min count (length (stretch low high b (keysIn n rows bs)))
+  by-stretch = rw (length-stretch n rows bs low high b g h) l
+
+  pub stretch-short : (lens out : List ℕ) → min (length lens / 2) (length out / 64) < limit → Fetches (ok (take count (stretch low high b (keysIn n rows bs)))) lens out TooShort lens out
+  stretch-short = rows-short (stretch low high b (keysIn n rows bs)) count limit by-stretch
+
+  pub stretch-full : (lens out lens′ out′ : List ℕ) → limit ≤ min (length lens / 2) (length out / 64)
+      → lens′ ≡ lentLens 0 (take limit (stretch low high b (keysIn n rows bs))) lens → out′ ≡ lentBytes 0 (take limit (stretch low high b (keysIn n rows bs))) out
+      → Fetches (ok (take count (stretch low high b (keysIn n rows bs)))) lens out (Done limit) lens′ out′
+  stretch-full = rows-full (stretch low high b (keysIn n rows bs)) count limit by-stretch
 
 -- ---- the queries
 
@@ -234,13 +255,15 @@ module _ (K : Map (List ℕ) Held) (t : Table) (k : t .keys ≡ K) where
     pub scan-none : startAboveEnd start end ≡ false → count ≡ 0 → Fetches (scan start end backwards count t) lens out BadRange lens out
     scan-none h z = rw (scan-is start end backwards count, h, eq-eqb count 0 z) (bad-range [] lens out)
 
-  pub scan-rows : (a : Bool) (s : List ℕ) (b : Bool) (e : List ℕ) (backwards : Bool) (count : ℕ) (lens out : List ℕ) (r : Fetched) (lens′ out′ : List ℕ)
-      → startAboveEnd (given a s) (given b e) ≡ false → (count ≡ 0 → ⊥)
-      → Fetches (ok (take count (inList (InBounds a b) s e backwards K))) lens out r lens′ out′
-      → Fetches (scan (given a s) (given b e) backwards count t) lens out r lens′ out′
-  unfolding inList meets
-  scan-rows a s b e backwards count lens out r lens′ out′ h z f =
-      rw (scan-is (given a s) (given b e) backwards count, h, ne-eqb count 0 z) f
+    -- the rows between the places of the bounds
+    pub scan-stretch : (r : Fetched) (lens′ out′ : List ℕ) (n low high : ℕ) → Ascending bytes K → startAboveEnd start end ≡ false → (count ≡ 0 → ⊥)
+        → length K ≡ n → low ≡ belowBound 0 start K → high ≡ belowBound n end K
+        → Fetches (ok (take count (stretch low high backwards K))) lens out r lens′ out′
+        → Fetches (scan start end backwards count t) lens out r lens′ out′
+    unfolding stretch
+    scan-stretch r lens′ out′ n low high a h z e p q f =
+        let g : select (λ x. inBounds start end (x .key)) K ≡ part low (high - low) K = rw (p, q, ← e) (in-stretch K a start end h) in
+        rw (scan-is start end backwards count, h, ne-eqb count 0 z, g) f
 
   whole : (which : Which) (s e : List ℕ) (n : ℕ) → length K ≤ n → take n (inList which s e false K) ≡ inList which s e false K
   whole which s e n h =

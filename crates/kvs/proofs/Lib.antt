@@ -4,6 +4,7 @@ pub mod Puts
 pub mod Found
 pub mod Rewrites
 pub mod Selected
+pub mod Stretched
 pub mod Answers
 pub mod Queues
 pub mod Merges

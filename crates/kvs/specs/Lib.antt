@@ -7,6 +7,7 @@ pub mod Writes
 pub mod Orders
 pub mod Places
 pub mod PlaceLaws
+pub mod Stretches
 pub mod Calls
 pub mod Merge
 pub mod Lists

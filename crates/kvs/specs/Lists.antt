@@ -3,7 +3,7 @@ use mathlib.Core.Bool.{Bool, cond, _&&_}
 use mathlib.Core.List.{List, [], _∷_, map}
 use mathlib.Core.Option.{Option}
 use mathlib.Core.Path.{_≡_}
-use Prim.Native.Nat.{ℕ, zero, suc, _+_, _*_, _/_, min}
+use Prim.Native.Nat.{ℕ, zero, suc, _+_, _-_, _*_, _/_, min}
 use lib.Dec.{leb, ltb}
 use lib.ListN.{length, getD, take}
 use Rattle.cells.specs.Part.{part, put}
@@ -31,6 +31,10 @@ meets OfRewrite s e p = sameQueue (p .val .file .queue) Rewrite
 -- all rows that it asks for, in a direction
 unfoldable pub inList : Which → List ℕ → List ℕ → Bool → Map (List ℕ) Held → List KeyValue
 inList which s e backwards m = inDirection backwards (map rowOf (select (meets which s e) m))
+
+-- the rows from row low up to row high, in a direction
+unfoldable pub stretch : ℕ → ℕ → Bool → Map (List ℕ) Held → List KeyValue
+stretch low high backwards m = inDirection backwards (map rowOf (part low (high - low) m))
 
 -- ---- the lent list
 

@@ -120,7 +120,7 @@ unfolding KeyIs
 place-key k m i e = rw e at (key-is k m)
 
 -- either way, so many keys are below k
-none-below : (k : List ℕ) (m : Map (List ℕ) Held) → AllBelow bytes k m → select (λ x. bytesBelow (x .key) k) m ≡ []
+pub none-below : (k : List ℕ) (m : Map (List ℕ) Held) → AllBelow bytes k m → select (λ x. bytesBelow (x .key) k) m ≡ []
 unfolding AllBelow select
 none-below k [] h = refl
 none-below k (x ∷ xs) h = rw (below-not-back bytes bytesLawful k (x .key) (h .0)) (none-below k xs (h .1))

@@ -4,7 +4,7 @@ use mathlib.Core.List.{List, [], _∷_, _++_}
 use mathlib.Core.Option.{Option, none}
 use Prim.Native.Nat.{ℕ, suc, _≤_, _<_}
 use lib.ListN.{take, drop}
-use Rattle.maps.specs.Lists.{first, mapOption}
+use Rattle.maps.specs.Lists.{first, mapOption, orElse}
 use Rattle.maps.specs.Maps.{Pair, Map, sameBytes, bytesBelow}
 use Rattle.rules.specs.Table.{Held}
 use Rattle.kvs.specs.declared.Place.{Place}
@@ -40,3 +40,7 @@ Within n (Before i) = i ≤ n
 unfoldable pub belowAt : Place → ℕ
 belowAt (At i) = i
 belowAt (Before i) = i
+
+-- how many keys are below a bound; d where the bound is absent
+unfoldable pub belowBound : ℕ → Option (List ℕ) → Map (List ℕ) Held → ℕ
+belowBound d k m = orElse d (λ (b : List ℕ). belowAt (placeOf b m)) k

@@ -4,17 +4,19 @@ pub mod bounds;
 pub mod copies;
 
 use crate::rows::ROW_BYTES;
+use bounds::below_bound;
 use bounds::start_above_end;
 use copies::copy_chosen;
+use copies::copy_stretch;
 use copies::count_chosen;
 ghost use mathlib.Core.Path.{_≡_};
-ghost use Prim.Native.Nat.{min};
+ghost use Prim.Native.Nat.{_≤_, min};
 ghost use lib.ListN.{take};
 ghost use mathlib.Core.Bool.{false};
 ghost use Rattle.rules.specs.Causes.{ok};
 ghost use Rattle.kvs.specs.Rows.{keysIn, Wf};
 ghost use Rattle.kvs.specs.Calls.{given};
-ghost use Rattle.kvs.specs.Lists.{inList, Fetches, ScanKeys, FetchBefore, FetchRewritten};
+ghost use Rattle.kvs.specs.Lists.{inList, stretch, Fetches, ScanKeys, FetchBefore, FetchRewritten};
 
 // Which keys a query asks for: those within the bounds that are there, the Append ones up to a gate, or the Rewrite ones.
 pub enum Which {
@@ -78,6 +80,33 @@ fn fill_list(
     Fetched::Done(limit)
 }
 
+// Fills the list with up to `count` of the rows from row `low` up to row `high`, in the direction asked for.
+fn fill_stretch(
+    n: usize,
+    rows: &[u64],
+    bytes: &[u8],
+    low: usize,
+    high: usize,
+    backwards: bool,
+    count: usize,
+    lens: &mut [u64],
+    out: &mut [u8],
+) -> Fetched
+    requires { ⌜ Wf n (now rows) (now bytes) ⌝ }
+    requires { ⌜ (low ≤ high) × (high ≤ n) ⌝ }
+    ensures { λ r. ⌜ Fetches (ok (take count (stretch low high backwards (keysIn n (now (rows .entry)) (now (bytes .entry)))))) (now (lens .entry)) (now (out .entry)) r (now (lens .exit)) (now (out .exit)) ⌝ }
+{
+    let limit = lesser(count, high - low);
+    if lens.len() / 2 < limit {
+        return Fetched::TooShort;
+    }
+    if out.len() / 64 < limit {
+        return Fetched::TooShort;
+    }
+    copy_stretch(n, rows, bytes, low, high, backwards, limit, lens, out);
+    Fetched::Done(limit)
+}
+
 // `scan`: the keys from `start` on and below `end`, bounds of any length that are open where they are not there, up to `count` of them.
 pub fn scan(
     n: usize,
@@ -101,18 +130,9 @@ pub fn scan(
     if count == 0 {
         return Fetched::BadRange;
     }
-    fill_list(
-        n,
-        rows,
-        bytes,
-        Which::InBounds(started, ended),
-        start,
-        end,
-        backwards,
-        count,
-        lens,
-        out,
-    )
+    let low = below_bound(n, rows, bytes, started, start, 0);
+    let high = below_bound(n, rows, bytes, ended, end, n);
+    fill_stretch(n, rows, bytes, low, high, backwards, count, lens, out)
 }
 
 // `fetch_kvs_before`: the Append keys with a file up to the gate.

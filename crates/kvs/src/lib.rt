@@ -55,21 +55,23 @@ pub enum Least {
     Seq(u64),
 }
 
-// Looks for a key of any length.
+// Looks for a key of any length, by halves.
 pub fn find(n: usize, rows: &[u64], bytes: &[u8], key: &[u8]) -> Place
     requires { ⌜ Wf n (now rows) (now bytes) ⌝ }
     ensures { λ r. ⌜ r ≡ placeOf (now (key .entry)) (keysIn n (now (rows .entry)) (now (bytes .entry))) ⌝ }
 {
-    let mut i = 0;
-    while i < n {
-        let order = cells::compare_u8(key, key_at(rows, bytes, i));
+    let mut low = 0;
+    let mut high = n;
+    while low < high {
+        let mid = low + (high - low) / 2;
+        let order = cells::compare_u8(key, key_at(rows, bytes, mid));
         match order {
-            Order::Less => return Place::Before(i),
-            Order::Equal => return Place::At(i),
-            Order::Greater => i += 1,
+            Order::Less => high = mid,
+            Order::Equal => return Place::At(mid),
+            Order::Greater => low = mid + 1,
         }
     }
-    Place::Before(n)
+    Place::Before(low)
 }
 
 // Puts a key of at most 32 bytes with a value of at most 32 bytes and its file.

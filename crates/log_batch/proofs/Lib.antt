@@ -4,3 +4,4 @@ pub mod RowLaws
 pub mod ItemLaws
 pub mod LeastLaws
 pub mod CheckLaws
+pub mod PlainLaws

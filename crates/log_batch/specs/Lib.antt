@@ -3,3 +3,4 @@ pub mod Lent
 pub mod Judged
 pub mod OpenLaws
 pub mod PassedLaws
+pub mod Plain

@@ -19,6 +19,7 @@ use crate::item::LogItemContent;
 use crate::item::OpType;
 use crate::item::Value;
 use crate::item::entries_of;
+use crate::plain::is_plain_content;
 use pipe_log::Gate;
 use pipe_log::LogQueue;
 
@@ -263,8 +264,8 @@ pub fn is_not_rewritable(call: Call, content: LogItemContent) -> bool
     is_del_or_compact(content)
 }
 
-// The least of 3 to 6 that an item of no reserved key meets, and 7 where it meets none.
-pub fn least_of_content(call: Call, content: LogItemContent, entries: &[u64]) -> u64
+// The least of 3 to 6 that an item of no reserved key meets, and 7 where it meets none, test by test.
+fn least_of_tests(call: Call, content: LogItemContent, entries: &[u64]) -> u64
     requires { ⌜ rowsWithin content (length (now entries)) ⌝ }
     ensures { λ r. ⌜ ((bytes : List ℕ) → r ≡ leastContent (callOf call) (contentOf content (now (entries .entry)) bytes)) ⌝ }
 {
@@ -281,4 +282,15 @@ pub fn least_of_content(call: Call, content: LogItemContent, entries: &[u64]) ->
         return 6;
     }
     7
+}
+
+// The same; a list is first looked at in one pass, which tells most lists that meet none.
+pub fn least_of_content(call: Call, content: LogItemContent, entries: &[u64]) -> u64
+    requires { ⌜ rowsWithin content (length (now entries)) ⌝ }
+    ensures { λ r. ⌜ ((bytes : List ℕ) → r ≡ leastContent (callOf call) (contentOf content (now (entries .entry)) bytes)) ⌝ }
+{
+    if is_plain_content(call, content, entries) {
+        return 7;
+    }
+    least_of_tests(call, content, entries)
 }

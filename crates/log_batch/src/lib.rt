@@ -6,6 +6,7 @@ pub mod entries;
 pub mod item;
 pub mod mark;
 pub mod open;
+pub mod plain;
 
 pub use causes::Call;
 pub use checks::Checked;

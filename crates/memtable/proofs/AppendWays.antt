@@ -114,6 +114,7 @@ module _ (h : Head) (xs : List ℕ) (k s : ℕ) (rows : List ℕ) (w : Wf h xs) 
       record {
         rule = λ keys counted. rw (laid-length (tableOf h xs keys counted), lt-leb (k + length rows / 8) (length xs / 8) (omega (arith, l .whole, w .room)));
         laid = refl;
+        first = λ _. refl;
         wf = w;
       }
 
@@ -135,10 +136,10 @@ module _ (h : Head) (xs : List ℕ) (k s : ℕ) (rows : List ℕ) (w : Wf h xs) 
     abbrev laidHead : ℕ → Head
     laidHead n = record { «first_index» = s - k; len = k + length rows / 8; «rewrite_count» = n; «atomic_group» = h .«atomic_group» }
 
-    lay-done : (n : ℕ) → n ≤ k + length rows / 8 → Rows 1 0 n ys → Rows 0 n (k + length rows / 8) ys
+    lay-done : 0 < length rows → (n : ℕ) → n ≤ k + length rows / 8 → Rows 1 0 n ys → Rows 0 n (k + length rows / 8) ys
         → Laying (λ t. ok (behind k s xs (length rows / 8) rows t)) h xs rows (answer.Done (laidHead n)) ys
     unfolding fitting andThen behind withEntries tableOf
-    lay-done n a u v =
+    lay-done m n a u v =
         let e : s - k + k ≡ s = omega arith in
         let z : (k + length rows / 8) * 8 - length rows ≡ k * 8 = omega (arith, l .whole) in
         record {
@@ -151,6 +152,7 @@ module _ (h : Head) (xs : List ℕ) (k s : ℕ) (rows : List ℕ) (w : Wf h xs) 
                 e,
               );
           laid = rw (z, d);
+          first = λ e. absurd (omega (arith, l .whole));
           wf =
               record {
                 room = rw (d, length-put xs (k * 8) rows (omega (arith, w .room))) (omega (arith, l .whole, w .room));
@@ -162,18 +164,18 @@ module _ (h : Head) (xs : List ℕ) (k s : ℕ) (rows : List ℕ) (w : Wf h xs) 
         }
 
   -- Rewrite rows behind Rewrite entries
-  pub lay-rewrite : (l : Lent 1 s rows) (f : length rows ≤ length xs - k * 8) (ys : List ℕ) (d : ys ≡ put xs (k * 8) rows) → k ≤ h .«rewrite_count»
+  pub lay-rewrite : (l : Lent 1 s rows) (f : length rows ≤ length xs - k * 8) (ys : List ℕ) (d : ys ≡ put xs (k * 8) rows) → 0 < length rows → k ≤ h .«rewrite_count»
       → Laying (λ t. ok (behind k s xs (length rows / 8) rows t)) h xs rows (answer.Done (laidHead l f ys d (k + length rows / 8))) ys
-  lay-rewrite l f ys d m =
-      lay-done l f ys d (k + length rows / 8) (omega arith)
+  lay-rewrite l f ys d j m =
+      lay-done l f ys d j (k + length rows / 8) (omega arith)
       (λ i a e. elim (decLt i k) [ yes u ↦ old l f ys d i u (w .rewritten i a (omega arith)) | no u ↦ new l f ys d i (omega arith) e ])
       (λ i a e. absurd (omega arith))
 
   -- Append rows behind any entries
-  pub lay-append : (l : Lent 0 s rows) (f : length rows ≤ length xs - k * 8) (ys : List ℕ) (d : ys ≡ put xs (k * 8) rows) (n : ℕ) → n ≡ min (h .«rewrite_count») k
+  pub lay-append : (l : Lent 0 s rows) (f : length rows ≤ length xs - k * 8) (ys : List ℕ) (d : ys ≡ put xs (k * 8) rows) → 0 < length rows → (n : ℕ) → n ≡ min (h .«rewrite_count») k
       → Laying (λ t. ok (behind k s xs (length rows / 8) rows t)) h xs rows (answer.Done (laidHead l f ys d n)) ys
-  lay-append l f ys d n m =
-      lay-done l f ys d n (omega arith)
+  lay-append l f ys d j n m =
+      lay-done l f ys d j n (omega arith)
       (λ i a e. old l f ys d i (omega arith) (w .rewritten i a (omega arith)))
       (λ i a e. elim (decLt i k) [ yes u ↦ old l f ys d i u (w .appended i (omega arith) (omega arith)) | no u ↦ new l f ys d i (omega arith) e ])
 
@@ -183,7 +185,7 @@ module _ (h : Head) (xs : List ℕ) (k s : ℕ) (rows : List ℕ) (w : Wf h xs) 
 pub laying-by : {by to : Table → Result Table} {h : Head} {xs rows : List ℕ} {r : Appended} {ys : List ℕ}
     → ((keys : Map (List ℕ) Held) (counted : Bool) → by (tableOf h xs keys counted) ≡ to (tableOf h xs keys counted)) → Laying by h xs rows r ys → Laying to h xs rows r ys
 laying-by {xs = xs} e l =
-    record { rule = λ keys counted. l .rule keys counted ∙ ap (fitting (length xs / 8)) (e keys counted); laid = l .laid; wf = l .wf }
+    record { rule = λ keys counted. l .rule keys counted ∙ ap (fitting (length xs / 8)) (e keys counted); laid = l .laid; first = l .first; wf = l .wf }
 
 pub fewer-before : (b : Bool) (k n c : ℕ) → k ≤ n → rewritesBefore b n ≤ c → rewritesBefore b k ≤ c
 fewer-before true k n c a m = omega arith
@@ -201,6 +203,7 @@ module _ (o g : Bool) (h : Head) (xs : List ℕ) (s : ℕ) (rows : List ℕ) (w 
         rule = λ keys counted.
             rw (e, length-window (h .«first_index») (h .len) xs, le-leb (h .len) (length xs / 8) (omega (arith, w .room)));
         laid = rw (no-rows rows e) (sym (put-nil xs (h .len * 8 - 0)));
+        first = λ _. refl;
         wf = w;
       }
 
@@ -213,11 +216,11 @@ module _ (o g : Bool) (h : Head) (xs : List ℕ) (s : ℕ) (rows : List ℕ) (w 
 
     pub lay-below : Preparing o g h s BelowFirst → Laying (laidBy o g (window s (length rows / 8) rows)) h xs rows answer.BelowFirst xs
     unfolding fitting andThen
-    lay-below a = record { rule = λ keys counted. rw (by-answer BelowFirst a keys counted); laid = refl; wf = w }
+    lay-below a = record { rule = λ keys counted. rw (by-answer BelowFirst a keys counted); laid = refl; first = λ _. refl; wf = w }
 
     pub lay-above : Preparing o g h s AboveLast → Laying (laidBy o g (window s (length rows / 8) rows)) h xs rows answer.AboveLast xs
     unfolding fitting andThen
-    lay-above a = record { rule = λ keys counted. rw (by-answer AboveLast a keys counted); laid = refl; wf = w }
+    lay-above a = record { rule = λ keys counted. rw (by-answer AboveLast a keys counted); laid = refl; first = λ _. refl; wf = w }
 
     pub lay-kept : (k : ℕ) → Preparing o g h s (Kept k) → (r : Appended) (ys : List ℕ) → Laying (λ t. ok (behind k s xs (length rows / 8) rows t)) h xs rows r ys
         → Laying (laidBy o g (window s (length rows / 8) rows)) h xs rows r ys

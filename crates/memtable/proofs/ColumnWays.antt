@@ -1,13 +1,14 @@
 -- The turns of the loops that fill lent slices, and what the slices then hold. Assumes nothing.
 use mathlib.Core.List.{List, [], _∷_, _++_}
-use mathlib.Core.Path.{_≡_, sym, ap, _∙_}
-use Prim.Native.Nat.{ℕ, _+_, _*_, _≤_, _<_}
+use mathlib.Core.Path.{_≡_, refl, sym, ap, _∙_}
+use Prim.Native.Nat.{ℕ, _+_, _-_, _*_, _≤_, _<_}
 use native.Mathlib.Nat.{zero-add, le-antisymm}
 use native.Mathlib.Omega.{arith}
 use lib.ListN.{length, getD, set, drop}
-use lib.Seq.{getD-drop}
+use lib.Seq.{getD-drop, drop-drop}
 use Rattle.cells.specs.Part.{put}
-use Rattle.cells.proofs.Steps.{Laid, laid-snoc}
+use Rattle.cells.specs.PartLaws.{put-append}
+use Rattle.cells.proofs.Steps.{Laid, laid-none, laid-snoc}
 use borrow.Author.Tests.{le-leb, lt-leb}
 use Rattle.pipe_log.specs.Numbers.{queueNumber, compressionNumber}
 use Rattle.pipe_log.specs.Rows.{window}
@@ -18,28 +19,81 @@ use Rattle.memtable.specs.Views.{AnyRow}
 use Rattle.memtable.specs.RowLaws.{row-queue, row-seq, row-offset, row-len, row-compression, row-entry-offset, row-entry-len}
 use Rattle.memtable.specs.WindowLaws.{length-window}
 use Rattle.memtable.specs.Columns.{Columns, columns, blockOffset, blockLen, laidInto, judged, columnsAfter, Answered, column, upFrom}
-use Rattle.memtable.specs.ColumnLaws.{length-column, length-upFrom, column-snoc, upFrom-snoc, map-window, map-index}
+use Rattle.memtable.specs.ColumnLaws.{length-column, length-upFrom, column-snoc, column-append, upFrom-snoc, map-window, map-index}
+
+-- a cell of the rows from row `from` on, which stands at place p of xs
+cell-at : (xs : List ℕ) (from k i p : ℕ) → p ≡ (from + i) * 8 + k → getD (drop (from * 8) xs) (i * 8 + k) 0 ≡ getD xs p 0
+cell-at xs from k i p e =
+    let z : from * 8 + (i * 8 + k) ≡ p = omega arith in
+    rw (getD-drop (from * 8) xs (i * 8 + k) 0, z)
 
 module _ {d l : List ℕ} where
   -- one more behind what is laid in from the first place
   more : {s s′ : List ℕ} (i v : ℕ) → Laid d 0 s l → s ++ (v ∷ []) ≡ s′ → length s ≡ i → i < length d → Laid d 0 s′ (set l i v)
   more i v h e n b = rw (zero-add i) at (laid-snoc i v h e n (omega arith))
 
-  pub column-more : (xs : List ℕ) (from k i : ℕ) → Laid d 0 (column k i (drop (from * 8) xs)) l → i < length d
-      → Laid d 0 (column k (i + 1) (drop (from * 8) xs)) (set l i (getD xs ((from + i) * 8 + k) 0))
-  column-more xs from k i h b =
-      let z : from * 8 + (i * 8 + k) ≡ (from + i) * 8 + k = omega arith in
-      let e : getD (drop (from * 8) xs) (i * 8 + k) 0 ≡ getD xs ((from + i) * 8 + k) 0 = rw (getD-drop (from * 8) xs (i * 8 + k) 0, z) in
-      more i (getD xs ((from + i) * 8 + k) 0) h (rw (← e) (column-snoc k i (drop (from * 8) xs))) (length-column k i (drop (from * 8) xs)) b
-
-  pub column-all : (k i n : ℕ) (ys : List ℕ) → Laid d 0 (column k i ys) l → i ≤ n → n ≤ i → l ≡ put d 0 (column k n ys)
-  column-all k i n ys h a b = rw (le-antisymm a b) at (h .is)
+  -- one cell more, at place t
+  next-cell : (xs : List ℕ) (from k at i j t p : ℕ) → p ≡ (from + i) * 8 + k → j ≡ i + 1 → t ≡ at + i → Laid d at (column k i (drop (from * 8) xs)) l → t < length d
+      → Laid d at (column k j (drop (from * 8) xs)) (set l t (getD xs p 0))
+  next-cell xs from k at i j t p e f g h b =
+      rw (f, g) (laid-snoc i (getD xs p 0) h (rw (← cell-at xs from k i p e) (column-snoc k i (drop (from * 8) xs))) (length-column k i (drop (from * 8) xs)) (omega arith))
 
   pub index-more : (f i : ℕ) → Laid d 0 (upFrom f i) l → i < length d → Laid d 0 (upFrom f (i + 1)) (set l i (f + i))
   index-more f i h b = more i (f + i) h (upFrom-snoc f i) (length-upFrom f i) b
 
   pub index-all : (f i n : ℕ) → Laid d 0 (upFrom f i) l → i ≤ n → n ≤ i → l ≡ put d 0 (upFrom f n)
   index-all f i n h a b = rw (le-antisymm a b) at (h .is)
+
+-- four cells more
+pub column-four : {d l : List ℕ} (xs : List ℕ) (from k i : ℕ) → Laid d 0 (column k i (drop (from * 8) xs)) l → i + 4 ≤ length d
+    → Laid d 0 (column k (i + 4) (drop (from * 8) xs))
+    (set (set (set (set l i (getD xs ((from + i) * 8 + k) 0)) (i + 1) (getD xs ((from + i) * 8 + k + 8) 0)) (i + 2) (getD xs ((from + i) * 8 + k + 16) 0)) (i + 3) (getD xs ((from + i) * 8 + k + 24) 0))
+column-four xs from k i h b =
+    next-cell xs from k 0 (i + 3) (i + 4) (i + 3) _ (omega arith) (omega arith) (omega arith)
+    (next-cell xs from k 0 (i + 2) (i + 3) (i + 2) _ (omega arith) (omega arith) (omega arith)
+    (next-cell xs from k 0 (i + 1) (i + 2) (i + 1) _ (omega arith) (omega arith) (omega arith)
+    (next-cell xs from k 0 i (i + 1) i _ refl refl (omega arith) h (omega arith)) (omega arith)) (omega arith)) (omega arith)
+
+-- up to three cells from place `at` on
+module _ (d xs : List ℕ) (from k at n : ℕ) (b : at + n ≤ length d) where
+  none-laid : Laid d at (column k 0 (drop (from * 8) xs)) d
+  unfolding column
+  none-laid = laid-none d at
+
+  one-laid : 1 ≤ n → Laid d at (column k 1 (drop (from * 8) xs)) (set d at (getD xs (from * 8 + k) 0))
+  one-laid m = next-cell xs from k at 0 1 at (from * 8 + k) (omega arith) refl (omega arith) none-laid (omega arith)
+
+  two-laid : 2 ≤ n → Laid d at (column k 2 (drop (from * 8) xs)) (set (set d at (getD xs (from * 8 + k) 0)) (at + 1) (getD xs (from * 8 + k + 8) 0))
+  two-laid m = next-cell xs from k at 1 2 (at + 1) (from * 8 + k + 8) (omega arith) refl refl (one-laid (omega arith)) (omega arith)
+
+  pub rest-none : n ≡ 0 → d ≡ put d at (column k n (drop (from * 8) xs))
+  rest-none e = rw e (none-laid .is)
+
+  pub rest-one : n ≡ 1 → set d at (getD xs (from * 8 + k) 0) ≡ put d at (column k n (drop (from * 8) xs))
+  rest-one e = let f = one-laid (omega arith) in rw e (f .is)
+
+  pub rest-two : n ≡ 2 → set (set d at (getD xs (from * 8 + k) 0)) (at + 1) (getD xs (from * 8 + k + 8) 0) ≡ put d at (column k n (drop (from * 8) xs))
+  rest-two e = let f = two-laid (omega arith) in rw e (f .is)
+
+  pub rest-three : n ≡ 3 → set (set (set d at (getD xs (from * 8 + k) 0)) (at + 1) (getD xs (from * 8 + k + 8) 0)) (at + 2) (getD xs (from * 8 + k + 16) 0) ≡ put d at (column k n (drop (from * 8) xs))
+  rest-three e =
+      let f = next-cell xs from k at 2 3 (at + 2) (from * 8 + k + 16) (omega arith) refl refl (two-laid (omega arith)) (omega arith) in
+      rw e (f .is)
+
+-- the rest behind them
+pub column-rest : {d l : List ℕ} (xs : List ℕ) (from k i n : ℕ) (r : List ℕ) → Laid d 0 (column k i (drop (from * 8) xs)) l → i ≤ n
+    → r ≡ put l i (column k (n - i) (drop ((from + i) * 8) xs)) → r ≡ put d 0 (column k n (drop (from * 8) xs))
+column-rest {d} {l} xs from k i n r h b e =
+    let A = column k i (drop (from * 8) xs) in
+    let B = column k (n - i) (drop (i * 8) (drop (from * 8) xs)) in
+    let z : from * 8 + i * 8 ≡ (from + i) * 8 = omega arith in
+    let m : length A ≡ i = length-column k i (drop (from * 8) xs) in
+    let t : i + (n - i) ≡ n = omega arith in
+    let q : put (put d 0 A) (0 + length A) B ≡ put d 0 (A ++ B) = sym (put-append d 0 A B (omega arith)) in
+    e
+    ∙ rw (h .is, ← z, ← drop-drop (i * 8) (from * 8) xs) (rw (m, zero-add i) at q)
+    ∙ ap (put d 0) (column-append k i (n - i) (drop (from * 8) xs))
+    ∙ rw t
 
 -- ---- rows as an answer
 

@@ -6,11 +6,12 @@ use mathlib.Core.Path.{_≡_, refl, sym, ap, _∙_}
 use Prim.Native.Nat.{ℕ, zero, suc, _+_, _-_, _*_, _/_, _≤_, _<_, min, max}
 use native.Mathlib.Decide.{decLt}
 use native.Mathlib.Omega.{arith}
-use lib.ListN.{length, getD, take, drop}
+use lib.ListN.{length, getD, set, take, drop}
 use lib.Seq.{getD-drop, take-nil}
 use borrow.Author.Tests.{le-leb, lt-leb}
 use Rattle.cells.specs.Part.{part, put}
-use Rattle.cells.specs.PartLaws.{length-part, getD-part, part-none, length-put, getD-put-before, getD-put-in, getD-put-after, put-nil}
+use Rattle.cells.proofs.Steps.{Laid, laid-none, laid-snoc}
+use Rattle.cells.specs.PartLaws.{length-part, getD-part, part-none, part-snoc, part-append, length-put, getD-put-before, getD-put-in, getD-put-after, put-nil, put-append}
 use Rattle.maps.specs.Lists.{front, first, last, mapOption, orElse}
 use Rattle.maps.specs.Maps.{Map}
 use Rattle.pipe_log.specs.Rows.{window}
@@ -21,7 +22,7 @@ use Rattle.memtable.specs.declared.Head.{Head}
 use Rattle.memtable.specs.declared.Rewritten.{the-variants.Done, the-variants.AppendLeft, the-variants.AlreadyRewritten}
 use Rattle.memtable.specs.Views.{tableOf, rowAt, Row, Wf}
 use Rattle.memtable.specs.Appends.{Lent}
-use Rattle.memtable.specs.Rewrites.{moved, replacedPart, Rewriting, Run, Met, counting, Replaced}
+use Rattle.memtable.specs.Rewrites.{moved, replacedPart, Rewriting, Run, Met, Overlap, Passed, counting, Replaced}
 use Rattle.memtable.specs.RowLaws.{row-moved, row-seq, any-drop, held-row, rowAt-rewrite, rowAt-append}
 use Rattle.memtable.specs.Scans.{countBefore}
 use Rattle.memtable.specs.ScanLaws.{before-all, before-next}
@@ -119,6 +120,7 @@ module _ (gate : Option ℕ) (h : Head) (xs : List ℕ) (s : ℕ) (rows : List �
                   ]
             ];
         laid = unmoved (rw (none-from l, take-nil {A = EntryIndex} (length (entriesFrom (h .«first_index») list))));
+        first = refl;
         wf = w;
       }
 
@@ -137,6 +139,7 @@ module _ (gate : Option ℕ) (h : Head) (xs : List ℕ) (s : ℕ) (rows : List �
                   ]
             ];
         laid = unmoved (rw (none-listed l));
+        first = refl;
         wf = w;
       }
 
@@ -209,11 +212,11 @@ module _ (gate : Option ℕ) (h : Head) (xs : List ℕ) (s : ℕ) (rows : List �
 
     pub rewrite-left : h .«rewrite_count» < p → Rewriting gate h xs s rows AppendLeft xs
     unfolding andThen
-    rewrite-left l = record { rule = λ keys counted. rw (by-rows keys counted, append-before l); laid = refl; wf = w }
+    rewrite-left l = record { rule = λ keys counted. rw (by-rows keys counted, append-before l); laid = refl; first = refl; wf = w }
 
     pub rewrite-met : p ≤ h .«rewrite_count» → meetsRewrite gate (stopsAt gate held lent) ≡ true → Rewriting gate h xs s rows AlreadyRewritten xs
     unfolding andThen
-    rewrite-met l e = record { rule = λ keys counted. rw (by-rows keys counted, rewrite-before l, e); laid = refl; wf = w }
+    rewrite-met l e = record { rule = λ keys counted. rw (by-rows keys counted, rewrite-before l, e); laid = refl; first = refl; wf = w }
 
     -- k rows of the list laid in
     module _ (k : ℕ) (r : Run gate (h .«first_index» + p) (drop (p * 8) xs) (min (h .len - p) (length rows / 8 - q)) k) (l : Lent 1 s rows)
@@ -271,6 +274,7 @@ module _ (gate : Option ℕ) (h : Head) (xs : List ℕ) (s : ℕ) (rows : List �
                   entries-after,
                 );
             laid = part-after;
+            first = refl;
             wf =
                 record {
                   room = rw (d, length-put xs (p * 8) (part (q * 8) (k * 8) rows) (omega (arith, laid-length, w .room, r .most))) (w .room);
@@ -359,6 +363,37 @@ module _ (h : Head) (xs : List ℕ) (w : Wf h xs) (p c : ℕ) (l : p + c ≤ h .
         meets = λ b. in-appends k (omega arith) b;
       }
 
+-- ---- an overlap without a gate, and with one
+
+within : (p k n x : ℕ) → k ≤ n - p → p < n → n * 8 ≤ x → (p + k) * 8 ≤ x
+within p k n x a b c = omega arith
+
+module _ (h : Head) (xs : List ℕ) (s : ℕ) (rows : List ℕ) (w : Wf h xs) (l : Lent 1 s rows) (p q c : ℕ) (o : Overlap h s rows p q c) where
+  -- k rows of it are within the part and within the list
+  pub overlap-within : (k : ℕ) → k ≤ c → ((p + k) * 8 ≤ length xs) × ((q + k) * 8 ≤ length rows)
+  overlap-within k b =
+      let a : k ≤ h .len - p = omega (arith, o .most) in
+      let d : k ≤ length rows / 8 - q = omega (arith, o .most) in
+      let e : q < length rows / 8 = omega (arith, o .skipped, o .listed) in
+      let f : length rows / 8 * 8 ≤ length rows = omega (arith, l .whole) in
+      (within p k (h .len) (length xs) a (o .held) (w .room), within q k (length rows / 8) (length rows) d e f)
+
+  pub overlap-ungated : (k : ℕ) (g : Head) (ys : List ℕ) → k ≡ min c (h .«rewrite_count» - p) → Replaced h xs rows p q k g ys → Rewriting none h xs s rows (Done g) ys
+  overlap-ungated k g ys e d =
+      replace-done none h xs s rows w p q (o .place) (o .skipped) (o .held) (o .listed) (o .behind) c k g ys (o .most) l
+      (run-ungated h xs w p c (omega (arith, o .most, o .held)) k e) d
+
+  pub overlap-met : (gate : ℕ) → p < h .«rewrite_count» → Rewriting (some gate) h xs s rows AlreadyRewritten xs
+  overlap-met gate b =
+      replace-already (some gate) h xs s rows w p q (o .place) (o .skipped) (o .held) (o .listed) (o .behind)
+      (met-gated h xs w p c (omega (arith, o .most, o .held)) gate b)
+
+  pub overlap-gated : (gate k : ℕ) (g : Head) (ys : List ℕ) → h .«rewrite_count» ≤ p → Passed gate xs rows p q c k ys → g ≡ counting (max (h .«rewrite_count») (p + k)) h
+      → Rewriting (some gate) h xs s rows (Done g) ys
+  overlap-gated gate k g ys b d e =
+      replace-done (some gate) h xs s rows w p q (o .place) (o .skipped) (o .held) (o .listed) (o .behind) c k g ys (o .most) l
+      (run-gated h xs w p c (omega (arith, o .most, o .held)) gate k b (d .count) (d .most)) (record { head = e; laid = d .laid })
+
 -- ---- `lay_replaced`
 
 module _ (h : Head) (xs rows : List ℕ) (p q k : ℕ) (ys : List ℕ) (d : ys ≡ put xs (p * 8) (take ((q + k) * 8 - q * 8) (drop (q * 8) rows))) where
@@ -368,12 +403,60 @@ module _ (h : Head) (xs rows : List ℕ) (p q k : ℕ) (ys : List ℕ) (d : ys �
       let e : (q + k) * 8 - q * 8 ≡ k * 8 = omega arith in
       rw e at d
 
-  pub lay-more : h .«rewrite_count» < p + k → Replaced h xs rows p q k (counting (p + k) h) ys
-  lay-more l =
-      let e : p + k ≡ max (h .«rewrite_count») (p + k) = omega arith in
-      record { head = ap (λ (n : ℕ). counting n h) e; laid = laid-part }
+  pub lay-done : (g : Head) → g ≡ counting (max (h .«rewrite_count») (p + k)) h → Replaced h xs rows p q k g ys
+  lay-done g e = record { head = e; laid = laid-part }
 
-  pub lay-same : p + k ≤ h .«rewrite_count» → Replaced h xs rows p q k h ys
-  lay-same l =
-      let e : h .«rewrite_count» ≡ max (h .«rewrite_count») (p + k) = omega arith in
-      record { head = ap (λ (n : ℕ). counting n h) e; laid = laid-part }
+-- ---- `replaced_to`
+
+module _ (h : Head) (n : ℕ) where
+  pub to-more : h .«rewrite_count» < n → counting n h ≡ counting (max (h .«rewrite_count») n) h
+  to-more l = let e : n ≡ max (h .«rewrite_count») n = omega arith in ap (λ (k : ℕ). counting k h) e
+
+  pub to-same : n ≤ h .«rewrite_count» → h ≡ counting (max (h .«rewrite_count») n) h
+  to-same l = let e : h .«rewrite_count» ≡ max (h .«rewrite_count») n = omega arith in ap (λ (k : ℕ). counting k h) e
+
+-- ---- the pass of a gated rewrite
+
+-- one number of a row more
+next-number : {d l : List ℕ} (at from i j t p : ℕ) (x : List ℕ) → t ≡ at + i → p ≡ from + i → j ≡ i + 1 → Laid d at (part from i x) l → from + i < length x → at + i < length d
+    → Laid d at (part from j x) (set l t (getD x p 0))
+next-number at from i j t p x e f g h a b =
+    rw (e, f, g) (laid-snoc i (getD x (from + i) 0) h (part-snoc from i x 0 a) (length-part from i x (omega arith)) b)
+
+pub row-copied : (d rows : List ℕ) (at from : ℕ) → at + 8 ≤ length d → from + 8 ≤ length rows
+    → set (set (set (set (set (set (set (set d at (getD rows from 0)) (at + 1) (getD rows (from + 1) 0)) (at + 2) (getD rows (from + 2) 0)) (at + 3) (getD rows (from + 3) 0)) (at + 4) (getD rows (from + 4) 0)) (at + 5) (getD rows (from + 5) 0)) (at + 6) (getD rows (from + 6) 0)) (at + 7) (getD rows (from + 7) 0)
+    ≡ put d at (part from 8 rows)
+row-copied d rows at from a b =
+    let l₀ : Laid d at (part from 0 rows) d = rw (part-none from rows) (laid-none d at) in
+    let l₁ = next-number at from 0 1 at from rows (omega arith) (omega arith) refl l₀ (omega arith) (omega arith) in
+    let l₂ = next-number at from 1 2 (at + 1) (from + 1) rows refl refl refl l₁ (omega arith) (omega arith) in
+    let l₃ = next-number at from 2 3 (at + 2) (from + 2) rows refl refl refl l₂ (omega arith) (omega arith) in
+    let l₄ = next-number at from 3 4 (at + 3) (from + 3) rows refl refl refl l₃ (omega arith) (omega arith) in
+    let l₅ = next-number at from 4 5 (at + 4) (from + 4) rows refl refl refl l₄ (omega arith) (omega arith) in
+    let l₆ = next-number at from 5 6 (at + 5) (from + 5) rows refl refl refl l₅ (omega arith) (omega arith) in
+    let l₇ = next-number at from 6 7 (at + 6) (from + 6) rows refl refl refl l₆ (omega arith) (omega arith) in
+    let l₈ = next-number at from 7 8 (at + 7) (from + 7) rows refl refl refl l₇ (omega arith) (omega arith) in
+    l₈ .is
+
+-- what lies behind what is laid in is as it was
+behind-laid : {d s l : List ℕ} (at i j : ℕ) → Laid d at s l → length s ≡ i → at + i ≤ j → at ≤ length d → getD l j 0 ≡ getD d j 0
+behind-laid {d} {s} {l} at i j h n b f = rw (h .is) (getD-put-after d at s j 0 (omega arith) f)
+
+module _ (xs rows : List ℕ) (p q : ℕ) {l : List ℕ} (i : ℕ) (h : Laid xs (p * 8) (part (q * 8) (i * 8) rows) l) where
+  module _ (c : ℕ) (a : (p + c) * 8 ≤ length xs) (b : (q + c) * 8 ≤ length rows) (m : i ≤ c) where
+    rows-long : length (part (q * 8) (i * 8) rows) ≡ i * 8
+    rows-long = length-part (q * 8) (i * 8) rows (omega arith)
+
+    pub held-cell : (k : ℕ) → getD l ((p + i) * 8 + k) 0 ≡ getD xs ((p + i) * 8 + k) 0
+    held-cell k = behind-laid (p * 8) (i * 8) ((p + i) * 8 + k) h rows-long (omega arith) (omega arith)
+
+    pub row-more : i < c → (y : List ℕ) → y ≡ put l ((p + i) * 8) (part ((q + i) * 8) 8 rows) → length y ≡ length l → Laid xs (p * 8) (part (q * 8) ((i + 1) * 8) rows) y
+    row-more n y e f =
+        let z : p * 8 + i * 8 ≡ (p + i) * 8 = omega arith in
+        let w : q * 8 + i * 8 ≡ (q + i) * 8 = omega arith in
+        let t : i * 8 + 8 ≡ (i + 1) * 8 = omega arith in
+        let A = part (q * 8) (i * 8) rows in
+        let B = part ((q + i) * 8) 8 rows in
+        let g : put (put xs (p * 8) A) (p * 8 + length A) B ≡ put xs (p * 8) (A ++ B) = sym (put-append xs (p * 8) A B (omega arith)) in
+        let k : A ++ B ≡ part (q * 8) ((i + 1) * 8) rows = rw (w, t) at (part-append (q * 8) (i * 8) 8 rows) in
+        record { is = e ∙ rw (h .is, ← k) (rw (rows-long, z) at g); long = f ∙ h .long }

@@ -2,15 +2,15 @@
 use mathlib.Core.Bool.{true, false}
 use mathlib.Core.List.{List}
 use mathlib.Core.Path.{_≡_, sym}
-use Prim.Native.Nat.{ℕ, _+_, _-_, _*_, _≤_, _<_}
+use Prim.Native.Nat.{ℕ, _+_, _-_, _*_, _≤_, _<_, _^_}
 use native.Mathlib.Nat.{zero-add, sub-zero}
 use native.Mathlib.Decide.{decLt}
 use native.Mathlib.Omega.{arith}
-use lib.Dec.{ltb}
+use lib.Dec.{ltb, leb}
 use lib.ListN.{drop}
-use borrow.Author.Tests.{lt-ltb, le-ltb}
+use borrow.Author.Tests.{lt-ltb, le-ltb, le-leb, lt-leb}
 use Rattle.maps.specs.BoolLaws.{and-false}
-use Rattle.memtable.specs.Scans.{countBefore, stops, sizeCount}
+use Rattle.memtable.specs.Scans.{countBefore, stops, lenSum, allFit, sizeCount}
 
 module _ (size sum l : ℕ) where
   pub over-none : sum ≡ 0 → false ≡ stops size sum l
@@ -36,3 +36,17 @@ before-start gate n ys = rw (zero-add (countBefore gate (n - 0) ys), sub-zero n)
 
 pub size-start : (size n : ℕ) (ys : List ℕ) → sizeCount size 0 n ys ≡ 0 + sizeCount size 0 (n - 0) (drop (0 * 8) ys)
 size-start size n ys = rw (zero-add (sizeCount size 0 (n - 0) ys), sub-zero n)
+
+pub sum-start : (n : ℕ) (ys : List ℕ) → lenSum n ys ≡ 0 + lenSum (n - 0) (drop (0 * 8) ys)
+sum-start n ys = rw (zero-add (lenSum (n - 0) ys), sub-zero n)
+
+-- ---- whether all fit
+
+module _ (size n : ℕ) (ys : List ℕ) where
+  pub too-many : 2 ^ 28 < n → false ≡ allFit size n ys
+  unfolding allFit
+  too-many l = rw (lt-leb n (2 ^ 28) l)
+
+  pub by-sum : (sum : ℕ) → n ≤ 2 ^ 28 → sum ≡ lenSum n ys → leb sum size ≡ allFit size n ys
+  unfolding allFit
+  by-sum sum l e = rw (le-leb n (2 ^ 28) l, e)

@@ -59,6 +59,8 @@ fitting room r = andThen r (λ t. cond (leb (length (t .entries)) room) (ok t) (
 pub record Laying (by : Table → Result Table) (h : Head) (xs rows : List ℕ) (r : Appended) (ys : List ℕ) : Type 0 where
   pub rule : (keys : Map (List ℕ) Held) (counted : Bool) → appendedOf r ys keys counted ≡ fitting (length xs / 8) (by (tableOf h xs keys counted))
   pub laid : ys ≡ partAfter r xs rows
+  -- without entries the first index is the one before the call
+  pub first : headAfter h r .len ≡ 0 → headAfter h r .«first_index» ≡ h .«first_index»
   pub wf : Wf (headAfter h r) ys
 
 -- a list laid over, where a start below the first entry drops all or is refused, and a gap drops all or is refused

@@ -2,7 +2,7 @@
 use mathlib.Core.List.{List, [], _∷_, _++_, map}
 use mathlib.Core.Path.{_≡_, refl, ap}
 use Prim.Native.Nat.{ℕ, zero, suc, _+_, _*_, _<_}
-use native.Mathlib.Nat.{zero-add, add-zero}
+use native.Mathlib.Nat.{zero-add, add-zero, suc-add}
 use native.Mathlib.Omega.{arith}
 use lib.ListN.{length, getD, drop}
 use lib.Seq.{getD-drop, drop-drop}
@@ -29,6 +29,14 @@ column-snoc k (suc n) xs =
     let e : 8 + (n * 8 + k) ≡ suc n * 8 + k = omega arith in
     let d : suc n + 1 ≡ suc (n + 1) = omega arith in
     rw (d, ← e, ← getD-drop 8 xs (n * 8 + k) 0, column-snoc k n (drop 8 xs))
+
+-- the rows from row a on behind the first a
+pub column-append : (k a b : ℕ) (xs : List ℕ) → column k a xs ++ column k b (drop (a * 8) xs) ≡ column k (a + b) xs
+unfolding column
+column-append k zero b xs = rw (zero-add b)
+column-append k (suc a) b xs =
+    let e : 8 + a * 8 ≡ suc a * 8 = omega arith in
+    rw (suc-add a b, ← e, ← drop-drop (a * 8) 8 xs) (ap (λ l. getD xs k 0 ∷ l) (column-append k a b (drop 8 xs)))
 
 pub upFrom-snoc : (f n : ℕ) → upFrom f n ++ ((f + n) ∷ []) ≡ upFrom f (n + 1)
 unfolding upFrom

@@ -3,8 +3,8 @@ use mathlib.Core.Bool.{Bool, true, false}
 use mathlib.Core.List.{List}
 use mathlib.Core.Option.{Option, some}
 use mathlib.Core.Path.{_≡_}
-use Prim.Native.Nat.{ℕ, _+_, _-_, _*_, _/_, _≤_, _<_, max}
-use lib.ListN.{length, take}
+use Prim.Native.Nat.{ℕ, _+_, _-_, _*_, _/_, _≤_, _<_, min, max}
+use lib.ListN.{length, take, drop}
 use Rattle.cells.specs.Part.{part, put}
 use Rattle.maps.specs.Lists.{front}
 use Rattle.maps.specs.Maps.{Map}
@@ -14,7 +14,7 @@ use Rattle.rules.specs.Items.{EntryIndex}
 use Rattle.rules.specs.Table.{Held, Table, entriesFrom, replaces, meetsRewrite, rewritten}
 use Rattle.memtable.specs.declared.Head.{Head}
 use Rattle.memtable.specs.declared.Rewritten.{Rewritten, the-variants.Done, the-variants.AppendLeft, the-variants.AlreadyRewritten}
-use Rattle.memtable.specs.declared.rewrite.Replacing.{Replacing, the-variants.Rows, the-variants.Already}
+use Rattle.memtable.specs.Scans.{countBefore}
 use Rattle.memtable.specs.Views.{tableOf, rowAt, Wf}
 
 -- the rules' result for each answer
@@ -53,6 +53,7 @@ pub record Rewriting (gate : Option ℕ) (h : Head) (xs : List ℕ) (s : ℕ) (r
   pub rule : (keys : Map (List ℕ) Held) (counted : Bool)
       → rewrittenOf r ys keys counted ≡ rewritten gate (window s (length rows / 8) rows) (tableOf h xs keys counted)
   pub laid : ys ≡ rewrittenPart gate h xs s rows r
+  pub first : rewrittenHead h r .«first_index» ≡ h .«first_index»
   pub wf : Wf (rewrittenHead h r) ys
 
 -- ---- how many entries are replaced
@@ -69,9 +70,20 @@ pub record Met (gate : Option ℕ) (a : ℕ) (ys : List ℕ) : Type 0 where
   pub stop : replaces gate (rowAt a ys 0) ≡ false
   pub meets : meetsRewrite gate (some (rowAt a ys 0)) ≡ true
 
-abbrev pub RunAnswer : Option ℕ → ℕ → List ℕ → ℕ → Replacing → Type 0
-RunAnswer gate a ys c (Rows k) = Run gate a ys c k
-RunAnswer gate a ys c Already = Met gate a ys
+-- where a list that starts at s overlaps entries: from place p of the entries and place q of the list on, c of them
+pub record Overlap (h : Head) (s : ℕ) (rows : List ℕ) (p q c : ℕ) : Type 0 where
+  pub place : p ≡ s - h .«first_index»
+  pub skipped : q ≡ h .«first_index» - s
+  pub held : p < h .len
+  pub listed : h .«first_index» - s < length rows / 8
+  pub most : c ≡ min (h .len - p) (length rows / 8 - q)
+  pub behind : p ≤ h .«rewrite_count»
+
+-- k rows from row q on laid in at place p, before the first of c entries with a sequence number above the gate
+pub record Passed (gate : ℕ) (xs rows : List ℕ) (p q c k : ℕ) (ys : List ℕ) : Type 0 where
+  pub count : k ≡ countBefore gate c (drop (p * 8) xs)
+  pub most : k ≤ c
+  pub laid : ys ≡ put xs (p * 8) (part (q * 8) (k * 8) rows)
 
 -- the head with n Rewrite entries
 abbrev pub counting : ℕ → Head → Head

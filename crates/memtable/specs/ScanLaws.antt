@@ -3,21 +3,21 @@ use mathlib.Core.Bool.{Bool, true, false, cond, _&&_}
 use mathlib.Core.List.{List, [], _∷_}
 use mathlib.Core.Path.{_≡_, refl, sym}
 use Prim.Native.Nat.{ℕ, zero, suc, _+_, _-_, _*_, _≤_, _<_, _^_}
-use native.Mathlib.Nat.{add-zero}
+use native.Mathlib.Nat.{add-zero, add-assoc}
 use native.Mathlib.Omega.{arith}
 use lib.Dec.{ltb, leb}
 use lib.ListN.{getD, drop}
 use lib.Seq.{getD-drop, drop-drop}
-use borrow.Author.Tests.{le-leb, lt-leb, lt-ltb}
+use borrow.Author.Tests.{leb-true, le-leb, lt-leb, lt-ltb, le-ltb}
 use native.Mathlib.Decide.{decLt}
 use Rattle.maps.specs.Lists.{front}
 use Rattle.pipe_log.specs.Rows.{entryOf, withIndex, window}
 use Rattle.rules.specs.Items.{EntryIndex, fileOf}
 use Rattle.rules.specs.TableQueries.{upToSize}
-use Rattle.maps.specs.BoolLaws.{clash}
+use Rattle.maps.specs.BoolLaws.{clash, both-right}
 use Rattle.memtable.specs.Views.{rowAt, AnyRow}
 use Rattle.memtable.specs.RowLaws.{row-seq, any-drop}
-use Rattle.memtable.specs.Scans.{countBefore, stops, sizeCount}
+use Rattle.memtable.specs.Scans.{countBefore, stops, lenSum, allFit, sizeCount}
 
 -- ---- as the rules' lists
 
@@ -140,6 +140,32 @@ module _ (xs : List ℕ) (from n i : ℕ) where
     unfolding sizeCount
     size-more l g =
         rw (rest l, cell 7, g, next, one-more (sizeCount size (sum + getD xs ((from + i) * 8 + 7) 0) (n - (i + 1)) (drop ((i + 1) * 8) (drop (from * 8) xs)))) at e
+
+  -- the sum of lengths, which is t in all and so far sum
+  module _ (sum t : ℕ) (e : t ≡ sum + lenSum (n - i) (drop (i * 8) (drop (from * 8) xs))) where
+    pub sum-end : n ≤ i → sum ≡ t
+    unfolding lenSum
+    sum-end l =
+        let d : n - i ≡ 0 = omega arith in
+        sym (rw (d, add-zero sum) at e)
+
+    pub sum-more : i < n → t ≡ sum + getD xs ((from + i) * 8 + 7) 0 + lenSum (n - (i + 1)) (drop ((i + 1) * 8) (drop (from * 8) xs))
+    unfolding lenSum
+    sum-more l =
+        rw (add-assoc sum (getD xs ((from + i) * 8 + 7) 0) (lenSum (n - (i + 1)) (drop ((i + 1) * 8) (drop (from * 8) xs)))) (rw (rest l, cell 7, next) at e)
+
+-- no row is one too many if all lengths sum within the size
+size-all : (size sum n : ℕ) (xs : List ℕ) → sum + lenSum n xs ≤ size → sizeCount size sum n xs ≡ n
+unfolding sizeCount lenSum stops
+size-all size sum zero xs h = refl
+size-all size sum (suc n) xs h =
+    rw (le-ltb size (sum + getD xs 7 0) (omega arith), size-all size (sum + getD xs 7 0) n (drop 8 xs) (omega arith))
+
+pub all-fit : (size n : ℕ) (xs : List ℕ) → allFit size n xs ≡ true → n ≡ sizeCount size 0 n xs
+unfolding allFit
+all-fit size n xs e =
+    let l : lenSum n xs ≤ size = leb-true (lenSum n xs) size (both-right (leb n (2 ^ 28)) (leb (lenSum n xs) size) e) in
+    sym (size-all size 0 n xs (omega arith))
 
 -- a sum that does not stop the scan is 0 with its record, or at most the size
 pub size-fits : (size sum l : ℕ) → stops size sum l ≡ false → size < 2 ^ 64 → l ≤ 2 ^ 25 → sum + l < 2 ^ 64

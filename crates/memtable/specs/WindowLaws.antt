@@ -140,6 +140,12 @@ pub firstIndex-window : (f n : ℕ) (xs : List ℕ) → 0 < n → firstIndex (wi
 unfolding firstIndex mapOption rowAt withIndex
 firstIndex-window f n xs h = rw (first-window f n xs h, add-zero f)
 
+-- f is the index of the first record, or d, which f is where there is none
+pub first-or : (d f n : ℕ) (xs : List ℕ) → (n ≡ 0 → f ≡ d) → f ≡ orElse d (λ (i : ℕ). i) (firstIndex (window f n xs))
+unfolding firstIndex mapOption first window orElse
+first-or d f zero xs e = e refl
+first-or d f (suc n) xs e = rw (firstIndex-window f (suc n) xs (omega arith))
+
 pub lastIndex-window : (f n : ℕ) (xs : List ℕ) → 0 < n → lastIndex (window f n xs) ≡ some (f + (n - 1))
 unfolding lastIndex mapOption rowAt withIndex
 lastIndex-window f n xs h = rw (last-window f n xs h)

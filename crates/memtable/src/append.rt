@@ -1,5 +1,5 @@
 // Rows laid over a group's entries: what is below their first index stays, and the rows follow.
-ghost use Prim.Native.Nat.{_+_, _≤_, _/_, _^_};
+ghost use Prim.Native.Nat.{_+_, _≤_, _<_, _/_, _^_};
 ghost use lib.ListN.{length};
 ghost use Rattle.pipe_log.specs.Rows.{window};
 ghost use Rattle.rules.specs.Causes.{ok};
@@ -56,7 +56,7 @@ impl Head {
     ) -> Appended
         requires { ⌜ Wf self (now part) ⌝ }
         requires { ⌜ Lent (queueBit rewrite) first (now rows) ⌝ }
-        requires { ⌜ (kept ≤ self .len) × (kept ≤ first) × (rewritesBefore rewrite kept ≤ self .«rewrite_count») ⌝ }
+        requires { ⌜ (kept ≤ self .len) × (kept ≤ first) × (rewritesBefore rewrite kept ≤ self .«rewrite_count») × (0 < length (now rows)) ⌝ }
         ensures { λ r. ⌜ Laying (λ t. ok (behind kept first (now (part .entry)) (length (now (rows .entry)) / 8) (now (rows .entry)) t)) self (now (part .entry)) (now (rows .entry)) r (now (part .exit)) ⌝ }
     {
         let at = kept * ENTRY_WIDTH;

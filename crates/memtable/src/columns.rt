@@ -11,16 +11,46 @@ use crate::Fetched;
 use crate::Head;
 use pipe_log::ENTRY_WIDTH;
 
-// Copies cell `cell` of `count` rows from row `from` on.
+// Copies cell `cell` of up to three rows from row `from` on to the places from `at` on.
+fn copy_rest(part: &[u64], from: usize, cell: usize, count: usize, out: &mut [u64], at: usize)
+    requires { ⌜ ((from + count) * 8 ≤ length (now part)) × (cell < 8) × (at + count ≤ length (now out)) × (count ≤ 3) ⌝ }
+    ensures { λ _. ⌜ now (out .exit) ≡ put (now (out .entry)) at (column cell count (drop (from * 8) (now (part .entry)))) ⌝ }
+{
+    if count == 0 {
+        return;
+    }
+    let first = from * ENTRY_WIDTH + cell;
+    out[at] = part[first];
+    if count == 1 {
+        return;
+    }
+    out[at + 1] = part[first + 8];
+    if count == 2 {
+        return;
+    }
+    out[at + 2] = part[first + 16];
+}
+
+// Copies cell `cell` of `count` rows from row `from` on, by four rows and a rest: a loop row by row is compiled with tests for
+// an overlap of the two slices.
 fn copy_column(part: &[u64], from: usize, cell: usize, count: usize, out: &mut [u64])
     requires { ⌜ ((from + count) * 8 ≤ length (now part)) × (cell < 8) × (count ≤ length (now out)) ⌝ }
     ensures { λ _. ⌜ now (out .exit) ≡ put (now (out .entry)) 0 (column cell count (drop (from * 8) (now (part .entry)))) ⌝ }
 {
     let mut i = 0;
-    while i < count {
-        out[i] = part[(from + i) * ENTRY_WIDTH + cell];
-        i += 1;
+    while 4 <= count - i {
+        let at = (from + i) * ENTRY_WIDTH + cell;
+        let a = part[at];
+        let b = part[at + 8];
+        let c = part[at + 16];
+        let d = part[at + 24];
+        out[i] = a;
+        out[i + 1] = b;
+        out[i + 2] = c;
+        out[i + 3] = d;
+        i += 4;
     }
+    copy_rest(part, from + i, cell, count - i, out, i);
 }
 
 // Writes `count` indexes from `first` up.

@@ -17,7 +17,7 @@ use log_batch::item::LogItemContent;
 use log_batch::item::Value;
 use log_batch::item::bytes_of;
 use log_batch::item::entries_of;
-use log_batch::open::ENTRY_WIDTH;
+use pipe_log::ENTRY_WIDTH;
 use log_batch::open::ITEM_WIDTH;
 
 // Copies a key, and its value behind it, to place `at`.

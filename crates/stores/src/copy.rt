@@ -4,7 +4,7 @@ ghost use lib.ListN.{length};
 ghost use Rattle.stores.specs.Stores.{area, Stored, FrontCopied, Fitting, Copied};
 use crate::Store;
 use crate::row::ITEM_BYTES;
-use log_batch::open::ENTRY_WIDTH;
+use pipe_log::ENTRY_WIDTH;
 use log_batch::open::ITEM_WIDTH;
 
 fn copy_front_u64(to: &mut [u64], from: &[u64], n: usize)

@@ -14,7 +14,7 @@ use log_batch::item::KeyValue;
 use log_batch::item::LogItem;
 use log_batch::item::LogItemContent;
 use log_batch::item::Value;
-use log_batch::open::ENTRY_WIDTH;
+use pipe_log::ENTRY_WIDTH;
 
 // Moves a key, and its value behind it, down to place `to`.
 fn move_key(bytes: &mut [u8], to: usize, kv: KeyValue)

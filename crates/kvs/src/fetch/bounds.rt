@@ -1,10 +1,15 @@
 // The bounds of a scan.
+use crate::Place;
+use crate::find;
 use cells::Order;
 ghost use mathlib.Core.Path.{_≡_};
 ghost use mathlib.Core.Bool.{true, not};
 ghost use Rattle.maps.specs.Lists.{orElse};
 ghost use Rattle.maps.specs.Maps.{bytesBelow};
 ghost use Rattle.rules.specs.TableQueries.{inBounds, startAboveEnd};
+ghost use Prim.Native.Nat.{_≤_};
+ghost use Rattle.kvs.specs.Rows.{keysIn, Wf};
+ghost use Rattle.kvs.specs.Places.{belowBound};
 ghost use Rattle.kvs.specs.Calls.{given};
 
 fn is_below(a: &[u8], b: &[u8]) -> bool
@@ -45,6 +50,29 @@ pub fn in_bounds(key: &[u8], started: bool, start: &[u8], ended: bool, end: &[u8
         return to_end(key, ended, end);
     }
     false
+}
+
+// How many keys are below a bound, or `otherwise` where it is not there.
+pub fn below_bound(
+    n: usize,
+    rows: &[u64],
+    bytes: &[u8],
+    there: bool,
+    bound: &[u8],
+    otherwise: usize,
+) -> usize
+    requires { ⌜ Wf n (now rows) (now bytes) ⌝ }
+    requires { ⌜ otherwise ≤ n ⌝ }
+    ensures { λ r. ⌜ r ≡ belowBound otherwise (given there (now (bound .entry))) (keysIn n (now (rows .entry)) (now (bytes .entry))) ⌝ }
+    ensures { λ r. ⌜ r ≤ n ⌝ }
+{
+    if !there {
+        return otherwise;
+    }
+    match find(n, rows, bytes, bound) {
+        Place::At(i) => i,
+        Place::Before(i) => i,
+    }
 }
 
 // Whether both bounds are there and the start is above the end.

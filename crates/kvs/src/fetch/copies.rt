@@ -19,7 +19,7 @@ ghost use Rattle.rules.specs.Items.{sameQueue, Append};
 ghost use Rattle.rules.specs.TableQueries.{rowOf};
 ghost use Rattle.kvs.specs.Rows.{rowAt, pairOf, keysIn, Wf};
 ghost use Rattle.kvs.specs.RowIn.{RowIn};
-ghost use Rattle.kvs.specs.Lists.{meets, rowLens, rowBytes, lentLens, lentBytes, inList, CopyIf};
+ghost use Rattle.kvs.specs.Lists.{meets, rowLens, rowBytes, lentLens, lentBytes, inList, stretch, CopyIf};
 
 // Whether row `i` is an Append one with a file up to the gate.
 fn up_to(rows: &[u64], i: usize, gate: u64) -> bool
@@ -162,5 +162,31 @@ pub fn copy_chosen(
         let i = row_of(n, s, backwards);
         j = copy_if(rows, bytes, i, which, start, end, limit, lens, out, j);
         s += 1;
+    }
+}
+
+// Copies the first `limit` of the rows from row `low` up to row `high`, in the direction asked for.
+pub fn copy_stretch(
+    n: usize,
+    rows: &[u64],
+    bytes: &[u8],
+    low: usize,
+    high: usize,
+    backwards: bool,
+    limit: usize,
+    lens: &mut [u64],
+    out: &mut [u8],
+)
+    requires { ⌜ Wf n (now rows) (now bytes) ⌝ }
+    requires { ⌜ (low + limit ≤ high) × (high ≤ n) × (limit * 2 ≤ length (now lens)) × (limit * 64 ≤ length (now out)) ⌝ }
+    ensures { λ _. ⌜ now (lens .exit) ≡ lentLens 0 (take limit (stretch low high backwards (keysIn n (now (rows .entry)) (now (bytes .entry))))) (now (lens .entry)) ⌝ }
+    ensures { λ _. ⌜ now (out .exit) ≡ lentBytes 0 (take limit (stretch low high backwards (keysIn n (now (rows .entry)) (now (bytes .entry))))) (now (out .entry)) ⌝ }
+{
+    let count = high - low;
+    let mut j = 0;
+    while j < limit {
+        let i = low + row_of(count, j, backwards);
+        copy_row(rows, bytes, i, lens, out, j);
+        j += 1;
     }
 }

@@ -1,69 +1,25 @@
 -- `log_batch::causes::least_of_content` meets its contract. Assumes nothing.
 use mathlib.Core.Path.{sym, _∙_}
+use Rattle.log_batch.proofs.PlainLaws.{plain-least}
 use borrow.Author.Needs.{needs}
-use Rattle.log_batch.specs.Judged.{leastContent}
 use Rattle.log_batch.proofs.causes.least_of_content.Statement.{statement}
 use Rattle.log_batch.proofs.causes.least_of_content.Tie as tie
 
-is-incomplete-requires : tie.Need-is-incomplete-requires
-is-incomplete-requires c κs = search needs
+is-plain-content-requires : tie.Need-is-plain-content-requires
+is-plain-content-requires c κs = search needs
 
 returns : tie.Need-returns
-unfolding leastContent
-returns c = λ bytes. rw (sym (c .before .is-incomplete .ensures bytes) ∙ c .if1 .taken)
+returns c =
+    let start = c .before .before .before in
+    let is-plain-content = c .before .is-plain-content in
+    λ bytes. sym (plain-least _ (start .args .content) (start .args .entries .now) bytes (sym (is-plain-content .ensures) ∙ c .if1 .taken))
 
-is-out-of-range-requires : tie.Need-is-out-of-range-requires
-is-out-of-range-requires c κs = search needs
+least-of-tests-requires : tie.Need-least-of-tests-requires
+least-of-tests-requires c κs = search needs
 
 returns-2 : tie.Need-returns-2
-unfolding leastContent
-returns-2 c = λ bytes. rw (sym (c .before .before .before .is-incomplete .ensures bytes) ∙ c .before .before .if1 .left, sym (c .before .is-out-of-range .ensures bytes) ∙ c .if2 .taken)
-
-is-other-queue-requires : tie.Need-is-other-queue-requires
-is-other-queue-requires c κs = search needs
-
-returns-3 : tie.Need-returns-3
-unfolding leastContent
-returns-3 c =
-    λ bytes.
-    let incomplete = sym (c .before .before .before .before .before .is-incomplete .ensures bytes) ∙ c .before .before .before .before .if1 .left in
-    let far = sym (c .before .before .before .is-out-of-range .ensures bytes) ∙ c .before .before .if2 .left in
-    let other = sym (c .before .is-other-queue .ensures bytes) ∙ c .if3 .taken in
-    rw (incomplete, far, other)
-
-is-not-rewritable-requires : tie.Need-is-not-rewritable-requires
-is-not-rewritable-requires c κs = search needs
-
-returns-4 : tie.Need-returns-4
-unfolding leastContent
-returns-4 c =
-    λ bytes.
-    let incomplete = sym (c .before .before .before .before .before .before .before .is-incomplete .ensures bytes) ∙ c .before .before .before .before .before .before .if1 .left in
-    let far = sym (c .before .before .before .before .before .is-out-of-range .ensures bytes) ∙ c .before .before .before .before .if2 .left in
-    let other = sym (c .before .before .before .is-other-queue .ensures bytes) ∙ c .before .before .if3 .left in
-    let fixed = sym (c .before .is-not-rewritable .ensures (c .before .before .before .before .before .before .before .before .before .args .entries .now) bytes) ∙ c .if4 .taken in
-    rw (incomplete, far, other, fixed)
-
-returns-5 : tie.Need-returns-5
-unfolding leastContent
-returns-5 c =
-    λ bytes.
-    let incomplete = sym (c .before .before .before .before .before .before .before .is-incomplete .ensures bytes) ∙ c .before .before .before .before .before .before .if1 .left in
-    let far = sym (c .before .before .before .before .before .is-out-of-range .ensures bytes) ∙ c .before .before .before .before .if2 .left in
-    let other = sym (c .before .before .before .is-other-queue .ensures bytes) ∙ c .before .before .if3 .left in
-    let fixed = sym (c .before .is-not-rewritable .ensures (c .before .before .before .before .before .before .before .before .before .args .entries .now) bytes) ∙ c .if4 .left in
-    rw (incomplete, far, other, fixed)
+returns-2 c = search needs
 
 pub least-of-content-spec : {M : Type 1} → statement M
 least-of-content-spec =
-    tie.close
-    (tie.spec
-    is-incomplete-requires
-    returns
-    is-out-of-range-requires
-    returns-2
-    is-other-queue-requires
-    returns-3
-    is-not-rewritable-requires
-    returns-4
-    returns-5)
+    tie.close (tie.spec is-plain-content-requires returns least-of-tests-requires returns-2)

@@ -14,7 +14,7 @@ enum-known-prepared : tie.Need-enum-known-prepared
 enum-known-prepared c = search needs
 
 lay-rows-requires : tie.Need-lay-rows-requires
-lay-rows-requires c κs = let p = rw (c .before .before .prepared .given .1) at (c .before .before .before .before .prepare-append .ensures) in (c .before .before .before .before .before .before .before .before .pre .0, (c .before .before .before .before .before .before .before .before .pre .1 .0, (p .within, p .before, fewer-before (c .before .before .before .before .before .before .before .before .args .rewrite) _ (c .before .before .before .before .before .before .before .before .args .self .len) _ (p .within) (c .before .before .before .before .before .before .before .before .pre .1 .1))))
+lay-rows-requires c κs = let p = rw (c .before .before .prepared .given .1) at (c .before .before .before .before .prepare-append .ensures) in (c .before .before .before .before .before .before .before .before .pre .0, (c .before .before .before .before .before .before .before .before .pre .1 .0, (p .within, p .before, fewer-before (c .before .before .before .before .before .before .before .before .args .rewrite) _ (c .before .before .before .before .before .before .before .before .args .self .len) _ (p .within) (c .before .before .before .before .before .before .before .before .pre .1 .1), search needs)))
 
 enum-told : tie.Need-enum-told
 enum-told c = search needs

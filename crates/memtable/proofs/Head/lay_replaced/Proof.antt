@@ -1,6 +1,6 @@
 -- `memtable::Head::lay_replaced` meets its contract. Assumes nothing.
+use Rattle.memtable.proofs.RewriteWays.{lay-done}
 use borrow.Author.Needs.{needs}
-use Rattle.memtable.proofs.RewriteWays.{lay-more, lay-same}
 use Rattle.memtable.proofs.Head.lay_replaced.Statement.{statement}
 use Rattle.memtable.proofs.Head.lay_replaced.Tie as tie
 
@@ -31,20 +31,20 @@ part-copy-in-u64-end c = search needs
 copy-in-u64-requires : tie.Need-copy-in-u64-requires
 copy-in-u64-requires c κs = search needs
 
-add-end : tie.Need-add-end
-add-end c = search needs
+add-replaced-to : tie.Need-add-replaced-to
+add-replaced-to c = search needs
+
+replaced-to-requires : tie.Need-replaced-to-requires
+replaced-to-requires c κs = search needs
 
 same-length : tie.Need-same-length
 same-length c = search needs
 
 returns : tie.Need-returns
-returns c = lay-more _ _ _ _ (c .before .before .before .before .before .before .before .before .before .args .skip) _ _ (c .before .before .before .before .copy-in-u64 .ensures) (c .if1 .taken)
-
-same-length-2 : tie.Need-same-length-2
-same-length-2 c = search needs
-
-returns-2 : tie.Need-returns-2
-returns-2 c = lay-same _ _ _ _ (c .before .before .before .before .before .before .before .before .before .args .skip) _ _ (c .before .before .before .before .copy-in-u64 .ensures) (c .if1 .left)
+returns c =
+    let start = c .before .before .before .before .before .before .before .before in
+    let copy-in-u64 = c .before .before .before .copy-in-u64 in
+    lay-done _ _ _ _ (start .args .skip) _ _ (copy-in-u64 .ensures) _ (c .replaced-to .ensures)
 
 pub lay-replaced-spec : {M : Type 1} → statement M
 lay-replaced-spec =
@@ -59,8 +59,7 @@ lay-replaced-spec =
     part-copy-in-u64-start
     part-copy-in-u64-end
     copy-in-u64-requires
-    add-end
+    add-replaced-to
+    replaced-to-requires
     same-length
-    returns
-    same-length-2
-    returns-2)
+    returns)

@@ -26,7 +26,7 @@ same-length : tie.Need-same-length
 same-length c = search needs
 
 returns-2 : tie.Need-returns-2
-returns-2 c = lay-rewrite _ _ _ _ _ (c .before .before .before .before .before .before .before .before .pre .0) (c .before .before .before .before .before .before .before .before .pre .1 .1 .0) (c .before .before .before .before .before .before .before .before .pre .1 .1 .1) (rw (c .if2 .taken) at (c .before .before .before .before .before .before .before .before .pre .1 .0)) (c .before .before .before .before .before .if1 .left) _ (c .before .before .before .copy-in-u64 .ensures) (rw (c .if2 .taken) at (c .before .before .before .before .before .before .before .before .pre .1 .1 .2))
+returns-2 c = lay-rewrite _ _ _ _ _ (c .before .before .before .before .before .before .before .before .pre .0) (c .before .before .before .before .before .before .before .before .pre .1 .1 .0) (c .before .before .before .before .before .before .before .before .pre .1 .1 .1) (rw (c .if2 .taken) at (c .before .before .before .before .before .before .before .before .pre .1 .0)) (c .before .before .before .before .before .if1 .left) _ (c .before .before .before .copy-in-u64 .ensures) (search needs) (rw (c .if2 .taken) at (c .before .before .before .before .before .before .before .before .pre .1 .1 .2))
 
 lesser-requires : tie.Need-lesser-requires
 lesser-requires c κs = search needs
@@ -35,7 +35,7 @@ same-length-2 : tie.Need-same-length-2
 same-length-2 c = search needs
 
 returns-3 : tie.Need-returns-3
-returns-3 c = lay-append _ _ _ _ _ (c .before .before .before .before .before .before .before .before .before .pre .0) (c .before .before .before .before .before .before .before .before .before .pre .1 .1 .0) (c .before .before .before .before .before .before .before .before .before .pre .1 .1 .1) (rw (c .before .if2 .left) at (c .before .before .before .before .before .before .before .before .before .pre .1 .0)) (c .before .before .before .before .before .before .if1 .left) _ (c .before .before .before .before .copy-in-u64 .ensures) _ (c .lesser .ensures)
+returns-3 c = lay-append _ _ _ _ _ (c .before .before .before .before .before .before .before .before .before .pre .0) (c .before .before .before .before .before .before .before .before .before .pre .1 .1 .0) (c .before .before .before .before .before .before .before .before .before .pre .1 .1 .1) (rw (c .before .if2 .left) at (c .before .before .before .before .before .before .before .before .before .pre .1 .0)) (c .before .before .before .before .before .before .if1 .left) _ (c .before .before .before .before .copy-in-u64 .ensures) (search needs) _ (c .lesser .ensures)
 
 pub lay-rows-spec : {M : Type 1} → statement M
 lay-rows-spec =
