@@ -1,0 +1,7 @@
+-- The lines of 01's program `takes`: `Lines` has what a line says, `Reading` how it is read, `Reads` that these are the same.
+pub mod Fields
+pub mod Lines
+pub mod Reading
+pub mod Kept
+pub mod Reads
+pub mod Views
