@@ -3,3 +3,4 @@ pub mod TurnLaws
 pub mod AddWays
 pub mod CloseWays
 pub mod ReadWays
+pub mod WriteWays

@@ -5,3 +5,5 @@ pub mod Reading
 pub mod Kept
 pub mod Reads
 pub mod Views
+pub mod Output
+pub mod Written

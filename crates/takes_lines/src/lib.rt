@@ -1,8 +1,9 @@
-// Lines of document 01's program `takes`: read byte by byte in fixed memory.
+// Lines of document 01's program `takes`: read byte by byte in fixed memory, and written into a lent slice.
 mod add;
 mod close;
 pub mod fields;
 mod items;
+pub mod output;
 pub mod reader;
 
 pub use reader::Answer;
