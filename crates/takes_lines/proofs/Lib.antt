@@ -4,3 +4,4 @@ pub mod AddWays
 pub mod CloseWays
 pub mod ReadWays
 pub mod WriteWays
+pub mod Examples

@@ -21,10 +21,9 @@ use Rattle.takes_lines.specs.declared.reader.Answer.{Answer}
 use Rattle.takes_lines.specs.declared.reader.Answer.the-variants.{Malformed, NextRun, Batch}
 use Rattle.takes_lines.specs.declared.reader.LineReader.{LineReader}
 use Rattle.takes_lines.specs.Fields.{bind, comma}
-use Rattle.takes_lines.specs.Lines.{appendFile, batchOfOne, letterM, Line, malformed, nextRun, batch, lineOf}
+use Rattle.takes_lines.specs.Lines.{appendFile, batchOfOne, letterM, Line, malformed, nextRun, batch}
 use Rattle.takes_lines.specs.Reading.{keptMost, Named, Reading, addTo, close, after, nextField, addByte, readByte, readBytes, begin, isLast, saidBy, whole, wholeLine, endLine}
-use Rattle.takes_lines.specs.Kept.{keptLine}
-use Rattle.takes_lines.specs.Reads.{line-read, read-more}
+use Rattle.takes_lines.specs.Reads.{read-more}
 use Rattle.takes_lines.specs.Views.{namedOf, readingOf, readOf, Sound, Started, TurnsBytes, TurnsRows, GoesOn, Feeds, itemRow, answerLine, Finishes}
 
 -- ---- the next field
@@ -188,10 +187,3 @@ module _ (h : LineReader) (rows : List ℕ) where
               says = λ bytes b. rw (put-all items row (ap length is ∙ length-row (k .field) k ∙ sym nine), is)
                   (item-said k (t .sound) rows′ bytes (t .same-length ∙ fits) b (k .field) (k .letter) (ne-eqb _ _ e) last ∙ sym (closed-said bytes));
             }
-
--- ---- a whole line
-
-module _ (h k : LineReader) (text rows bytes rows₁ bytes₁ items rows₂ : List ℕ) (r : Answer) where
-  pub line-says : Started h → Feeds h rows bytes k rows₁ bytes₁ text → length bytes ≡ 66 → Finishes k rows₁ r items rows₂ → answerLine r items rows₂ bytes₁ ≡ keptLine (lineOf text)
-  line-says b f fits e =
-      e .says bytes₁ (f .same-bytes ∙ fits) ∙ ap endLine (f .reads ∙ ap (readBytes text) (b .reads rows bytes)) ∙ line-read text

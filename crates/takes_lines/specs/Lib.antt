@@ -7,3 +7,4 @@ pub mod Reads
 pub mod Views
 pub mod Output
 pub mod Written
+pub mod Answers

@@ -1,5 +1,5 @@
 -- `takes_lines::reader::read_line` meets its contract. Assumes nothing.
-use Rattle.takes_lines.proofs.ReadWays.{line-says}
+use Rattle.takes_lines.specs.Answers.{line-says}
 use borrow.Author.Needs.{needs}
 use Rattle.takes_lines.proofs.reader.read_line.Statement.{statement}
 use Rattle.takes_lines.proofs.reader.read_line.Tie as tie
