@@ -1,36 +1,28 @@
 -- The ways through the functions that add a byte. Assumes nothing.
 use mathlib.Core.Bool.{Bool, true, false, cond, _&&_}
-use mathlib.Core.Path.{_≡_, refl, sym, ap, _∙_}
+use mathlib.Core.Path.{_≡_, refl, sym, _∙_}
 use mathlib.Core.List.{List, [], _∷_, _++_}
-use mathlib.Core.Option.{Option, none, some}
-use Prim.Native.Nat.{ℕ, suc, _+_, _*_, _-_, _/_, _≤_, _<_}
+use mathlib.Core.Option.{none, some}
+use Prim.Native.Nat.{ℕ, _+_, _*_, _-_, _≤_, _<_}
 use native.Mathlib.Omega.{arith}
 use native.Mathlib.Nat.{zero-add}
 use lib.Dec.{eqb, leb, ltb}
-use lib.ListN.{length, set, take, getD, length-append, length-set}
+use lib.ListN.{length, set, length-append, length-set}
 use lib.Seq.{take-all, take-at, getD-set-same}
-use borrow.Author.Tests.{leb-true, lt-ltb, le-ltb, le-leb, lt-leb, eq-eqb, ne-eqb}
+use borrow.Author.Tests.{leb-true, lt-ltb, le-ltb, eq-eqb}
+use Rattle.maps.specs.OrderLaws.{and-both}
 use Rattle.cells.specs.Part.{part}
 use Rattle.cells.specs.PartLaws.{length-part, part-snoc, part-set-after, part-set-before}
 use Rattle.takes_lines.specs.declared.reader.LineReader.{LineReader}
 use Rattle.takes_lines.specs.Fields.{bind, isDigit, hexDigit}
-use Rattle.takes_lines.specs.Reading.{keptMost, keep, withNamed, Reading, isLetter, addLetter, addDigit, addHex}
+use Rattle.takes_lines.specs.Reading.{keptMost, keep, Reading, isLetter, addLetter, addDigit, addHex}
 use Rattle.takes_lines.specs.Views.{namedOf, readingOf, readOf, Sound, Turns, TurnsBytes, byteFor, withByte}
 
 -- ---- tests
 
 -- a byte that is within two others
 pub within : (low b high : ℕ) → leb low b && leb b high ≡ true → (low ≤ b) × (b ≤ high)
-within low b high e = (leb-true low b (left (leb low b) (leb b high) e), leb-true b high (right (leb low b) (leb b high) e))
-  where
-    left : (x y : Bool) → x && y ≡ true → x ≡ true
-    left true y e = refl
-    left false y e = e
-
-    right : (x y : Bool) → x && y ≡ true → y ≡ true
-    right true y e = e
-    right false true e = refl
-    right false false e = e
+within low b high e = and-both (leb low b) (leb b high) e (λ l h. (leb-true low b l, leb-true b high h))
 
 -- ---- letters
 

@@ -2,28 +2,24 @@
 use mathlib.Core.Bool.{Bool, true, false, cond}
 use mathlib.Core.Path.{_≡_, refl, sym, ap, _∙_}
 use mathlib.Core.List.{List, [], _∷_, _++_}
-use mathlib.Core.Option.{Option, none, some}
+use mathlib.Core.Option.{none, some}
 use Prim.Native.Nat.{ℕ, zero, suc, _+_, _*_, _-_, _^_, _≤_, _<_}
 use native.Mathlib.Numerals.{add-one}
 use native.Mathlib.Nat.{zero-add}
 use native.Mathlib.Omega.{arith}
 use lib.Dec.{eqb, ltb}
-use lib.ListN.{length, take, drop, getD, length-append, length-drop, List·getD-append}
+use lib.ListN.{length, drop, length-append, length-drop, List·getD-append}
 use lib.Seq.{take-all, take-at, drop-append-le}
-use borrow.Author.Tests.{eqb-true, lt-ltb, eq-eqb, ne-eqb, eqb-false}
+use borrow.Author.Tests.{eqb-true, lt-ltb}
+use Rattle.maps.specs.OrderLaws.{split}
 use Rattle.cells.specs.Part.{part, put}
 use Rattle.cells.specs.PartLaws.{length-part, length-put, part-append, part-put-before, part-put-same}
-use Rattle.pipe_log.specs.declared.EntryIndex.{EntryIndex}
 use Rattle.pipe_log.specs.Rows.{queueAt, compressionAt, isRecord, blockAt, entryOf, entriesOf}
 use Rattle.takes_lines.specs.declared.reader.LineReader.{LineReader}
 use Rattle.takes_lines.specs.Lines.{numberLimit, appendFile, entryAt}
-use Rattle.takes_lines.specs.Reading.{keptMost, keep, Named, withGroup, withFirst, withIndex, withFile, withEntry, withNamed, Reading, closeNumber, closeLength, closeBytes}
+use Rattle.takes_lines.specs.Reading.{keptMost, keep, Named, withGroup, withFirst, withIndex, withFile, withNamed, closeNumber, closeLength, closeBytes}
 use Rattle.takes_lines.specs.Views.{namedOf, readingOf, readOf, Sound, Turns, TurnsRows, ruined, emptied, behindEntry}
 use Rattle.takes_lines.proofs.TurnLaws.{ruin-turns}
-
-split : {P : Type 0} (t : Bool) → (t ≡ true → P) → (t ≡ false → P) → P
-split true f g = f refl
-split false f g = g refl
 
 chosen : {A : Type 0} (t : Bool) (a b : A) → t ≡ true → cond t a b ≡ a
 chosen t a b e = rw e

@@ -1,13 +1,12 @@
 -- The ways through the calls that read a line. Assumes nothing.
-use mathlib.Core.Bool.{Bool, true, false, cond, _&&_}
+use mathlib.Core.Bool.{true, false, cond, false≢true}
 use mathlib.Core.Path.{_≡_, refl, sym, ap, _∙_}
-use mathlib.Core.List.{List, [], _∷_, _++_}
+use mathlib.Core.List.{List, [], _∷_}
 use mathlib.Core.Option.{Option, none, some}
-use Prim.Native.Nat.{ℕ, _+_, _*_, _/_, _≤_, _<_}
+use Prim.Native.Nat.{ℕ, _+_, _≤_, _<_}
 use native.Mathlib.Numerals.{add-one}
-use native.Mathlib.Nat.{zero-add}
 use native.Mathlib.Omega.{arith}
-use lib.Dec.{eqb, leb}
+use lib.Dec.{eqb}
 use lib.ListN.{length, take, getD}
 use lib.Seq.{take-suc, take-all}
 use borrow.Author.Tests.{le-leb, eq-eqb, ne-eqb}
@@ -17,14 +16,13 @@ use Rattle.rules.specs.Items.{Append}
 use Rattle.log_batch.specs.Lent.{rowCount, itemIf, openedEntries, valueFits, valueAt, fileAt, openedPut, openedDel, openedRow, commandOf, valueOf, keyFileOf, changeOf, keyChange, keyContent, contentOf, itemOf, openedOf, itemAt, itemsFrom, itemsOf, batchOf}
 use Rattle.takes_lines.specs.declared.fields.Field.{Field}
 use Rattle.takes_lines.specs.declared.fields.Field.the-variants.{Letter, Group, First, Index, File, Length, Key, Value, Extra}
-use Rattle.takes_lines.specs.declared.reader.Answer.{Answer}
 use Rattle.takes_lines.specs.declared.reader.Answer.the-variants.{Malformed, NextRun, Batch}
 use Rattle.takes_lines.specs.declared.reader.LineReader.{LineReader}
 use Rattle.takes_lines.specs.Fields.{bind, comma}
-use Rattle.takes_lines.specs.Lines.{appendFile, batchOfOne, letterM, Line, malformed, nextRun, batch}
-use Rattle.takes_lines.specs.Reading.{keptMost, Named, Reading, addTo, close, after, nextField, addByte, readByte, readBytes, begin, isLast, saidBy, whole, wholeLine, endLine}
+use Rattle.takes_lines.specs.Lines.{appendFile, batchOfOne, letterM, malformed, nextRun, batch}
+use Rattle.takes_lines.specs.Reading.{Named, Reading, addTo, close, after, nextField, addByte, readByte, readBytes, isLast, saidBy, whole, wholeLine, endLine}
 use Rattle.takes_lines.specs.Reads.{read-more}
-use Rattle.takes_lines.specs.Views.{namedOf, readingOf, readOf, Sound, Started, TurnsBytes, TurnsRows, GoesOn, Feeds, itemRow, answerLine, Finishes}
+use Rattle.takes_lines.specs.Views.{namedOf, readingOf, readOf, Sound, TurnsBytes, TurnsRows, GoesOn, Feeds, itemRow, answerLine, Finishes}
 
 -- ---- the next field
 
@@ -99,21 +97,18 @@ module _ (h : LineReader) (rows bytes text : List ℕ) where
 
 -- ---- the end of the line
 
-never : false ≡ true → ⊥
-never e = let y : _≡_ {A = ℕ} 0 1 = cc in omega arith
-
 -- M is the letter alone
 merge-said : (field : Field) (n : Named) → isLast field letterM ≡ true → saidBy field n ≡ nextRun
 unfolding isLast saidBy
 merge-said Letter n e = refl
-merge-said Group n e = absurd (never e)
-merge-said First n e = absurd (never e)
-merge-said Index n e = absurd (never e)
-merge-said File n e = absurd (never e)
-merge-said Length n e = absurd (never e)
-merge-said Key n e = absurd (never e)
-merge-said Value n e = absurd (never e)
-merge-said Extra n e = absurd (never e)
+merge-said Group n e = absurd (false≢true e)
+merge-said First n e = absurd (false≢true e)
+merge-said Index n e = absurd (false≢true e)
+merge-said File n e = absurd (false≢true e)
+merge-said Length n e = absurd (false≢true e)
+merge-said Key n e = absurd (false≢true e)
+merge-said Value n e = absurd (false≢true e)
+merge-said Extra n e = absurd (false≢true e)
 
 length-row : (field : Field) (h : LineReader) → length (itemRow field h) ≡ 9
 unfolding itemRow
@@ -131,16 +126,16 @@ length-row Extra h = refl
 module _ (h : LineReader) (s : Sound h) (rows bytes : List ℕ) (rows-fit : length rows ≡ 264) (bytes-fit : length bytes ≡ 66) where
   item-said : (field : Field) (l : ℕ) → eqb l letterM ≡ false → isLast field l ≡ true → batch (batchOf (appendFile (h .file)) (itemRow field h) rows bytes) ≡ saidBy field (namedOf h rows bytes)
   unfolding isLast saidBy itemRow namedOf batchOfOne batchOf itemsOf rowCount itemsFrom itemAt openedOf openedRow itemIf itemOf contentOf commandOf openedEntries openedPut openedDel valueFits valueAt fileAt keyContent keyChange changeOf valueOf keyFileOf appendFile
-  item-said Letter l m e = absurd (never (sym m ∙ e))
+  item-said Letter l m e = absurd (false≢true (sym m ∙ e))
   item-said Group l m e = refl
-  item-said First l m e = absurd (never e)
+  item-said First l m e = absurd (false≢true e)
   item-said Index l m e = refl
-  item-said File l m e = absurd (never e)
+  item-said File l m e = absurd (false≢true e)
   item-said Length l m e = rw (rows-fit, le-leb (0 + h .count) 33 (omega (arith, s .entries-kept)))
   item-said Key l m e = rw (bytes-fit, le-leb (0 + h .«key_len») 66 (omega (arith, s .key-kept)))
   item-said Value l m e =
       rw (bytes-fit, le-leb (0 + h .«key_len») 66 (omega (arith, s .key-kept)), le-leb (33 + h .«value_len») 66 (omega (arith, s .value-kept)))
-  item-said Extra l m e = absurd (never e)
+  item-said Extra l m e = absurd (false≢true e)
 
 module _ (h : LineReader) (rows : List ℕ) where
   pub malformed-finishes : (items : List ℕ) → h .malformed ≡ true → Finishes h rows Malformed items rows

@@ -1,8 +1,7 @@
 -- How a reader goes on: from a leaf's answer to what it reads. Assumes nothing.
-use mathlib.Core.Bool.{Bool, true, false, cond, _&&_}
 use mathlib.Core.Path.{_≡_, refl, sym, ap, _∙_}
 use mathlib.Core.List.{List}
-use mathlib.Core.Option.{Option, none, some}
+use mathlib.Core.Option.{Option, none}
 use Prim.Native.Nat.{ℕ}
 use Rattle.takes_lines.specs.declared.fields.Field.{Field}
 use Rattle.takes_lines.specs.declared.reader.LineReader.{LineReader}

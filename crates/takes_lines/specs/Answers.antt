@@ -1,7 +1,7 @@
 -- What a caller learns of a line: bytes that are read in several calls, and an answer in terms of what the line says. Assumes nothing.
 use mathlib.Core.Path.{_≡_, refl, sym, ap, _∙_}
 use mathlib.Core.List.{List, [], _∷_, _++_}
-use mathlib.Core.Option.{Option, some}
+use mathlib.Core.Option.{Option}
 use Prim.Native.Nat.{ℕ}
 use native.Mathlib.Omega.{arith}
 use lib.ListN.{length}
@@ -14,7 +14,7 @@ use Rattle.takes_lines.specs.declared.reader.Answer.{Answer}
 use Rattle.takes_lines.specs.declared.reader.Answer.the-variants.{Malformed, NextRun, Batch}
 use Rattle.takes_lines.specs.declared.reader.LineReader.{LineReader}
 use Rattle.takes_lines.specs.Lines.{Line, malformed, nextRun, batch, lineOf}
-use Rattle.takes_lines.specs.Reading.{Reading, readByte, readBytes, begin, endLine}
+use Rattle.takes_lines.specs.Reading.{Reading, readByte, readBytes, endLine}
 use Rattle.takes_lines.specs.Kept.{keptBatch, keptLine, replay-kept}
 use Rattle.takes_lines.specs.Reads.{line-read}
 use Rattle.takes_lines.specs.Views.{readOf, Started, Feeds, answerLine, Finishes}

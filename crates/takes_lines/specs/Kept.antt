@@ -1,15 +1,16 @@
 -- What is kept of a line: a list, a key or a value up to one more than the bound of cause 2. A replay answers the same for it.
-use mathlib.Core.Bool.{Bool, true, false, cond, _||_}
-use mathlib.Core.Path.{_≡_, refl, sym, ap, _∙_}
-use mathlib.Core.List.{List, [], _∷_, _++_, append-assoc}
+use mathlib.Core.Bool.{Bool, true, false, _||_, true≢false}
+use mathlib.Core.Path.{_≡_, refl, _∙_}
+use mathlib.Core.List.{List, [], _∷_}
 use mathlib.Core.Option.{Option, none, some}
-use Prim.Native.Nat.{ℕ, zero, suc, _+_, _-_, _≤_, _<_, min}
+use Prim.Native.Nat.{ℕ, suc, min}
 use native.Mathlib.Omega.{arith}
 use lib.Dec.{ltb, eqb}
 use lib.ListN.{length, take, length-take}
 use lib.Seq.{take-all}
-use borrow.Author.Tests.{ltb-true, ltb-false, lt-ltb, le-ltb}
+use borrow.Author.Tests.{ltb-true, ltb-false, lt-ltb}
 use Rattle.maps.specs.Lists.{orElse, findFrom}
+use Rattle.maps.specs.OrderLaws.{split}
 use Rattle.rules.specs.Items.{Change, put, del, Content, entries, command, kv, LogItem, Batch, LogQueue, Append, Rewrite, Call, replayAppend, replayRewrite}
 use Rattle.rules.specs.Limits.{maxItems}
 use Rattle.rules.specs.Causes.{Result, refused}
@@ -46,20 +47,13 @@ keptLine (batch b) = batch (keptBatch b)
 
 -- ---- laws
 
-split : {P : Type 0} (t : Bool) → (t ≡ true → P) → (t ≡ false → P) → P
-split true f g = f refl
-split false f g = g refl
-
 or-left : (a b : Bool) → a || b ≡ false → a ≡ false
 or-left false b e = refl
 or-left true b e = e
 
 or-right : (a b : Bool) → a || b ≡ false → b ≡ false
 or-right false b e = e
-or-right true b e = absurd (true-not-false e)
-  where
-    true-not-false : true ≡ false → ⊥
-    true-not-false z = let y : _≡_ {A = ℕ} 0 1 = cc in omega arith
+or-right true b e = absurd (true≢false e)
 
 module _ {A : Type 0} (xs : List A) where
   -- what is kept is over the bound just if the whole is

@@ -2,8 +2,8 @@
 use mathlib.Core.Bool.{Bool, true, false, cond, _&&_, _||_}
 use mathlib.Core.List.{List, [], _∷_, _++_}
 use mathlib.Core.Option.{Option, none, some}
-use Prim.Native.Nat.{ℕ, zero, suc, _+_, _*_, _-_}
-use lib.Dec.{eqb, leb, ltb}
+use Prim.Native.Nat.{ℕ, suc, _+_, _*_, _-_}
+use lib.Dec.{eqb, ltb}
 use lib.ListN.{take}
 use Rattle.rules.specs.Items.{EntryIndex, clean, compact, put, del, entries, command, kv}
 use Rattle.takes_lines.specs.declared.fields.Field.{Field}

@@ -1,29 +1,22 @@
 -- The theorem that a line read byte by byte says what the line says, as far as it is kept. Assumes nothing.
-use mathlib.Core.Bool.{Bool, true, false, cond, _&&_, _||_}
-use mathlib.Core.Path.{_≡_, refl, sym, ap, _∙_}
-use mathlib.Core.List.{List, [], _∷_, _++_, append-assoc, append-nil}
+use mathlib.Core.Bool.{Bool, true, false, cond, false≢true}
+use mathlib.Core.Path.{_≡_, refl, ap, _∙_}
+use mathlib.Core.List.{List, [], _∷_, _++_, append-nil}
 use mathlib.Core.Option.{Option, none, some}
 use Prim.Native.Nat.{ℕ, zero, suc, _+_, _*_, _-_, _≤_, _<_}
 use native.Mathlib.Omega.{arith}
-use lib.Dec.{eqb, leb, ltb}
-use lib.ListN.{length, take, length-take, length-append}
-use lib.Seq.{take-all, append-snoc}
+use lib.Dec.{eqb, ltb}
+use lib.ListN.{length, take}
+use lib.Seq.{append-snoc}
 use borrow.Author.Tests.{ltb-true, ltb-false, lt-ltb, le-ltb, eqb-true}
-use Rattle.rules.specs.Items.{EntryIndex, clean, compact, put, del, entries, command, kv, Batch}
+use Rattle.maps.specs.OrderLaws.{split}
+use Rattle.rules.specs.Items.{EntryIndex, entries, Batch}
 use Rattle.takes_lines.specs.declared.fields.Field.{Field}
 use Rattle.takes_lines.specs.declared.fields.Field.the-variants.{Letter, Group, First, Index, File, Length, Key, Value, Extra}
 use Rattle.takes_lines.specs.Fields.{bind, comma, firstField, otherFields, isDigit, decimalFrom, below, number, hexDigit, hexadecimal}
-use Rattle.takes_lines.specs.Lines.{lengthLimit, numberLimit, appendFile, entryAt, batchOfOne, entriesFrom, entriesLine, putLine, delLine, compactLine, cleanLine, Line, malformed, nextRun, batch, batchLine, mergeLine, letterE, letterP, letterD, letterC, letterX, letterM, letterLine, fieldsLine, lineOf}
-use Rattle.takes_lines.specs.Reading.{keptMost, Digits, Named, Reading, noDigits, nothing, withGroup, withFirst, withIndex, withFile, keep, withEntry, withKeyByte, withValueByte, withDigits, withNamed, isLetter, addLetter, addDigit, addHex, addTo, closeNumber, closeLength, closeBytes, closeAs, close, after, nextField, addByte, readByte, readBytes, begin, isLast, saidBy, whole, wholeLine, endLine}
+use Rattle.takes_lines.specs.Lines.{lengthLimit, numberLimit, entryAt, batchOfOne, entriesFrom, entriesLine, putLine, delLine, compactLine, cleanLine, Line, malformed, batch, batchLine, mergeLine, letterE, letterP, letterD, letterC, letterX, letterM, letterLine, fieldsLine, lineOf}
+use Rattle.takes_lines.specs.Reading.{keptMost, Digits, Named, Reading, noDigits, nothing, withGroup, withFirst, withIndex, withFile, keep, withEntry, withKeyByte, withValueByte, isLetter, addLetter, addDigit, addHex, addTo, closeNumber, closeLength, closeBytes, closeAs, close, after, nextField, addByte, readByte, readBytes, begin, isLast, saidBy, whole, wholeLine, endLine}
 use Rattle.takes_lines.specs.Kept.{keptContent, keptChange, keptItem, keptItems, keptBatch, keptLine}
-
--- a case for each value of a test, and of an option
-split : {P : Type 0} (t : Bool) → (t ≡ true → P) → (t ≡ false → P) → P
-split true f g = f refl
-split false f g = g refl
-
-true-not-false : false ≡ true → ⊥
-true-not-false e = let z : _≡_ {A = ℕ} 0 1 = cc in omega arith
 
 -- ---- field by field: the bytes of a field without its comma, then its end; the other fields behind it
 
@@ -375,7 +368,7 @@ merge-read (extra ∷ more) = extra-fails letterM nothing extra more
 -- no letter is 0
 letter-not-zero : (l : ℕ) → isLetter l ≡ true → eqb l 0 ≡ false
 unfolding isLetter
-letter-not-zero l e = split (eqb l 0) (λ z. absurd (true-not-false (rw (eqb-true l 0 z) at e))) (λ z. z)
+letter-not-zero l e = split (eqb l 0) (λ z. absurd (false≢true (rw (eqb-true l 0 z) at e))) (λ z. z)
 
 module _ (fs : List (List ℕ)) where
   no-letter-read : wholeLine (readRest (readField [] (some begin)) fs) ≡ malformed

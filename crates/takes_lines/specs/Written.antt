@@ -1,14 +1,14 @@
 -- What the functions that write a line promise, and that a number's digits are read as that number. Assumes nothing.
-use mathlib.Core.Bool.{Bool, true, false, cond, _&&_}
-use mathlib.Core.Path.{_≡_, refl, sym, ap, _∙_}
+use mathlib.Core.Path.{_≡_, refl, _∙_}
 use mathlib.Core.List.{List, [], _∷_}
-use mathlib.Core.Option.{Option, none, some}
+use mathlib.Core.Option.{some}
 use Prim.Native.Nat.{ℕ, zero, suc, _+_, _*_, _-_, _/_, _%_, _^_, _≤_, _<_}
 use native.Mathlib.Nat.{zero-add, pow-suc, div-add-mod'}
 use native.Mathlib.Omega.{arith}
-use lib.Dec.{leb, ltb}
+use lib.Dec.{ltb}
 use lib.ListN.{length, take, drop}
-use borrow.Author.Tests.{lt-ltb, le-ltb, le-leb, ltb-true, ltb-false}
+use borrow.Author.Tests.{lt-ltb, le-leb, ltb-true, ltb-false}
+use Rattle.maps.specs.OrderLaws.{split}
 use Rattle.cells.specs.Part.{put}
 use Rattle.takes_lines.specs.Fields.{bind, isDigit, decimalFrom, below, number}
 use Rattle.takes_lines.specs.Output.{digitsBefore, decimal}
@@ -31,10 +31,6 @@ pub record Written (out s : List ℕ) (n : ℕ) (out′ : List ℕ) : Type 0 whe
   pub front : take n out′ ≡ s
 
 -- ---- a number's digits are read as that number
-
-split : {P : Type 0} (t : Bool) → (t ≡ true → P) → (t ≡ false → P) → P
-split true f g = f refl
-split false f g = g refl
 
 module _ (v d : ℕ) (s : List ℕ) (small : d < 10) where
   digit-read : decimalFrom v ((48 + d) ∷ s) ≡ decimalFrom (v * 10 + d) s

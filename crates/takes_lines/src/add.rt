@@ -13,6 +13,7 @@ use crate::fields::Field;
 use crate::fields::is_letter;
 use crate::reader::KEPT_MOST;
 use crate::reader::LineReader;
+use crate::reader::MOST_LENGTH;
 
 fn add_letter(h: LineReader, b: u8) -> LineReader
     requires { ⌜ (h .malformed ≡ false) × Sound h ⌝ }
@@ -143,7 +144,7 @@ pub fn add_to(h: LineReader, b: u8, bytes: &mut [u8]) -> LineReader
         Field::First => add_digit(h, b, u64::MAX),
         Field::Index => add_digit(h, b, u64::MAX),
         Field::File => add_digit(h, b, u64::MAX),
-        Field::Length => add_digit(h, b, 4294967295),
+        Field::Length => add_digit(h, b, MOST_LENGTH),
         Field::Key => add_hex(h, b, true, bytes),
         Field::Value => add_hex(h, b, false, bytes),
         Field::Extra => ruin(h),

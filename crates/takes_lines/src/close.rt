@@ -1,7 +1,6 @@
 // The end of the open field.
 ghost use mathlib.Core.Bool.{true, false, cond};
 ghost use mathlib.Core.Path.{_≡_};
-ghost use Prim.Native.Nat.{_≤_};
 ghost use lib.ListN.{length};
 ghost use Rattle.takes_lines.specs.Reading.{closeLength, close};
 ghost use Rattle.takes_lines.specs.Views.{ruined, emptied, behindEntry, Sound, TurnsRows};

@@ -1,5 +1,4 @@
 -- `takes_lines::add::add_hex` meets its contract. Assumes nothing.
-use native.Mathlib.Omega.{arith}
 use Rattle.takes_lines.specs.Reading.{addHex}
 use Rattle.takes_lines.specs.Views.{readingOf, byteFor}
 use Rattle.takes_lines.proofs.TurnLaws.{ruin-turns, on-bytes}

@@ -1,5 +1,5 @@
 -- `takes_lines::add::add_letter` meets its contract. Assumes nothing.
-use mathlib.Core.Path.{_≡_, refl, sym, _∙_}
+use mathlib.Core.Path.{sym, _∙_}
 use borrow.Author.Tests.{not-true, not-false, ne-eqb}
 use Rattle.takes_lines.specs.Reading.{addLetter}
 use Rattle.takes_lines.specs.Views.{readingOf}

@@ -1,5 +1,5 @@
 -- `takes_lines::add::hex_digit` meets its contract. Assumes nothing.
-use mathlib.Core.Path.{_≡_, refl, sym, _∙_}
+use mathlib.Core.Path.{sym, _∙_}
 use native.Mathlib.Omega.{arith}
 use Rattle.takes_lines.proofs.AddWays.{within, decimal-digit, upper-digit, lower-digit, no-hex-digit}
 use borrow.Author.Needs.{needs}

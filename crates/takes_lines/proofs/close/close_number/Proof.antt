@@ -1,5 +1,5 @@
 -- `takes_lines::close::close_number` meets its contract. Assumes nothing.
-use mathlib.Core.Path.{_∙_, sym}
+use mathlib.Core.Path.{_∙_}
 use borrow.Author.Needs.{needs}
 use Rattle.takes_lines.proofs.close.close_number.Statement.{statement}
 use Rattle.takes_lines.proofs.close.close_number.Tie as tie

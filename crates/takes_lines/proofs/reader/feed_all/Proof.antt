@@ -1,6 +1,5 @@
 -- `takes_lines::reader::feed_all` meets its contract. The loop's invariant: the bytes passed are read. Assumes nothing.
-use mathlib.Core.Path.{_≡_, refl, sym, _∙_}
-use native.Mathlib.Omega.{arith}
+use mathlib.Core.Path.{_∙_}
 use Prim.Native.Nat.{_-_, _≤_}
 use lib.ListN.{length, take}
 use Rattle.takes_lines.specs.Views.{Feeds}

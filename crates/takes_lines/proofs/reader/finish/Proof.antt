@@ -1,5 +1,5 @@
 -- `takes_lines::reader::finish` meets its contract. Assumes nothing.
-use mathlib.Core.Path.{_≡_, refl, sym, _∙_}
+use mathlib.Core.Path.{sym, _∙_}
 use borrow.Author.Tests.{not-true, not-false}
 use Rattle.takes_lines.proofs.ReadWays.{malformed-finishes, closed-malformed, cut-finishes, merge-finishes, batch-finishes}
 use borrow.Author.Needs.{needs}
