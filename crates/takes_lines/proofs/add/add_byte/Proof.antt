@@ -1,4 +1,5 @@
 -- `takes_lines::add::add_byte` meets its contract. Assumes nothing.
+use native.Mathlib.Omega.{arith}
 use Rattle.takes_lines.proofs.AddWays.{key-turns, key-full-turns, value-turns, value-full-turns}
 use borrow.Author.Needs.{needs}
 use Rattle.takes_lines.proofs.add.add_byte.Statement.{statement}
@@ -18,7 +19,7 @@ returns c =
     let start = c .before .before in
     let if1 = c .before .if1 in
     let if2 = c .if2 in
-    rw (if1 .taken) (key-turns (start .args .h) (start .pre .0 .0) (start .pre .0 .1) (start .args .byte) (start .args .bytes .now) (start .pre .1) (if2 .taken))
+    rw (if1 .taken) (key-turns (start .args .h) (start .pre .0 .0) (start .pre .0 .1) (start .args .byte) (start .args .bytes .now) (start .pre .1) (omega (arith, if2 .taken)))
 
 returns-2 : tie.Need-returns-2
 returns-2 c =
@@ -44,7 +45,7 @@ returns-3 c =
     let start = c .before .before in
     let if1 = c .before .if1 in
     let if3 = c .if3 in
-    rw (if1 .left) (value-turns (start .args .h) (start .pre .0 .0) (start .pre .0 .1) (start .args .byte) (start .args .bytes .now) (start .pre .1) (if3 .taken))
+    rw (if1 .left) (value-turns (start .args .h) (start .pre .0 .0) (start .pre .0 .1) (start .args .byte) (start .args .bytes .now) (start .pre .1) (omega (arith, if3 .taken)))
 
 returns-4 : tie.Need-returns-4
 returns-4 c =

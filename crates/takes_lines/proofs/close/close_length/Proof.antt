@@ -43,7 +43,7 @@ returns-2 c =
     let if3 = c .before .before .before .before .before .before .if3 in
     let copy-in-u64 = c .before .before .before .copy-in-u64 in
     let behind-entry = c .behind-entry in
-    rw (behind-entry .ensures, copy-in-u64 .ensures) (entry-turns (start .args .h) (start .pre .0 .0) (start .pre .0 .1) (start .args .rows .now) (start .pre .1) (omega (arith, start .good .0)) (if1 .left) (if2 .taken) (if3 .taken))
+    rw (behind-entry .ensures, copy-in-u64 .ensures) (entry-turns (start .args .h) (start .pre .0 .0) (start .pre .0 .1) (start .args .rows .now) (start .pre .1) (omega (arith, start .good .0)) (if1 .left) (if2 .taken) (omega (arith, if3 .taken)))
 
 behind-entry-requires-2 : tie.Need-behind-entry-requires-2
 behind-entry-requires-2 c κs = search needs
