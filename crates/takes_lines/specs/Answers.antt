@@ -1,10 +1,13 @@
 -- What a caller learns of a line: bytes that are read in several calls, and an answer in terms of what the line says. Assumes nothing.
+use mathlib.Core.Bool.{Bool, false}
 use mathlib.Core.Path.{_≡_, refl, sym, ap, _∙_}
 use mathlib.Core.List.{List, [], _∷_, _++_}
 use mathlib.Core.Option.{Option}
 use Prim.Native.Nat.{ℕ}
 use native.Mathlib.Omega.{arith}
+use lib.Dec.{eqb}
 use lib.ListN.{length}
+use Rattle.maps.specs.Lists.{any}
 use Rattle.pipe_log.specs.declared.FileId.{FileId}
 use Rattle.rules.specs.Items as rules
 use Rattle.rules.specs.Context.{Context}
@@ -15,8 +18,9 @@ use Rattle.takes_lines.specs.declared.reader.Answer.the-variants.{Malfor
 use Rattle.takes_lines.specs.declared.reader.LineReader.{LineReader}
 use Rattle.takes_lines.specs.Lines.{Line, malformed, nextRun, batch, lineOf}
 use Rattle.takes_lines.specs.Reading.{Reading, readByte, readBytes, endLine}
-use Rattle.takes_lines.specs.Kept.{keptBatch, keptLine, replay-kept}
+use Rattle.takes_lines.specs.Kept.{keptBatch, keptLine, or-left, or-right, replay-kept}
 use Rattle.takes_lines.specs.Reads.{line-read}
+use Rattle.takes_lines.specs.Program.{inFirst, linesOf, Takes, takeLine}
 use Rattle.takes_lines.specs.Views.{readOf, Started, Feeds, answerLine, Finishes}
 
 -- ---- bytes in several calls
@@ -74,3 +78,30 @@ module _ (items rows bytes : List ℕ) where
   says-batch f (batch b) e =
       let same : batchOf f items rows bytes ≡ keptBatch b = cc in
       record { said = b; is = refl; same-file = sym (ap (λ (x : rules.Batch). x .file) same); same-replay = λ c. rw same (replay-kept b c) }
+
+-- ---- the program
+
+-- a line is taken as what is kept of it
+pub take-kept : (n : ℕ) (l : Line) (t : Takes) → takeLine n (keptLine l) t ≡ takeLine n l t
+unfolding takeLine keptLine
+take-kept n malformed t = refl
+take-kept n nextRun t = refl
+take-kept n (batch b) t = rw (replay-kept b (t .run))
+
+-- so the program may go by the answer
+pub take-answer : (n : ℕ) (r : Answer) (items rows bytes s : List ℕ) (t : Takes) → answerLine r items rows bytes ≡ keptLine (lineOf s) → takeLine n (answerLine r items rows bytes) t ≡ takeLine n (lineOf s) t
+take-answer n r items rows bytes s t e = rw e (take-kept n (lineOf s) t)
+
+-- the first line of an input is the bytes before its newline, and the last may have none
+unfoldable pub isNewline : ℕ → Bool
+isNewline b = eqb b 10
+
+pub line-first : (s rest : List ℕ) → any isNewline s ≡ false → linesOf (s ++ (10 ∷ rest)) ≡ s ∷ linesOf rest
+unfolding linesOf inFirst any isNewline
+line-first [] rest e = refl
+line-first (b ∷ s) rest e = rw (or-left (eqb b 10) (any isNewline s) e, line-first s rest (or-right (eqb b 10) (any isNewline s) e))
+
+pub line-last : (b : ℕ) (s : List ℕ) → any isNewline (b ∷ s) ≡ false → linesOf (b ∷ s) ≡ (b ∷ s) ∷ []
+unfolding linesOf inFirst any isNewline
+line-last b [] e = rw (or-left (eqb b 10) false e)
+line-last b (c ∷ s) e = rw (or-left (eqb b 10) (any isNewline (c ∷ s)) e, line-last c s (or-right (eqb b 10) (any isNewline (c ∷ s)) e))

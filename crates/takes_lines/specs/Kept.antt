@@ -47,11 +47,11 @@ keptLine (batch b) = batch (keptBatch b)
 
 -- ---- laws
 
-or-left : (a b : Bool) → a || b ≡ false → a ≡ false
+pub or-left : (a b : Bool) → a || b ≡ false → a ≡ false
 or-left false b e = refl
 or-left true b e = e
 
-or-right : (a b : Bool) → a || b ≡ false → b ≡ false
+pub or-right : (a b : Bool) → a || b ≡ false → b ≡ false
 or-right false b e = e
 or-right true b e = absurd (true≢false e)
 

@@ -1,4 +1,5 @@
--- The lines of 01's program `takes`: `Lines` has what a line says, `Reading` how it is read, `Reads` that these are the same.
+-- The lines of 01's program `takes`: `Lines` has what a line says, `Reading` how it is read, `Reads` that these are the same;
+-- `Program` has what the program prints, `Answers` what a caller learns.
 pub mod Fields
 pub mod Lines
 pub mod Reading
@@ -8,3 +9,4 @@ pub mod Views
 pub mod Output
 pub mod Written
 pub mod Answers
+pub mod Program
