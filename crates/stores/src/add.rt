@@ -17,8 +17,8 @@ use log_batch::item::LogItemContent;
 use log_batch::item::Value;
 use log_batch::item::bytes_of;
 use log_batch::item::entries_of;
-use pipe_log::ENTRY_WIDTH;
 use log_batch::open::ITEM_WIDTH;
+use pipe_log::ENTRY_WIDTH;
 
 // Copies a key, and its value behind it, to place `at`.
 fn copy_key(bytes: &mut [u8], at: usize, kv: KeyValue, its_bytes: &[u8])

@@ -4,8 +4,8 @@ ghost use lib.ListN.{length};
 ghost use Rattle.stores.specs.Stores.{area, Stored, FrontCopied, Fitting, Copied};
 use crate::Store;
 use crate::row::ITEM_BYTES;
-use pipe_log::ENTRY_WIDTH;
 use log_batch::open::ITEM_WIDTH;
+use pipe_log::ENTRY_WIDTH;
 
 fn copy_front_u64(to: &mut [u64], from: &[u64], n: usize)
     requires { ⌜ (n ≤ length (now from)) × (n ≤ length (now to)) ⌝ }
