@@ -37,12 +37,19 @@ part-entry-meets-end : tie.Need-part-entry-meets-end Inv-loop μ-loop
 part-entry-meets-end c = search needs
 
 entry-meets-requires : tie.Need-entry-meets-requires Inv-loop μ-loop
-entry-meets-requires c κs = rw (lent-back (c .before .before .loop .i * 8) (c .before .before .before .before .args .rows .now)) (simp length-drop (omega arith))
+entry-meets-requires c κs =
+    let start = c .before .before .before .before in
+    let loop = c .before .before .loop in
+    rw (lent-back (loop .i * 8) (start .args .rows .now)) (simp length-drop (omega arith))
 
 returns : tie.Need-returns Inv-loop μ-loop
 returns c =
-    let turn = c .before .before .before .before .loop in
-    sym (turn .inv .1 ∙ any-here _ (turn .i) _ _ (c .before .before .before .loop-test .taken) (sym (rw (lent-back (turn .i * 8) (c .before .before .before .before .before .before .args .rows .now)) at (c .before .entry-meets .ensures)) ∙ c .if1 .taken))
+    let start = c .before .before .before .before .before .before in
+    let loop = c .before .before .before .before .loop in
+    let loop-test = c .before .before .before .loop-test in
+    let entry-meets = c .before .entry-meets in
+    let turn = loop in
+    sym (turn .inv .1 ∙ any-here _ (turn .i) _ _ (loop-test .taken) (sym (rw (lent-back (turn .i * 8) (start .args .rows .now)) at (entry-meets .ensures)) ∙ c .if1 .taken))
 
 add-i : tie.Need-add-i Inv-loop μ-loop
 add-i c = search needs
@@ -52,11 +59,17 @@ loop-less c = search needs
 
 loop-again : tie.Need-loop-again Inv-loop μ-loop
 loop-again c =
-    let turn = c .before .before .before .before .loop in
-    (search needs, turn .inv .1 ∙ any-more _ (turn .i) _ _ (c .before .before .before .loop-test .taken) (sym (rw (lent-back (turn .i * 8) (c .before .before .before .before .before .before .args .rows .now)) at (c .before .entry-meets .ensures)) ∙ c .if1 .left))
+    let start = c .before .before .before .before .before .before in
+    let loop = c .before .before .before .before .loop in
+    let loop-test = c .before .before .before .loop-test in
+    let entry-meets = c .before .entry-meets in
+    let turn = loop in
+    (search needs, turn .inv .1 ∙ any-more _ (turn .i) _ _ (loop-test .taken) (sym (rw (lent-back (turn .i * 8) (start .args .rows .now)) at (entry-meets .ensures)) ∙ c .if1 .left))
 
 returns-2 : tie.Need-returns-2 Inv-loop μ-loop
-returns-2 c = sym (c .before .loop .inv .1 ∙ any-end _ (c .before .loop .i) _ _ (c .loop-test .left))
+returns-2 c =
+    let loop = c .before .loop in
+    sym (loop .inv .1 ∙ any-end _ (loop .i) _ _ (c .loop-test .left))
 
 pub any-entry-spec : {M : Type 1} → statement M
 any-entry-spec =

@@ -45,8 +45,11 @@ follows-requires c κs = search needs
 
 returns : tie.Need-returns Inv-loop μ-loop
 returns c =
-    let turn = c .before .before .before .before .before .loop in
-    sym (turn .inv .1 ∙ consecutive-more _ (turn .i) _ _ (c .before .before .before .before .loop-test .taken) (sym (not-true _ (c .if1 .taken)) ∙ c .before .follows .ensures))
+    let loop = c .before .before .before .before .before .loop in
+    let loop-test = c .before .before .before .before .loop-test in
+    let follows = c .before .follows in
+    let turn = loop in
+    sym (turn .inv .1 ∙ consecutive-more _ (turn .i) _ _ (loop-test .taken) (sym (not-true _ (c .if1 .taken)) ∙ follows .ensures))
 
 add-i : tie.Need-add-i Inv-loop μ-loop
 add-i c = search needs
@@ -56,11 +59,16 @@ loop-less c = search needs
 
 loop-again : tie.Need-loop-again Inv-loop μ-loop
 loop-again c =
-    let turn = c .before .before .before .before .before .loop in
-    (search needs, turn .inv .1 ∙ consecutive-more _ (turn .i) _ _ (c .before .before .before .before .loop-test .taken) (sym (not-false _ (c .if1 .left)) ∙ c .before .follows .ensures))
+    let loop = c .before .before .before .before .before .loop in
+    let loop-test = c .before .before .before .before .loop-test in
+    let follows = c .before .follows in
+    let turn = loop in
+    (search needs, turn .inv .1 ∙ consecutive-more _ (turn .i) _ _ (loop-test .taken) (sym (not-false _ (c .if1 .left)) ∙ follows .ensures))
 
 returns-2 : tie.Need-returns-2 Inv-loop μ-loop
-returns-2 c = sym (c .before .loop .inv .1 ∙ consecutive-end _ (c .before .loop .i) _ (c .loop-test .left))
+returns-2 c =
+    let loop = c .before .loop in
+    sym (loop .inv .1 ∙ consecutive-end _ (loop .i) _ (c .loop-test .left))
 
 pub is-consecutive-spec : {M : Type 1} → statement M
 is-consecutive-spec =

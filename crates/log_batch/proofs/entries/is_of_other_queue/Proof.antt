@@ -12,7 +12,9 @@ is-record-requires c κs = search needs
 
 returns : tie.Need-returns
 unfolding entryMeets
-returns c = rw (has-file _, sym (c .before .is-record .ensures) ∙ not-true _ (c .if1 .taken))
+returns c =
+    let is-record = c .before .is-record in
+    rw (has-file _, sym (is-record .ensures) ∙ not-true _ (c .if1 .taken))
 
 shared-slice-read-queue-at : tie.Need-shared-slice-read-queue-at
 shared-slice-read-queue-at c = search needs
@@ -25,7 +27,11 @@ same-queue-requires c κs = search needs
 
 returns-2 : tie.Need-returns-2
 unfolding entryMeets
-returns-2 c = let r = sym (c .before .before .before .before .is-record .ensures) ∙ not-false _ (c .before .before .before .if1 .left) in rw (has-file _, r, record-queue _ r, c .same-queue .ensures, c .before .queue-at .ensures)
+returns-2 c =
+    let is-record = c .before .before .before .before .is-record in
+    let if1 = c .before .before .before .if1 in
+    let queue-at = c .before .queue-at in
+    let r = sym (is-record .ensures) ∙ not-false _ (if1 .left) in rw (has-file _, r, record-queue _ r, c .same-queue .ensures, queue-at .ensures)
 
 pub is-of-other-queue-spec : {M : Type 1} → statement M
 is-of-other-queue-spec =

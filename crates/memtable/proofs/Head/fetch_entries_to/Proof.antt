@@ -11,7 +11,11 @@ enum-known-range : tie.Need-enum-known-range
 enum-known-range c = search needs
 
 answer-rows-requires : tie.Need-answer-rows-requires
-answer-rows-requires c κs = (c .before .before .before .before .before .before .before .before .before .before .before .before .before .before .before .before .before .before .before .before .before .pre .0, ((rw (c .before .before .before .before .before .before .before .before .before .range .given .1) at (c .before .before .before .before .before .before .before .before .before .before .before .fetch-range .ensures)) .within, c .before .before .before .before .before .before .before .before .before .before .before .before .before .before .before .before .before .before .before .before .before .pre .1))
+answer-rows-requires c κs =
+    let start = c .before .before .before .before .before .before .before .before .before .before .before .before .before .before .before .before .before .before .before .before .before in
+    let fetch-range = c .before .before .before .before .before .before .before .before .before .before .before .fetch-range in
+    let range = c .before .before .before .before .before .before .before .before .before .range in
+    (start .pre .0, ((rw (range .given .1) at (fetch-range .ensures)) .within, start .pre .1))
 
 enum-told : tie.Need-enum-told
 enum-told c = search needs
@@ -44,13 +48,21 @@ same-length-8 : tie.Need-same-length-8
 same-length-8 c = search needs
 
 returns : tie.Need-returns
-returns c = λ keys counted. answered-by ((rw (c .before .before .before .before .before .before .before .before .before .before .before .before .before .before .before .before .before .before .before .before .before .before .before .before .before .before .range .given .1) at (c .before .before .before .before .before .before .before .before .before .before .before .before .before .before .before .before .before .before .before .before .before .before .before .before .before .before .before .before .fetch-range .ensures)) .rule keys counted) (c .before .before .before .before .before .before .before .before .before .before .before .before .before .before .before .before .answer-rows .ensures)
+returns c =
+    let fetch-range = c .before .before .before .before .before .before .before .before .before .before .before .before .before .before .before .before .before .before .before .before .before .before .before .before .before .before .before .before .fetch-range in
+    let range = c .before .before .before .before .before .before .before .before .before .before .before .before .before .before .before .before .before .before .before .before .before .before .before .before .before .before .range in
+    let answer-rows = c .before .before .before .before .before .before .before .before .before .before .before .before .before .before .before .before .answer-rows in
+    λ keys counted. answered-by ((rw (range .given .1) at (fetch-range .ensures)) .rule keys counted) (answer-rows .ensures)
 
 returns-2 : tie.Need-returns-2
-returns-2 c = λ keys counted. answered-by ((rw (c .enum-told .given .1) at (c .before .before .fetch-range .ensures)) .rule keys counted) (compacted-answer _)
+returns-2 c =
+    let fetch-range = c .before .before .fetch-range in
+    λ keys counted. answered-by ((rw (c .enum-told .given .1) at (fetch-range .ensures)) .rule keys counted) (compacted-answer _)
 
 returns-3 : tie.Need-returns-3
-returns-3 c = λ keys counted. answered-by ((rw (c .enum-told2 .given .1) at (c .before .before .fetch-range .ensures)) .rule keys counted) (not-found-answer _)
+returns-3 c =
+    let fetch-range = c .before .before .fetch-range in
+    λ keys counted. answered-by ((rw (c .enum-told2 .given .1) at (fetch-range .ensures)) .rule keys counted) (not-found-answer _)
 
 pub fetch-entries-to-spec : {M : Type 1} → statement M
 fetch-entries-to-spec =

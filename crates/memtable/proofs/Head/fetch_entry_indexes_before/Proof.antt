@@ -12,7 +12,10 @@ count-before-requires : tie.Need-count-before-requires
 count-before-requires c κs = search needs
 
 answer-rows-requires : tie.Need-answer-rows-requires
-answer-rows-requires c κs = let w = c .before .before .before .before .before .before .before .before .before .before .before .before .before .before .before .before .before .before .before .pre .0 in let e = c .before .before .before .before .before .before .before .before .count-before .ensures .1 in (w, (omega arith, c .before .before .before .before .before .before .before .before .before .before .before .before .before .before .before .before .before .before .before .pre .1))
+answer-rows-requires c κs =
+    let start = c .before .before .before .before .before .before .before .before .before .before .before .before .before .before .before .before .before .before .before in
+    let count-before = c .before .before .before .before .before .before .before .before .count-before in
+    let w = start .pre .0 in let e = count-before .ensures .1 in (w, (omega arith, start .pre .1))
 
 same-length : tie.Need-same-length
 same-length c = search needs
@@ -39,7 +42,11 @@ same-length-8 : tie.Need-same-length-8
 same-length-8 c = search needs
 
 returns : tie.Need-returns
-returns c = λ keys counted. answered-by (before-rows _ _ (c .before .before .before .before .before .before .before .before .before .before .before .before .before .before .before .before .before .before .before .before .before .before .before .before .before .before .before .before .before .before .before .before .before .before .before .before .pre .0) _ _ (c .before .before .before .before .before .before .before .before .before .before .before .before .before .before .before .before .before .before .before .before .before .before .before .before .before .count-before .ensures .0) keys counted) (c .before .before .before .before .before .before .before .before .before .before .before .before .before .before .before .before .answer-rows .ensures)
+returns c =
+    let start = c .before .before .before .before .before .before .before .before .before .before .before .before .before .before .before .before .before .before .before .before .before .before .before .before .before .before .before .before .before .before .before .before .before .before .before .before in
+    let count-before = c .before .before .before .before .before .before .before .before .before .before .before .before .before .before .before .before .before .before .before .before .before .before .before .before .before .count-before in
+    let answer-rows = c .before .before .before .before .before .before .before .before .before .before .before .before .before .before .before .before .answer-rows in
+    λ keys counted. answered-by (before-rows _ _ (start .pre .0) _ _ (count-before .ensures .0) keys counted) (answer-rows .ensures)
 
 pub fetch-entry-indexes-before-spec : {M : Type 1} → statement M
 fetch-entry-indexes-before-spec =

@@ -6,7 +6,9 @@ use Rattle.memtable.proofs.Head.fetch_rewritten_entry_indexes.Statement
 use Rattle.memtable.proofs.Head.fetch_rewritten_entry_indexes.Tie as tie
 
 answer-rows-requires : tie.Need-answer-rows-requires
-answer-rows-requires c κs = let w = c .before .before .before .before .before .before .before .before .before .before .before .before .before .before .before .before .before .pre .0 in (w, (omega arith, c .before .before .before .before .before .before .before .before .before .before .before .before .before .before .before .before .before .pre .1))
+answer-rows-requires c κs =
+    let start = c .before .before .before .before .before .before .before .before .before .before .before .before .before .before .before .before .before in
+    let w = start .pre .0 in (w, (omega arith, start .pre .1))
 
 same-length : tie.Need-same-length
 same-length c = search needs
@@ -33,7 +35,10 @@ same-length-8 : tie.Need-same-length-8
 same-length-8 c = search needs
 
 returns : tie.Need-returns
-returns c = λ keys counted. answered-by (rewritten-rows _ _ (c .before .before .before .before .before .before .before .before .before .before .before .before .before .before .before .before .before .before .before .before .before .before .before .before .before .before .before .before .before .before .before .before .before .before .pre .0) keys counted) (c .before .before .before .before .before .before .before .before .before .before .before .before .before .before .before .before .answer-rows .ensures)
+returns c =
+    let start = c .before .before .before .before .before .before .before .before .before .before .before .before .before .before .before .before .before .before .before .before .before .before .before .before .before .before .before .before .before .before .before .before .before .before in
+    let answer-rows = c .before .before .before .before .before .before .before .before .before .before .before .before .before .before .before .before .answer-rows in
+    λ keys counted. answered-by (rewritten-rows _ _ (start .pre .0) keys counted) (answer-rows .ensures)
 
 pub fetch-rewritten-entry-indexes-spec : {M : Type 1} → statement M
 fetch-rewritten-entry-indexes-spec =

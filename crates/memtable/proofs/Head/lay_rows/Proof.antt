@@ -11,7 +11,9 @@ sub-if1 : tie.Need-sub-if1
 sub-if1 c = search needs
 
 returns : tie.Need-returns
-returns c = lay-full _ _ _ _ _ (c .before .before .before .pre .0) (c .before .before .before .pre .1 .1 .0) (c .before .before .before .pre .1 .1 .1) (c .before .before .before .pre .1 .0) (c .if1 .taken)
+returns c =
+    let start = c .before .before .before in
+    lay-full _ _ _ _ _ (start .pre .0) (start .pre .1 .1 .0) (start .pre .1 .1 .1) (start .pre .1 .0) (c .if1 .taken)
 
 copy-in-u64-requires : tie.Need-copy-in-u64-requires
 copy-in-u64-requires c κs = search needs
@@ -26,7 +28,11 @@ same-length : tie.Need-same-length
 same-length c = search needs
 
 returns-2 : tie.Need-returns-2
-returns-2 c = lay-rewrite _ _ _ _ _ (c .before .before .before .before .before .before .before .before .pre .0) (c .before .before .before .before .before .before .before .before .pre .1 .1 .0) (c .before .before .before .before .before .before .before .before .pre .1 .1 .1) (rw (c .if2 .taken) at (c .before .before .before .before .before .before .before .before .pre .1 .0)) (c .before .before .before .before .before .if1 .left) _ (c .before .before .before .copy-in-u64 .ensures) (search needs) (rw (c .if2 .taken) at (c .before .before .before .before .before .before .before .before .pre .1 .1 .2))
+returns-2 c =
+    let start = c .before .before .before .before .before .before .before .before in
+    let if1 = c .before .before .before .before .before .if1 in
+    let copy-in-u64 = c .before .before .before .copy-in-u64 in
+    lay-rewrite _ _ _ _ _ (start .pre .0) (start .pre .1 .1 .0) (start .pre .1 .1 .1) (rw (c .if2 .taken) at (start .pre .1 .0)) (if1 .left) _ (copy-in-u64 .ensures) (search needs) (rw (c .if2 .taken) at (start .pre .1 .1 .2))
 
 lesser-requires : tie.Need-lesser-requires
 lesser-requires c κs = search needs
@@ -35,7 +41,12 @@ same-length-2 : tie.Need-same-length-2
 same-length-2 c = search needs
 
 returns-3 : tie.Need-returns-3
-returns-3 c = lay-append _ _ _ _ _ (c .before .before .before .before .before .before .before .before .before .pre .0) (c .before .before .before .before .before .before .before .before .before .pre .1 .1 .0) (c .before .before .before .before .before .before .before .before .before .pre .1 .1 .1) (rw (c .before .if2 .left) at (c .before .before .before .before .before .before .before .before .before .pre .1 .0)) (c .before .before .before .before .before .before .if1 .left) _ (c .before .before .before .before .copy-in-u64 .ensures) (search needs) _ (c .lesser .ensures)
+returns-3 c =
+    let start = c .before .before .before .before .before .before .before .before .before in
+    let if1 = c .before .before .before .before .before .before .if1 in
+    let copy-in-u64 = c .before .before .before .before .copy-in-u64 in
+    let if2 = c .before .if2 in
+    lay-append _ _ _ _ _ (start .pre .0) (start .pre .1 .1 .0) (start .pre .1 .1 .1) (rw (if2 .left) at (start .pre .1 .0)) (if1 .left) _ (copy-in-u64 .ensures) (search needs) _ (c .lesser .ensures)
 
 pub lay-rows-spec : {M : Type 1} → statement M
 lay-rows-spec =

@@ -38,10 +38,20 @@ over-size-requires : tie.Need-over-size-requires Inv-loop μ-loop
 over-size-requires c κs = search needs
 
 returns : tie.Need-returns Inv-loop μ-loop
-returns c = (size-stop _ (c .before .before .before .before .before .before .args .from) (c .before .before .before .before .before .before .args .count) (c .before .before .before .before .loop .i) (c .before .before .before .before .before .before .args .size) (c .before .before .before .before .loop .sum) _ (c .before .before .before .before .loop .inv .2) (c .before .before .before .loop-test .taken) (sym (c .before .over-size .ensures) ∙ c .if1 .taken), search needs)
+returns c =
+    let start = c .before .before .before .before .before .before in
+    let loop = c .before .before .before .before .loop in
+    let loop-test = c .before .before .before .loop-test in
+    let over-size = c .before .over-size in
+    (size-stop _ (start .args .from) (start .args .count) (loop .i) (start .args .size) (loop .sum) _ (loop .inv .2) (loop-test .taken) (sym (over-size .ensures) ∙ c .if1 .taken), search needs)
 
 add-sum : tie.Need-add-sum Inv-loop μ-loop
-add-sum c = let p = c .before .before .before .before .before .before .pre .1 (c .before .before .before .before .before .before .args .from + c .before .before .before .before .loop .i) (omega arith) (omega (arith, c .before .before .before .loop-test .taken)) in record { fits = size-fits _ _ _ (sym (c .before .over-size .ensures) ∙ c .if1 .left) (c .before .before .before .before .before .before .fits .size .fits) (p .len) }
+add-sum c =
+    let start = c .before .before .before .before .before .before in
+    let loop = c .before .before .before .before .loop in
+    let loop-test = c .before .before .before .loop-test in
+    let over-size = c .before .over-size in
+    let p = start .pre .1 (start .args .from + loop .i) (omega arith) (omega (arith, loop-test .taken)) in record { fits = size-fits _ _ _ (sym (over-size .ensures) ∙ c .if1 .left) (start .fits .size .fits) (p .len) }
 
 add-i : tie.Need-add-i Inv-loop μ-loop
 add-i c = search needs
@@ -50,10 +60,18 @@ loop-less : tie.Need-loop-less Inv-loop μ-loop
 loop-less c = search needs
 
 loop-again : tie.Need-loop-again Inv-loop μ-loop
-loop-again c = let p = c .before .before .before .before .before .before .pre .1 (c .before .before .before .before .before .before .args .from + c .before .before .before .before .loop .i) (omega arith) (omega (arith, c .before .before .before .loop-test .taken)) in (search needs, size-fits _ _ _ (sym (c .before .over-size .ensures) ∙ c .if1 .left) (c .before .before .before .before .before .before .fits .size .fits) (p .len), size-more _ (c .before .before .before .before .before .before .args .from) (c .before .before .before .before .before .before .args .count) (c .before .before .before .before .loop .i) (c .before .before .before .before .before .before .args .size) (c .before .before .before .before .loop .sum) _ (c .before .before .before .before .loop .inv .2) (c .before .before .before .loop-test .taken) (sym (c .before .over-size .ensures) ∙ c .if1 .left))
+loop-again c =
+    let start = c .before .before .before .before .before .before in
+    let loop = c .before .before .before .before .loop in
+    let loop-test = c .before .before .before .loop-test in
+    let over-size = c .before .over-size in
+    let p = start .pre .1 (start .args .from + loop .i) (omega arith) (omega (arith, loop-test .taken)) in (search needs, size-fits _ _ _ (sym (over-size .ensures) ∙ c .if1 .left) (start .fits .size .fits) (p .len), size-more _ (start .args .from) (start .args .count) (loop .i) (start .args .size) (loop .sum) _ (loop .inv .2) (loop-test .taken) (sym (over-size .ensures) ∙ c .if1 .left))
 
 returns-2 : tie.Need-returns-2 Inv-loop μ-loop
-returns-2 c = (size-end (c .before .before .before .args .part .now) (c .before .before .before .args .from) (c .before .before .before .args .count) (c .before .loop .i) (c .before .before .before .args .size) (c .before .loop .sum) _ (c .before .loop .inv .2) (c .loop-test .left), search needs)
+returns-2 c =
+    let start = c .before .before .before in
+    let loop = c .before .loop in
+    (size-end (start .args .part .now) (start .args .from) (start .args .count) (loop .i) (start .args .size) (loop .sum) _ (loop .inv .2) (c .loop-test .left), search needs)
 
 pub count-by-size-spec : {M : Type 1} → statement M
 count-by-size-spec =
