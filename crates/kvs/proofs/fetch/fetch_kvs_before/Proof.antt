@@ -15,7 +15,10 @@ same-length-2 : tie.Need-same-length-2
 same-length-2 c = search needs
 
 returns : tie.Need-returns
-returns c = λ t k. before-rows _ t k (c .before .before .before .before .before .before .before .before .before .before .before .args .gate) (c .before .before .before .before .before .before .before .before .before .before .before .args .bytes .now) (c .before .before .before .before .before .before .before .before .before .before .before .args .bytes .now) _ _ _ _ _ _ (length-keys _ _ _) (c .before .before .before .before .fill-list .ensures)
+returns c =
+    let start = c .before .before .before .before .before .before .before .before .before .before .before in
+    let fill-list = c .before .before .before .before .fill-list in
+    λ t k. before-rows _ t k (start .args .gate) _ _ _ _ _ _ (length-keys _ _ _) (fill-list .ensures)
 
 pub fetch-kvs-before-spec : {M : Type 1} → statement M
 fetch-kvs-before-spec = tie.close (tie.spec fill-list-requires same-length same-length-2 returns)

@@ -15,7 +15,9 @@ same-length-2 : tie.Need-same-length-2
 same-length-2 c = search needs
 
 returns : tie.Need-returns
-returns c = λ t k. rewritten-rows _ t k (c .before .before .before .before .before .before .before .before .before .before .before .args .bytes .now) (c .before .before .before .before .before .before .before .before .before .before .before .args .bytes .now) _ _ _ _ _ _ (length-keys _ _ _) (c .before .before .before .before .fill-list .ensures)
+returns c =
+    let fill-list = c .before .before .before .before .fill-list in
+    λ t k. rewritten-rows _ t k _ _ _ _ _ _ (length-keys _ _ _) (fill-list .ensures)
 
 pub fetch-rewritten-kvs-spec : {M : Type 1} → statement M
 fetch-rewritten-kvs-spec =

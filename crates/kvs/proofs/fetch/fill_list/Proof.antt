@@ -15,10 +15,18 @@ lesser-requires : tie.Need-lesser-requires
 lesser-requires c κs = search needs
 
 returns : tie.Need-returns
-returns c = list-short (c .before .before .before .before .before .before .before .before .before .args .which) (c .before .before .before .before .before .before .before .before .before .args .start .now) (c .before .before .before .before .before .before .before .before .before .args .end .now) (c .before .before .before .before .before .before .before .before .before .args .backwards) (keysIn (c .before .before .before .before .before .before .before .before .before .args .n) (c .before .before .before .before .before .before .before .before .before .args .rows .now) (c .before .before .before .before .before .before .before .before .before .args .bytes .now)) (c .before .before .before .before .before .before .before .before .before .args .count) (c .before .lesser .result) (c .before .lesser .ensures ∙ ap (min (c .before .before .before .before .before .before .before .before .before .args .count)) (c .before .before .count-chosen .ensures)) _ _ (omega arith)
+returns c =
+    let start = c .before .before .before .before .before .before .before in
+    let count-chosen = c .before .before .count-chosen in
+    let lesser = c .before .lesser in
+    list-short (start .args .which) (start .args .backwards) (keysIn (start .args .n) (start .args .rows .now) (start .args .bytes .now)) (start .args .count) (lesser .result) (lesser .ensures ∙ ap (min (start .args .count)) (count-chosen .ensures)) _ _ (omega arith)
 
 returns-2 : tie.Need-returns-2
-returns-2 c = list-short (c .before .before .before .before .before .before .before .before .before .before .args .which) (c .before .before .before .before .before .before .before .before .before .before .args .start .now) (c .before .before .before .before .before .before .before .before .before .before .args .end .now) (c .before .before .before .before .before .before .before .before .before .before .args .backwards) (keysIn (c .before .before .before .before .before .before .before .before .before .before .args .n) (c .before .before .before .before .before .before .before .before .before .before .args .rows .now) (c .before .before .before .before .before .before .before .before .before .before .args .bytes .now)) (c .before .before .before .before .before .before .before .before .before .before .args .count) (c .before .before .lesser .result) (c .before .before .lesser .ensures ∙ ap (min (c .before .before .before .before .before .before .before .before .before .before .args .count)) (c .before .before .before .count-chosen .ensures)) _ _ (omega arith)
+returns-2 c =
+    let start = c .before .before .before .before .before .before .before .before in
+    let count-chosen = c .before .before .before .count-chosen in
+    let lesser = c .before .before .lesser in
+    list-short (start .args .which) (start .args .backwards) (keysIn (start .args .n) (start .args .rows .now) (start .args .bytes .now)) (start .args .count) (lesser .result) (lesser .ensures ∙ ap (min (start .args .count)) (count-chosen .ensures)) _ _ (omega arith)
 
 copy-chosen-requires : tie.Need-copy-chosen-requires
 copy-chosen-requires c κs = search needs
@@ -30,7 +38,12 @@ same-length-2 : tie.Need-same-length-2
 same-length-2 c = search needs
 
 returns-3 : tie.Need-returns-3
-returns-3 c = list-full (c .before .before .before .before .before .before .before .before .before .before .before .before .before .before .before .before .before .args .which) (c .before .before .before .before .before .before .before .before .before .before .before .before .before .before .before .before .before .args .start .now) (c .before .before .before .before .before .before .before .before .before .before .before .before .before .before .before .before .before .args .end .now) (c .before .before .before .before .before .before .before .before .before .before .before .before .before .before .before .before .before .args .backwards) (keysIn (c .before .before .before .before .before .before .before .before .before .before .before .before .before .before .before .before .before .args .n) (c .before .before .before .before .before .before .before .before .before .before .before .before .before .before .before .before .before .args .rows .now) (c .before .before .before .before .before .before .before .before .before .before .before .before .before .before .before .before .before .args .bytes .now)) (c .before .before .before .before .before .before .before .before .before .before .before .before .before .before .before .before .before .args .count) (c .before .before .before .before .before .before .before .before .before .lesser .result) (c .before .before .before .before .before .before .before .before .before .lesser .ensures ∙ ap (min (c .before .before .before .before .before .before .before .before .before .before .before .before .before .before .before .before .before .args .count)) (c .before .before .before .before .before .before .before .before .before .before .count-chosen .ensures)) _ _ _ _ (omega arith) (c .before .before .before .before .copy-chosen .ensures .0) (c .before .before .before .before .copy-chosen .ensures .1)
+returns-3 c =
+    let start = c .before .before .before .before .before .before .before .before .before .before .before .before .before .before .before in
+    let count-chosen = c .before .before .before .before .before .before .before .before .before .before .count-chosen in
+    let lesser = c .before .before .before .before .before .before .before .before .before .lesser in
+    let copy-chosen = c .before .before .before .before .copy-chosen in
+    list-full (start .args .which) (start .args .backwards) (keysIn (start .args .n) (start .args .rows .now) (start .args .bytes .now)) (start .args .count) (lesser .result) (lesser .ensures ∙ ap (min (start .args .count)) (count-chosen .ensures)) _ _ _ _ (omega arith) (copy-chosen .ensures .0) (copy-chosen .ensures .1)
 
 pub fill-list-spec : {M : Type 1} → statement M
 fill-list-spec =

@@ -1,20 +1,11 @@
 -- `kvs::fetch::copies::chosen` meets its contract. Assumes nothing.
 use borrow.Author.Needs.{needs}
-use Rattle.kvs.proofs.Answers.{meets-bounds, meets-gate, meets-rewrite}
+use Rattle.kvs.proofs.Answers.{meets-gate, meets-rewrite}
 use Rattle.kvs.proofs.fetch.copies.chosen.Statement.{statement}
 use Rattle.kvs.proofs.fetch.copies.chosen.Tie as tie
 
 enum-known-which : tie.Need-enum-known-which
 enum-known-which c = search needs
-
-key-at-requires : tie.Need-key-at-requires
-key-at-requires c κs = search needs
-
-in-bounds-requires : tie.Need-in-bounds-requires
-in-bounds-requires c κs = search needs
-
-enum-known-which-2 : tie.Need-enum-known-which-2
-enum-known-which-2 c = search needs
 
 up-to-requires : tie.Need-up-to-requires
 up-to-requires c κs = search needs
@@ -38,22 +29,22 @@ is-of-requires : tie.Need-is-of-requires
 is-of-requires c κs = search needs
 
 returns : tie.Need-returns
-returns c = meets-bounds (c .before .before .before .before .before .before .before .before .before .args .i) (c .before .before .before .before .before .before .before .before .before .args .rows .now) (c .before .before .before .before .before .before .before .before .before .args .bytes .now) (c .before .before .before .before .before .before .before .before .before .args .start .now) (c .before .before .before .before .before .before .before .before .before .args .end .now) _ _ _ _ _ (c .before .before .before .which .given .1) (c .before .key-at .ensures) (c .in-bounds .ensures)
+returns c =
+    let start = c .before .before .before .before .before .before in
+    let which = c .before .before .which in
+    meets-gate (start .args .i) (start .args .rows .now) (start .args .bytes .now) _ _ _ (which .given .1) (c .up-to .ensures)
 
 returns-2 : tie.Need-returns-2
-returns-2 c = meets-gate (c .before .before .before .before .before .before .before .before .args .i) (c .before .before .before .before .before .before .before .before .args .rows .now) (c .before .before .before .before .before .before .before .before .args .bytes .now) (c .before .before .before .before .before .before .before .before .args .start .now) (c .before .before .before .before .before .before .before .before .args .end .now) _ _ _ (c .before .before .which2 .given .1) (c .up-to .ensures)
-
-returns-3 : tie.Need-returns-3
-returns-3 c = meets-rewrite (c .before .before .before .before .before .before .before .before .args .i) (c .before .before .before .before .before .before .before .before .args .rows .now) (c .before .before .before .before .before .before .before .before .args .bytes .now) (c .before .before .before .before .before .before .before .before .args .start .now) (c .before .before .before .before .before .before .before .before .args .end .now) _ _ (c .before .before .enum-told .given .1) (c .is-of .ensures)
+returns-2 c =
+    let start = c .before .before .before .before .before .before in
+    let enum-told = c .before .before .enum-told in
+    meets-rewrite (start .args .i) (start .args .rows .now) (start .args .bytes .now) _ _ (enum-told .given .1) (c .is-of .ensures)
 
 pub chosen-spec : {M : Type 1} → statement M
 chosen-spec =
     tie.close
     (tie.spec
     enum-known-which
-    key-at-requires
-    in-bounds-requires
-    enum-known-which-2
     up-to-requires
     enum-told
     mul-is-of
@@ -62,5 +53,4 @@ chosen-spec =
     shared-slice-read-is-of
     is-of-requires
     returns
-    returns-2
-    returns-3)
+    returns-2)

@@ -10,19 +10,25 @@ use Rattle.kvs.proofs.fetch.copies.copy_chosen.Statement.{statement}
 use Rattle.kvs.proofs.fetch.copies.copy_chosen.Tie as tie
 
 abbrev Inv-loop : tie.InvT-loop
-Inv-loop n rows bytes which start end backwards limit lens₀ out₀ j₀ s₀ lens out j s = (s ≤ n) × (length lens ≡ length lens₀) × (length out ≡ length out₀) × Copying which start end n rows bytes backwards limit lens₀ out₀ s j lens out
+Inv-loop n rows bytes which backwards limit lens₀ out₀ j₀ s₀ lens out j s = (s ≤ n) × (length lens ≡ length lens₀) × (length out ≡ length out₀) × Copying which n rows bytes backwards limit lens₀ out₀ s j lens out
 
 abbrev μ-loop : tie.MeasureT-loop
-μ-loop n rows bytes which start end backwards limit lens₀ out₀ j₀ s₀ lens out j s = n - s
+μ-loop n rows bytes which backwards limit lens₀ out₀ j₀ s₀ lens out j s = n - s
 
 loop-holds : tie.Need-loop-holds Inv-loop μ-loop
-loop-holds c = (search needs, refl, refl, copying-none (c .before .before .before .before .before .before .args .which) (c .before .before .before .before .before .before .args .start .now) (c .before .before .before .before .before .before .args .end .now) (c .before .before .before .before .before .before .args .n) (c .before .before .before .before .before .before .args .rows .now) (c .before .before .before .before .before .before .args .bytes .now) (c .before .before .before .before .before .before .args .backwards) (c .before .before .before .before .before .before .args .limit) (c .before .before .before .before .before .before .args .lens .now) (c .before .before .before .before .before .before .args .out .now))
+loop-holds c =
+    let start = c .before .before .before .before in
+    (search needs, refl, refl, copying-none (start .args .which) (start .args .n) (start .args .rows .now) (start .args .bytes .now) (start .args .backwards) (start .args .limit) (start .args .lens .now) (start .args .out .now))
 
 row-of-requires : tie.Need-row-of-requires Inv-loop μ-loop
 row-of-requires c κs = search needs
 
 copy-if-requires : tie.Need-copy-if-requires Inv-loop μ-loop
-copy-if-requires c κs = (row-in _ _ _ _ (c .before .before .before .before .before .before .before .before .before .before .before .pre .0) (c .before .before .row-of .ensures .1), omega (arith, c .before .before .before .before .before .before .before .before .before .before .before .pre .1, c .before .before .before .before .loop .inv .1, c .before .before .before .before .loop .inv .2))
+copy-if-requires c κs =
+    let start = c .before .before .before .before .before .before .before .before .before in
+    let loop = c .before .before .before .before .loop in
+    let row-of = c .before .before .row-of in
+    (row-in _ _ _ _ (start .pre .0) (row-of .ensures .1), omega (arith, start .pre .1, loop .inv .1, loop .inv .2))
 
 add-s : tie.Need-add-s Inv-loop μ-loop
 add-s c = search needs
@@ -31,12 +37,17 @@ loop-less : tie.Need-loop-less Inv-loop μ-loop
 loop-less c = search needs
 
 loop-again : tie.Need-loop-again Inv-loop μ-loop
-loop-again c = (
-  search needs,
-  c .before .before .before .before .copy-if .kept .1 .1 .1 .1 .1 .1 .1 .0 ∙ c .before .before .before .before .before .before .before .before .before .loop .inv .1,
-  c .before .before .before .before .copy-if .kept .1 .1 .1 .1 .1 .1 .1 .1 .0 ∙ c .before .before .before .before .before .before .before .before .before .loop .inv .2,
-  copying-more (c .before .before .before .before .before .before .before .before .before .before .before .before .before .before .before .before .args .which) (c .before .before .before .before .before .before .before .before .before .before .before .before .before .before .before .before .args .start .now) (c .before .before .before .before .before .before .before .before .before .before .before .before .before .before .before .before .args .end .now) (c .before .before .before .before .before .before .before .before .before .before .before .before .before .before .before .before .args .n) (c .before .before .before .before .before .before .before .before .before .before .before .before .before .before .before .before .args .rows .now) (c .before .before .before .before .before .before .before .before .before .before .before .before .before .before .before .before .args .bytes .now) (c .before .before .before .before .before .before .before .before .before .before .before .before .before .before .before .before .args .backwards) (c .before .before .before .before .before .before .before .before .before .before .before .before .before .before .before .before .args .limit) (c .before .before .before .before .before .before .before .before .before .before .before .before .before .before .before .before .args .lens .now) (c .before .before .before .before .before .before .before .before .before .before .before .before .before .before .before .before .args .out .now) (c .before .before .before .before .before .before .before .before .before .loop .s) (c .before .before .before .before .before .before .before .before .before .loop .j) _ (c .before .before .before .before .before .before .before .before .before .loop .lens) (c .before .before .before .before .before .before .before .before .before .loop .out) (c .before .before .before .before .before .before .before .before .before .loop .inv .3) (c .before .before .before .before .before .before .before .before .loop-test .taken) (c .before .before .before .before .before .before .before .row-of .ensures .0) _ _ _ (c .before .before .before .before .copy-if .ensures),
-)
+loop-again c =
+    let start = c .before .before .before .before .before .before .before .before .before .before .before .before .before .before in
+    let loop = c .before .before .before .before .before .before .before .before .before .loop in
+    let loop-test = c .before .before .before .before .before .before .before .before .loop-test in
+    let row-of = c .before .before .before .before .before .before .before .row-of in
+    let copy-if = c .before .before .before .before .copy-if in (
+      search needs,
+      copy-if .kept .1 .1 .1 .1 .1 .0 ∙ loop .inv .1,
+      copy-if .kept .1 .1 .1 .1 .1 .1 .0 ∙ loop .inv .2,
+      copying-more (start .args .which) (start .args .n) (start .args .rows .now) (start .args .bytes .now) (start .args .backwards) (start .args .limit) (start .args .lens .now) (start .args .out .now) (loop .s) (loop .j) _ (loop .lens) (loop .out) (loop .inv .3) (loop-test .taken) (row-of .ensures .0) _ _ _ (copy-if .ensures),
+    )
 
 same-length : tie.Need-same-length Inv-loop μ-loop
 same-length c = search needs
@@ -45,7 +56,10 @@ same-length-2 : tie.Need-same-length-2 Inv-loop μ-loop
 same-length-2 c = search needs
 
 returns : tie.Need-returns Inv-loop μ-loop
-returns c = (lens-done (c .before .before .before .before .before .before .before .before .args .which) (c .before .before .before .before .before .before .before .before .args .start .now) (c .before .before .before .before .before .before .before .before .args .end .now) (c .before .before .before .before .before .before .before .before .args .n) (c .before .before .before .before .before .before .before .before .args .rows .now) (c .before .before .before .before .before .before .before .before .args .bytes .now) (c .before .before .before .before .before .before .before .before .args .backwards) (c .before .before .before .before .before .before .before .before .args .limit) (c .before .before .before .before .before .before .before .before .args .lens .now) (c .before .before .before .before .before .before .before .before .args .out .now) _ _ _ _ (c .before .loop .inv .3) (search needs), bytes-done (c .before .before .before .before .before .before .before .before .args .which) (c .before .before .before .before .before .before .before .before .args .start .now) (c .before .before .before .before .before .before .before .before .args .end .now) (c .before .before .before .before .before .before .before .before .args .n) (c .before .before .before .before .before .before .before .before .args .rows .now) (c .before .before .before .before .before .before .before .before .args .bytes .now) (c .before .before .before .before .before .before .before .before .args .backwards) (c .before .before .before .before .before .before .before .before .args .limit) (c .before .before .before .before .before .before .before .before .args .lens .now) (c .before .before .before .before .before .before .before .before .args .out .now) _ _ _ _ (c .before .loop .inv .3) (search needs))
+returns c =
+    let start = c .before .before .before .before .before .before in
+    let loop = c .before .loop in
+    (lens-done (start .args .which) (start .args .n) (start .args .rows .now) (start .args .bytes .now) (start .args .backwards) (start .args .limit) (start .args .lens .now) (start .args .out .now) _ _ _ _ (loop .inv .3) (search needs), bytes-done (start .args .which) (start .args .n) (start .args .rows .now) (start .args .bytes .now) (start .args .backwards) (start .args .limit) (start .args .lens .now) (start .args .out .now) _ _ _ _ (loop .inv .3) (search needs))
 
 pub copy-chosen-spec : {M : Type 1} → statement M
 copy-chosen-spec =

@@ -24,10 +24,17 @@ same-length-2 : tie.Need-same-length-2
 same-length-2 c = search needs
 
 returns-2 : tie.Need-returns-2
-returns-2 c = rw (c .before .before .before .before .copy-row .ensures .0, c .before .before .before .before .copy-row .ensures .1) (copy-yes _ _ _ _ _ _ (sym (c .before .before .before .before .before .before .before .before .chosen .ensures) ∙ c .before .before .before .before .before .before .before .if2 .taken) (c .before .before .before .before .before .before .before .before .before .if1 .left))
+returns-2 c =
+    let if1 = c .before .before .before .before .before .before .before .before .before .if1 in
+    let chosen = c .before .before .before .before .before .before .before .before .chosen in
+    let if2 = c .before .before .before .before .before .before .before .if2 in
+    let copy-row = c .before .before .before .before .copy-row in
+    rw (copy-row .ensures .0, copy-row .ensures .1) (copy-yes _ _ _ _ _ _ (sym (chosen .ensures) ∙ if2 .taken) (if1 .left))
 
 returns-3 : tie.Need-returns-3
-returns-3 c = copy-not _ _ _ _ _ _ (sym (c .before .chosen .ensures) ∙ c .if2 .left)
+returns-3 c =
+    let chosen = c .before .chosen in
+    copy-not _ _ _ _ _ _ (sym (chosen .ensures) ∙ c .if2 .left)
 
 pub copy-if-spec : {M : Type 1} → statement M
 copy-if-spec =

@@ -12,19 +12,23 @@ use Rattle.kvs.proofs.fetch.copies.count_chosen.Statement.{statement}
 use Rattle.kvs.proofs.fetch.copies.count_chosen.Tie as tie
 
 abbrev Inv-loop : tie.InvT-loop
-Inv-loop n rows bytes which start end count₀ i₀ count i = (i ≤ n) × (count ≤ i) × (length (selected (meets which start end) n rows bytes 0) ≡ count + length (selected (meets which start end) n rows bytes i))
+Inv-loop n rows bytes which count₀ i₀ count i = (i ≤ n) × (count ≤ i) × (length (selected (meets which) n rows bytes 0) ≡ count + length (selected (meets which) n rows bytes i))
 
 abbrev μ-loop : tie.MeasureT-loop
-μ-loop n rows bytes which start end count₀ i₀ count i = n - i
+μ-loop n rows bytes which count₀ i₀ count i = n - i
 
 loop-holds : tie.Need-loop-holds Inv-loop μ-loop
 loop-holds c = (search needs, search needs, sym (zero-add _))
 
 one-chosen-requires : tie.Need-one-chosen-requires Inv-loop μ-loop
-one-chosen-requires c κs = row-in _ _ _ _ (c .before .before .before .before .before .before .pre) (search needs)
+one-chosen-requires c κs =
+    let start = c .before .before .before .before in
+    row-in _ _ _ _ (start .pre) (search needs)
 
 add-count : tie.Need-add-count Inv-loop μ-loop
-add-count c = omega (arith, c .before .before .before .before .before .before .before .pre, c .before .before .before .before .before .before .before .good, c .one-chosen .ensures .1)
+add-count c =
+    let start = c .before .before .before .before .before in
+    omega (arith, start .pre, start .good, c .one-chosen .ensures .1)
 
 add-i : tie.Need-add-i Inv-loop μ-loop
 add-i c = search needs
@@ -33,14 +37,20 @@ loop-less : tie.Need-loop-less Inv-loop μ-loop
 loop-less c = search needs
 
 loop-again : tie.Need-loop-again Inv-loop μ-loop
-loop-again c = (
-  search needs,
-  omega (arith, c .one-chosen .ensures .1),
-  omega (arith, count-more (meets (c .before .before .before .before .before .before .before .args .which) (c .before .before .before .before .before .before .before .args .start .now) (c .before .before .before .before .before .before .before .args .end .now)) (c .before .before .before .before .before .before .before .args .n) (c .before .before .before .before .before .before .before .args .rows .now) (c .before .before .before .before .before .before .before .args .bytes .now) (c .before .before .loop .i) (c .before .loop-test .taken), c .one-chosen .ensures .0),
-)
+loop-again c =
+    let start = c .before .before .before .before .before in
+    let loop = c .before .before .loop in
+    let loop-test = c .before .loop-test in (
+      search needs,
+      omega (arith, c .one-chosen .ensures .1),
+      omega (arith, count-more (meets (start .args .which)) (start .args .n) (start .args .rows .now) (start .args .bytes .now) (loop .i) (loop-test .taken), c .one-chosen .ensures .0),
+    )
 
 returns : tie.Need-returns Inv-loop μ-loop
-returns c = omega (arith, ap length (selected-all (meets (c .before .before .before .before .before .before .args .which) (c .before .before .before .before .before .before .args .start .now) (c .before .before .before .before .before .before .args .end .now)) (c .before .before .before .before .before .before .args .n) (c .before .before .before .before .before .before .args .rows .now) (c .before .before .before .before .before .before .args .bytes .now)), ap length (selected-none (meets (c .before .before .before .before .before .before .args .which) (c .before .before .before .before .before .before .args .start .now) (c .before .before .before .before .before .before .args .end .now)) (c .before .before .before .before .before .before .args .n) (c .before .before .before .before .before .before .args .rows .now) (c .before .before .before .before .before .before .args .bytes .now) (c .before .loop .i) (search needs)))
+returns c =
+    let start = c .before .before .before .before in
+    let loop = c .before .loop in
+    omega (arith, ap length (selected-all (meets (start .args .which)) (start .args .n) (start .args .rows .now) (start .args .bytes .now)), ap length (selected-none (meets (start .args .which)) (start .args .n) (start .args .rows .now) (start .args .bytes .now) (loop .i) (search needs)))
 
 pub count-chosen-spec : {M : Type 1} → statement M
 count-chosen-spec =
