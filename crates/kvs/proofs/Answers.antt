@@ -27,7 +27,7 @@ use Rattle.rules.specs.Table.{Held, Table}
 use Rattle.rules.specs.TableQueries.{KeyValue, rowOf, inBounds, startAboveEnd, inDirection, scan, keysOf, fetchKvsBefore, fetchRewrittenKvs}
 use Rattle.rules.specs.Queries.{answered}
 use Rattle.kvs.specs.declared.fetch.Which.{Which}
-use Rattle.kvs.specs.declared.fetch.Which.the-variants.{InBounds, UpTo, OfRewrite}
+use Rattle.kvs.specs.declared.fetch.Which.the-variants.{UpTo, OfRewrite}
 use Rattle.kvs.specs.declared.fetch.Fetched.{Fetched}
 use Rattle.kvs.specs.declared.fetch.Fetched.the-variants.{Done, BadRange, TooShort}
 use Rattle.kvs.specs.Rows.{rowAt, keyOf, heldOf, pairOf, keysIn}
@@ -35,7 +35,6 @@ use Rattle.kvs.specs.RowIn.{number-at}
 use Rattle.kvs.specs.Orders.{isLess, below-by-order}
 use Rattle.kvs.specs.Places.{belowBound}
 use Rattle.kvs.specs.Stretches.{in-stretch}
-use Rattle.kvs.specs.Calls.{given}
 use Rattle.kvs.specs.Lists.{meets, inList, stretch, rowLens, rowBytes, laidBy, lentLens, lentBytes, listFrom, lentList, fetchedAs, lensAfter, bytesAfter, Fetches, taken, CopyIf}
 use Rattle.kvs.proofs.Selected.{left, left-all, left-none, left-more}
 use Rattle.kvs.proofs.Stretched.{length-direction, length-stretch}
@@ -45,16 +44,12 @@ use Rattle.kvs.proofs.Stretched.{length-direction, length-stretch}
 pub below-is : (a b : List ℕ) (o : Order) → o ≡ byteOrder a b → bytesBelow a b ≡ isLess o
 below-is a b o e = rw e (below-by-order a b)
 
-module _ (i : ℕ) (rows bs s e : List ℕ) (which : Which) (r : Bool) where
-  pub meets-bounds : (started ended : Bool) (k : List ℕ) → which ≡ InBounds started ended → k ≡ keyOf (rowAt i rows bs) → r ≡ inBounds (given started s) (given ended e) k → r ≡ meets which s e (pairOf (rowAt i rows bs))
-  unfolding meets pairOf
-  meets-bounds started ended k w f h = rw (w, ← f) h
-
-  pub meets-gate : (g : ℕ) → which ≡ UpTo g → r ≡ (sameQueue (queueAt (getD rows (i * 4 + 2) 0)) Append && leb (getD rows (i * 4 + 3) 0) g) → r ≡ meets which s e (pairOf (rowAt i rows bs))
+module _ (i : ℕ) (rows bs : List ℕ) (which : Which) (r : Bool) where
+  pub meets-gate : (g : ℕ) → which ≡ UpTo g → r ≡ (sameQueue (queueAt (getD rows (i * 4 + 2) 0)) Append && leb (getD rows (i * 4 + 3) 0) g) → r ≡ meets which (pairOf (rowAt i rows bs))
   unfolding meets pairOf heldOf
   meets-gate g w h = rw (w, number-at i rows bs 2 (omega arith), number-at i rows bs 3 (omega arith)) h
 
-  pub meets-rewrite : which ≡ OfRewrite → r ≡ sameQueue (queueAt (getD rows (i * 4 + 2) 0)) Rewrite → r ≡ meets which s e (pairOf (rowAt i rows bs))
+  pub meets-rewrite : which ≡ OfRewrite → r ≡ sameQueue (queueAt (getD rows (i * 4 + 2) 0)) Rewrite → r ≡ meets which (pairOf (rowAt i rows bs))
   unfolding meets pairOf heldOf
   meets-rewrite w h = rw (w, number-at i rows bs 2 (omega arith)) h
 
@@ -120,40 +115,40 @@ turn : (f : ℕ → KeyValue → List ℕ → List ℕ) (asked : Bool) (x : KeyV
 turn f asked x limit j h rest now l l′ r e g k = rw (e, g, k) (lay-step f asked x limit j h rest l)
 
 -- what holds after s turns, with j rows written
-pub record Copying (which : Which) (s₀ e₀ : List ℕ) (n : ℕ) (rows bs : List ℕ) (b : Bool) (limit : ℕ) (lens out : List ℕ) (s j : ℕ) (lens′ out′ : List ℕ) : Type 0 where
+pub record Copying (which : Which) (n : ℕ) (rows bs : List ℕ) (b : Bool) (limit : ℕ) (lens out : List ℕ) (s j : ℕ) (lens′ out′ : List ℕ) : Type 0 where
   pub below : j ≤ limit
-  pub lens-are : lentLens j (take (limit - j) (left (meets which s₀ e₀) n rows bs b s)) lens′ ≡ lentLens 0 (take limit (inList which s₀ e₀ b (keysIn n rows bs))) lens
-  pub bytes-are : lentBytes j (take (limit - j) (left (meets which s₀ e₀) n rows bs b s)) out′ ≡ lentBytes 0 (take limit (inList which s₀ e₀ b (keysIn n rows bs))) out
+  pub lens-are : lentLens j (take (limit - j) (left (meets which) n rows bs b s)) lens′ ≡ lentLens 0 (take limit (inList which b (keysIn n rows bs))) lens
+  pub bytes-are : lentBytes j (take (limit - j) (left (meets which) n rows bs b s)) out′ ≡ lentBytes 0 (take limit (inList which b (keysIn n rows bs))) out
 
-module _ (which : Which) (s₀ e₀ : List ℕ) (n : ℕ) (rows bs : List ℕ) (b : Bool) (limit : ℕ) (lens out : List ℕ) where
-  pub copying-none : Copying which s₀ e₀ n rows bs b limit lens out 0 0 lens out
+module _ (which : Which) (n : ℕ) (rows bs : List ℕ) (b : Bool) (limit : ℕ) (lens out : List ℕ) where
+  pub copying-none : Copying which n rows bs b limit lens out 0 0 lens out
   unfolding inList
   copying-none =
-      let e = left-all (meets which s₀ e₀) n rows bs b in
+      let e = left-all (meets which) n rows bs b in
       record { below = omega arith; lens-are = rw (sub-zero limit, e); bytes-are = rw (sub-zero limit, e) }
 
-  pub copying-more : (s j i : ℕ) (lens′ out′ : List ℕ) → Copying which s₀ e₀ n rows bs b limit lens out s j lens′ out′ → s < n → i ≡ cond b (n - 1 - s) s
-      → (r : ℕ) (lens″ out″ : List ℕ) → CopyIf (meets which s₀ e₀ (pairOf (rowAt i rows bs))) (rowOf (pairOf (rowAt i rows bs))) limit j lens′ out′ r lens″ out″
-      → Copying which s₀ e₀ n rows bs b limit lens out (s + 1) r lens″ out″
+  pub copying-more : (s j i : ℕ) (lens′ out′ : List ℕ) → Copying which n rows bs b limit lens out s j lens′ out′ → s < n → i ≡ cond b (n - 1 - s) s
+      → (r : ℕ) (lens″ out″ : List ℕ) → CopyIf (meets which (pairOf (rowAt i rows bs))) (rowOf (pairOf (rowAt i rows bs))) limit j lens′ out′ r lens″ out″
+      → Copying which n rows bs b limit lens out (s + 1) r lens″ out″
   copying-more s j i lens′ out′ h q e r lens″ out″ g =
-      let asked = meets which s₀ e₀ (pairOf (rowAt i rows bs)) in
+      let asked = meets which (pairOf (rowAt i rows bs)) in
       let x = rowOf (pairOf (rowAt i rows bs)) in
-      let rest = left (meets which s₀ e₀) n rows bs b (suc s) in
-      let now = left-more (meets which s₀ e₀) n rows bs b s i q e in
+      let rest = left (meets which) n rows bs b (suc s) in
+      let now = left-more (meets which) n rows bs b s i q e in
       record {
         below = rw (g .next) (turn-next asked x limit j (h .below));
         lens-are = rw (add-one s) (turn rowLens asked x limit j (h .below) rest _ lens′ lens″ r (g .next) (g .lens-are) now ∙ h .lens-are);
         bytes-are = rw (add-one s) (turn rowBytes asked x limit j (h .below) rest _ out′ out″ r (g .next) (g .bytes-are) now ∙ h .bytes-are);
       }
 
-  module _ (s j : ℕ) (lens′ out′ : List ℕ) (h : Copying which s₀ e₀ n rows bs b limit lens out s j lens′ out′) (q : n ≤ s) where
-    pub lens-done : lens′ ≡ lentLens 0 (take limit (inList which s₀ e₀ b (keysIn n rows bs))) lens
+  module _ (s j : ℕ) (lens′ out′ : List ℕ) (h : Copying which n rows bs b limit lens out s j lens′ out′) (q : n ≤ s) where
+    pub lens-done : lens′ ≡ lentLens 0 (take limit (inList which b (keysIn n rows bs))) lens
     unfolding laidBy
-    lens-done = rw (left-none (meets which s₀ e₀) n rows bs b s q, take-nil {A = KeyValue} (limit - j)) at (h .lens-are)
+    lens-done = rw (left-none (meets which) n rows bs b s q, take-nil {A = KeyValue} (limit - j)) at (h .lens-are)
 
-    pub bytes-done : out′ ≡ lentBytes 0 (take limit (inList which s₀ e₀ b (keysIn n rows bs))) out
+    pub bytes-done : out′ ≡ lentBytes 0 (take limit (inList which b (keysIn n rows bs))) out
     unfolding laidBy
-    bytes-done = rw (left-none (meets which s₀ e₀) n rows bs b s q, take-nil {A = KeyValue} (limit - j)) at (h .bytes-are)
+    bytes-done = rw (left-none (meets which) n rows bs b s q, take-nil {A = KeyValue} (limit - j)) at (h .bytes-are)
 
 -- ---- the answer
 
@@ -202,22 +197,22 @@ module _ (L : List KeyValue) (count limit : ℕ) (l : limit ≡ min count (lengt
   rows-full lens out lens′ out′ h p q =
       rw (p, q, limited) (rw length-limited at (all-rows (take count L) lens out (rw (length-lent lens out, length-limited) h)))
 
-module _ (which : Which) (s e : List ℕ) (b : Bool) (m : Map (List ℕ) Held) where
-  pub length-in : length (inList which s e b m) ≡ length (select (meets which s e) m)
+module _ (which : Which) (b : Bool) (m : Map (List ℕ) Held) where
+  pub length-in : length (inList which b m) ≡ length (select (meets which) m)
   unfolding inList
-  length-in = length-direction b (map rowOf (select (meets which s e) m)) ∙ length-map (select (meets which s e) m) rowOf
+  length-in = length-direction b (map rowOf (select (meets which) m)) ∙ length-map (select (meets which) m) rowOf
 
-  module _ (count limit : ℕ) (l : limit ≡ min count (length (select (meets which s e) m))) where
-    by-list : limit ≡ min count (length (inList which s e b m))
+  module _ (count limit : ℕ) (l : limit ≡ min count (length (select (meets which) m))) where
+    by-list : limit ≡ min count (length (inList which b m))
     by-list = rw length-in l
 
-    pub list-short : (lens out : List ℕ) → min (length lens / 2) (length out / 64) < limit → Fetches (ok (take count (inList which s e b m))) lens out TooShort lens out
-    list-short = rows-short (inList which s e b m) count limit by-list
+    pub list-short : (lens out : List ℕ) → min (length lens / 2) (length out / 64) < limit → Fetches (ok (take count (inList which b m))) lens out TooShort lens out
+    list-short = rows-short (inList which b m) count limit by-list
 
     pub list-full : (lens out lens′ out′ : List ℕ) → limit ≤ min (length lens / 2) (length out / 64)
-        → lens′ ≡ lentLens 0 (take limit (inList which s e b m)) lens → out′ ≡ lentBytes 0 (take limit (inList which s e b m)) out
-        → Fetches (ok (take count (inList which s e b m))) lens out (Done limit) lens′ out′
-    list-full = rows-full (inList which s e b m) count limit by-list
+        → lens′ ≡ lentLens 0 (take limit (inList which b m)) lens → out′ ≡ lentBytes 0 (take limit (inList which b m)) out
+        → Fetches (ok (take count (inList which b m))) lens out (Done limit) lens′ out′
+    list-full = rows-full (inList which b m) count limit by-list
 
 -- ... of a stretch
 module _ (n : ℕ) (rows bs : List ℕ) (low high : ℕ) (b : Bool) (count limit : ℕ) (g : low ≤ high) (h : high ≤ n) (l : limit ≡ min count (high - low)) where
@@ -240,13 +235,13 @@ module _ (K : Map (List ℕ) Held) (t : Table) (k : t .keys ≡ K) where
   unfolding scan
   scan-is start end backwards count = rw k
 
-  pub before-is : (gate : ℕ) (s e : List ℕ) → fetchKvsBefore gate t ≡ inList (UpTo gate) s e false K
+  pub before-is : (gate : ℕ) → fetchKvsBefore gate t ≡ inList (UpTo gate) false K
   unfolding fetchKvsBefore keysOf inList inDirection meets
-  before-is gate s e = rw k (ap (map rowOf) (select-select (λ p. leb (p .val .file .seq) gate) (λ p. sameQueue (p .val .file .queue) Append) K))
+  before-is gate = rw k (ap (map rowOf) (select-select (λ p. leb (p .val .file .seq) gate) (λ p. sameQueue (p .val .file .queue) Append) K))
 
-  pub rewritten-is : (s e : List ℕ) → fetchRewrittenKvs t ≡ inList OfRewrite s e false K
+  pub rewritten-is : fetchRewrittenKvs t ≡ inList OfRewrite false K
   unfolding fetchRewrittenKvs keysOf inList inDirection meets
-  rewritten-is s e = rw k
+  rewritten-is = rw k
 
   module _ (start end : Option (List ℕ)) (backwards : Bool) (count : ℕ) (lens out : List ℕ) where
     pub scan-bounds : startAboveEnd start end ≡ true → Fetches (scan start end backwards count t) lens out BadRange lens out
@@ -265,14 +260,14 @@ module _ (K : Map (List ℕ) Held) (t : Table) (k : t .keys ≡ K) where
         let g : select (λ x. inBounds start end (x .key)) K ≡ part low (high - low) K = rw (p, q, ← e) (in-stretch K a start end h) in
         rw (scan-is start end backwards count, h, ne-eqb count 0 z, g) f
 
-  whole : (which : Which) (s e : List ℕ) (n : ℕ) → length K ≤ n → take n (inList which s e false K) ≡ inList which s e false K
-  whole which s e n h =
-      take-all n (inList which s e false K) (rw (length-in which s e false K) (omega (arith, length-select (meets which s e) K)))
+  whole : (which : Which) (n : ℕ) → length K ≤ n → take n (inList which false K) ≡ inList which false K
+  whole which n h =
+      take-all n (inList which false K) (rw (length-in which false K) (omega (arith, length-select (meets which) K)))
 
-  pub before-rows : (gate : ℕ) (s e : List ℕ) (n : ℕ) (lens out : List ℕ) (r : Fetched) (lens′ out′ : List ℕ) → length K ≡ n
-      → Fetches (ok (take n (inList (UpTo gate) s e false K))) lens out r lens′ out′ → Fetches (ok (fetchKvsBefore gate t)) lens out r lens′ out′
-  before-rows gate s e n lens out r lens′ out′ l f = rw (before-is gate s e) (rw (whole (UpTo gate) s e n (omega arith)) at f)
+  pub before-rows : (gate : ℕ) (n : ℕ) (lens out : List ℕ) (r : Fetched) (lens′ out′ : List ℕ) → length K ≡ n
+      → Fetches (ok (take n (inList (UpTo gate) false K))) lens out r lens′ out′ → Fetches (ok (fetchKvsBefore gate t)) lens out r lens′ out′
+  before-rows gate n lens out r lens′ out′ l f = rw (before-is gate) (rw (whole (UpTo gate) n (omega arith)) at f)
 
-  pub rewritten-rows : (s e : List ℕ) (n : ℕ) (lens out : List ℕ) (r : Fetched) (lens′ out′ : List ℕ) → length K ≡ n
-      → Fetches (ok (take n (inList OfRewrite s e false K))) lens out r lens′ out′ → Fetches (ok (fetchRewrittenKvs t)) lens out r lens′ out′
-  rewritten-rows s e n lens out r lens′ out′ l f = rw (rewritten-is s e) (rw (whole OfRewrite s e n (omega arith)) at f)
+  pub rewritten-rows : (n : ℕ) (lens out : List ℕ) (r : Fetched) (lens′ out′ : List ℕ) → length K ≡ n
+      → Fetches (ok (take n (inList OfRewrite false K))) lens out r lens′ out′ → Fetches (ok (fetchRewrittenKvs t)) lens out r lens′ out′
+  rewritten-rows n lens out r lens′ out′ l f = rw (rewritten-is) (rw (whole OfRewrite n (omega arith)) at f)

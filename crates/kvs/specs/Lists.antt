@@ -12,25 +12,23 @@ use Rattle.maps.specs.Maps.{Pair, Map}
 use Rattle.rules.specs.Causes.{Result, ok, refused, refuse, andThen, badRange, listTooShort}
 use Rattle.rules.specs.Items.{Append, Rewrite, sameQueue}
 use Rattle.rules.specs.Table.{Held, Table}
-use Rattle.rules.specs.TableQueries.{KeyValue, rowOf, inBounds, inDirection, scan, fetchKvsBefore, fetchRewrittenKvs}
+use Rattle.rules.specs.TableQueries.{KeyValue, rowOf, inDirection, scan, fetchKvsBefore, fetchRewrittenKvs}
 use Rattle.rules.specs.Queries.{answered}
 use Rattle.kvs.specs.declared.fetch.Which.{Which}
-use Rattle.kvs.specs.declared.fetch.Which.the-variants.{InBounds, UpTo, OfRewrite}
+use Rattle.kvs.specs.declared.fetch.Which.the-variants.{UpTo, OfRewrite}
 use Rattle.kvs.specs.declared.fetch.Fetched.{Fetched}
 use Rattle.kvs.specs.declared.fetch.Fetched.the-variants.{Done, BadRange, TooShort}
-use Rattle.kvs.specs.Calls.{given}
 
 -- ---- which keys
 
--- whether a query with the bounds s and e asks for a pair
-unfoldable pub meets : Which → List ℕ → List ℕ → Pair (List ℕ) Held → Bool
-meets (InBounds started ended) s e p = inBounds (given started s) (given ended e) (p .key)
-meets (UpTo gate) s e p = sameQueue (p .val .file .queue) Append && leb (p .val .file .seq) gate
-meets OfRewrite s e p = sameQueue (p .val .file .queue) Rewrite
+-- whether a query asks for a pair
+unfoldable pub meets : Which → Pair (List ℕ) Held → Bool
+meets (UpTo gate) p = sameQueue (p .val .file .queue) Append && leb (p .val .file .seq) gate
+meets OfRewrite p = sameQueue (p .val .file .queue) Rewrite
 
 -- all rows that it asks for, in a direction
-unfoldable pub inList : Which → List ℕ → List ℕ → Bool → Map (List ℕ) Held → List KeyValue
-inList which s e backwards m = inDirection backwards (map rowOf (select (meets which s e) m))
+unfoldable pub inList : Which → Bool → Map (List ℕ) Held → List KeyValue
+inList which backwards m = inDirection backwards (map rowOf (select (meets which) m))
 
 -- the rows from row low up to row high, in a direction
 unfoldable pub stretch : ℕ → ℕ → Bool → Map (List ℕ) Held → List KeyValue

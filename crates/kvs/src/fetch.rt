@@ -18,9 +18,8 @@ ghost use Rattle.kvs.specs.Rows.{keysIn, Wf};
 ghost use Rattle.kvs.specs.Calls.{given};
 ghost use Rattle.kvs.specs.Lists.{inList, stretch, Fetches, ScanKeys, FetchBefore, FetchRewritten};
 
-// Which keys a query asks for: those within the bounds that are there, the Append ones up to a gate, or the Rewrite ones.
+// Which keys a query asks for: the Append ones up to a gate, or the Rewrite ones.
 pub enum Which {
-    InBounds(bool, bool),
     UpTo(u64),
     OfRewrite,
 }
@@ -48,35 +47,22 @@ fn fill_list(
     rows: &[u64],
     bytes: &[u8],
     which: Which,
-    start: &[u8],
-    end: &[u8],
     backwards: bool,
     count: usize,
     lens: &mut [u64],
     out: &mut [u8],
 ) -> Fetched
     requires { ⌜ Wf n (now rows) (now bytes) ⌝ }
-    ensures { λ r. ⌜ Fetches (ok (take count (inList which (now (start .entry)) (now (end .entry)) backwards (keysIn n (now (rows .entry)) (now (bytes .entry)))))) (now (lens .entry)) (now (out .entry)) r (now (lens .exit)) (now (out .exit)) ⌝ }
+    ensures { λ r. ⌜ Fetches (ok (take count (inList which backwards (keysIn n (now (rows .entry)) (now (bytes .entry)))))) (now (lens .entry)) (now (out .entry)) r (now (lens .exit)) (now (out .exit)) ⌝ }
 {
-    let limit = lesser(count, count_chosen(n, rows, bytes, which, start, end));
+    let limit = lesser(count, count_chosen(n, rows, bytes, which));
     if lens.len() / 2 < limit {
         return Fetched::TooShort;
     }
     if out.len() / ROW_BYTES < limit {
         return Fetched::TooShort;
     }
-    copy_chosen(
-        n,
-        rows,
-        bytes,
-        which,
-        start,
-        end,
-        backwards,
-        limit,
-        lens,
-        out,
-    );
+    copy_chosen(n, rows, bytes, which, backwards, limit, lens, out);
     Fetched::Done(limit)
 }
 
@@ -147,18 +133,7 @@ pub fn fetch_kvs_before(
     requires { ⌜ Wf n (now rows) (now bytes) ⌝ }
     ensures { λ r. ⌜ FetchBefore (keysIn n (now (rows .entry)) (now (bytes .entry))) gate (now (lens .entry)) (now (out .entry)) r (now (lens .exit)) (now (out .exit)) ⌝ }
 {
-    fill_list(
-        n,
-        rows,
-        bytes,
-        Which::UpTo(gate),
-        bytes,
-        bytes,
-        false,
-        n,
-        lens,
-        out,
-    )
+    fill_list(n, rows, bytes, Which::UpTo(gate), false, n, lens, out)
 }
 
 // `fetch_rewritten_kvs`: all Rewrite keys.
@@ -172,16 +147,5 @@ pub fn fetch_rewritten_kvs(
     requires { ⌜ Wf n (now rows) (now bytes) ⌝ }
     ensures { λ r. ⌜ FetchRewritten (keysIn n (now (rows .entry)) (now (bytes .entry))) (now (lens .entry)) (now (out .entry)) r (now (lens .exit)) (now (out .exit)) ⌝ }
 {
-    fill_list(
-        n,
-        rows,
-        bytes,
-        Which::OfRewrite,
-        bytes,
-        bytes,
-        false,
-        n,
-        lens,
-        out,
-    )
+    fill_list(n, rows, bytes, Which::OfRewrite, false, n, lens, out)
 }

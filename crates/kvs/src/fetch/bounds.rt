@@ -3,10 +3,8 @@ use crate::Place;
 use crate::find;
 use cells::Order;
 ghost use mathlib.Core.Path.{_≡_};
-ghost use mathlib.Core.Bool.{true, not};
-ghost use Rattle.maps.specs.Lists.{orElse};
 ghost use Rattle.maps.specs.Maps.{bytesBelow};
-ghost use Rattle.rules.specs.TableQueries.{inBounds, startAboveEnd};
+ghost use Rattle.rules.specs.TableQueries.{startAboveEnd};
 ghost use Prim.Native.Nat.{_≤_};
 ghost use Rattle.kvs.specs.Rows.{keysIn, Wf};
 ghost use Rattle.kvs.specs.Places.{belowBound};
@@ -20,36 +18,6 @@ fn is_below(a: &[u8], b: &[u8]) -> bool
         Order::Equal => false,
         Order::Greater => false,
     }
-}
-
-// A key that the start, if there is one, takes in.
-fn from_start(key: &[u8], started: bool, start: &[u8]) -> bool
-    ensures { λ r. ⌜ r ≡ orElse true (λ s. not (bytesBelow (now (key .entry)) s)) (given started (now (start .entry))) ⌝ }
-{
-    if started {
-        return !is_below(key, start);
-    }
-    true
-}
-
-// A key that the end, if there is one, does not leave out.
-fn to_end(key: &[u8], ended: bool, end: &[u8]) -> bool
-    ensures { λ r. ⌜ r ≡ orElse true (bytesBelow (now (key .entry))) (given ended (now (end .entry))) ⌝ }
-{
-    if ended {
-        return is_below(key, end);
-    }
-    true
-}
-
-// Whether a key is within the bounds.
-pub fn in_bounds(key: &[u8], started: bool, start: &[u8], ended: bool, end: &[u8]) -> bool
-    ensures { λ r. ⌜ r ≡ inBounds (given started (now (start .entry))) (given ended (now (end .entry))) (now (key .entry)) ⌝ }
-{
-    if from_start(key, started, start) {
-        return to_end(key, ended, end);
-    }
-    false
 }
 
 // How many keys are below a bound, or `otherwise` where it is not there.

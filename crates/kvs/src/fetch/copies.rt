@@ -1,6 +1,5 @@
 // The rows that a query asks for, counted and copied to the list.
 use crate::fetch::Which;
-use crate::fetch::bounds::in_bounds;
 use crate::files::is_of;
 use crate::rows::ROW_BYTES;
 use crate::rows::ROW_WIDTH;
@@ -33,51 +32,37 @@ fn up_to(rows: &[u64], i: usize, gate: u64) -> bool
 }
 
 // Whether the query asks for row `i`.
-fn chosen(rows: &[u64], bytes: &[u8], i: usize, which: Which, start: &[u8], end: &[u8]) -> bool
+fn chosen(rows: &[u64], bytes: &[u8], i: usize, which: Which) -> bool
     requires { ⌜ RowIn i (now rows) (now bytes) ⌝ }
-    ensures { λ r. ⌜ r ≡ meets which (now (start .entry)) (now (end .entry)) (pairOf (rowAt i (now (rows .entry)) (now (bytes .entry)))) ⌝ }
+    ensures { λ r. ⌜ r ≡ meets which (pairOf (rowAt i (now (rows .entry)) (now (bytes .entry)))) ⌝ }
 {
     match which {
-        Which::InBounds(started, ended) => in_bounds(
-            key_at(rows, bytes, i),
-            started,
-            start,
-            ended,
-            end,
-        ),
         Which::UpTo(gate) => up_to(rows, i, gate),
         Which::OfRewrite => is_of(rows[i * ROW_WIDTH + 2], LogQueue::Rewrite),
     }
 }
 
 // 1 for a row that the query asks for, and 0 for another.
-fn one_chosen(rows: &[u64], bytes: &[u8], i: usize, which: Which, start: &[u8], end: &[u8]) -> usize
+fn one_chosen(rows: &[u64], bytes: &[u8], i: usize, which: Which) -> usize
     requires { ⌜ RowIn i (now rows) (now bytes) ⌝ }
-    ensures { λ r. ⌜ r ≡ cond (meets which (now (start .entry)) (now (end .entry)) (pairOf (rowAt i (now (rows .entry)) (now (bytes .entry))))) 1 0 ⌝ }
+    ensures { λ r. ⌜ r ≡ cond (meets which (pairOf (rowAt i (now (rows .entry)) (now (bytes .entry))))) 1 0 ⌝ }
     ensures { λ r. ⌜ r ≤ 1 ⌝ }
 {
-    if chosen(rows, bytes, i, which, start, end) {
+    if chosen(rows, bytes, i, which) {
         return 1;
     }
     0
 }
 
 // How many rows the query asks for.
-pub fn count_chosen(
-    n: usize,
-    rows: &[u64],
-    bytes: &[u8],
-    which: Which,
-    start: &[u8],
-    end: &[u8],
-) -> usize
+pub fn count_chosen(n: usize, rows: &[u64], bytes: &[u8], which: Which) -> usize
     requires { ⌜ Wf n (now rows) (now bytes) ⌝ }
-    ensures { λ r. ⌜ r ≡ length (select (meets which (now (start .entry)) (now (end .entry))) (keysIn n (now (rows .entry)) (now (bytes .entry)))) ⌝ }
+    ensures { λ r. ⌜ r ≡ length (select (meets which) (keysIn n (now (rows .entry)) (now (bytes .entry)))) ⌝ }
 {
     let mut count = 0;
     let mut i = 0;
     while i < n {
-        count += one_chosen(rows, bytes, i, which, start, end);
+        count += one_chosen(rows, bytes, i, which);
         i += 1;
     }
     count
@@ -105,8 +90,6 @@ fn copy_if(
     bytes: &[u8],
     i: usize,
     which: Which,
-    start: &[u8],
-    end: &[u8],
     limit: usize,
     lens: &mut [u64],
     out: &mut [u8],
@@ -114,12 +97,12 @@ fn copy_if(
 ) -> usize
     requires { ⌜ RowIn i (now rows) (now bytes) ⌝ }
     requires { ⌜ (limit * 2 ≤ length (now lens)) × (limit * 64 ≤ length (now out)) ⌝ }
-    ensures { λ r. ⌜ CopyIf (meets which (now (start .entry)) (now (end .entry)) (pairOf (rowAt i (now (rows .entry)) (now (bytes .entry))))) (rowOf (pairOf (rowAt i (now (rows .entry)) (now (bytes .entry))))) limit j (now (lens .entry)) (now (out .entry)) r (now (lens .exit)) (now (out .exit)) ⌝ }
+    ensures { λ r. ⌜ CopyIf (meets which (pairOf (rowAt i (now (rows .entry)) (now (bytes .entry))))) (rowOf (pairOf (rowAt i (now (rows .entry)) (now (bytes .entry))))) limit j (now (lens .entry)) (now (out .entry)) r (now (lens .exit)) (now (out .exit)) ⌝ }
 {
     if limit <= j {
         return j;
     }
-    if chosen(rows, bytes, i, which, start, end) {
+    if chosen(rows, bytes, i, which) {
         copy_row(rows, bytes, i, lens, out, j);
         return j + 1;
     }
@@ -144,8 +127,6 @@ pub fn copy_chosen(
     rows: &[u64],
     bytes: &[u8],
     which: Which,
-    start: &[u8],
-    end: &[u8],
     backwards: bool,
     limit: usize,
     lens: &mut [u64],
@@ -153,14 +134,14 @@ pub fn copy_chosen(
 )
     requires { ⌜ Wf n (now rows) (now bytes) ⌝ }
     requires { ⌜ (limit * 2 ≤ length (now lens)) × (limit * 64 ≤ length (now out)) ⌝ }
-    ensures { λ _. ⌜ now (lens .exit) ≡ lentLens 0 (take limit (inList which (now (start .entry)) (now (end .entry)) backwards (keysIn n (now (rows .entry)) (now (bytes .entry))))) (now (lens .entry)) ⌝ }
-    ensures { λ _. ⌜ now (out .exit) ≡ lentBytes 0 (take limit (inList which (now (start .entry)) (now (end .entry)) backwards (keysIn n (now (rows .entry)) (now (bytes .entry))))) (now (out .entry)) ⌝ }
+    ensures { λ _. ⌜ now (lens .exit) ≡ lentLens 0 (take limit (inList which backwards (keysIn n (now (rows .entry)) (now (bytes .entry))))) (now (lens .entry)) ⌝ }
+    ensures { λ _. ⌜ now (out .exit) ≡ lentBytes 0 (take limit (inList which backwards (keysIn n (now (rows .entry)) (now (bytes .entry))))) (now (out .entry)) ⌝ }
 {
     let mut j = 0;
     let mut s = 0;
     while s < n {
         let i = row_of(n, s, backwards);
-        j = copy_if(rows, bytes, i, which, start, end, limit, lens, out, j);
+        j = copy_if(rows, bytes, i, which, limit, lens, out, j);
         s += 1;
     }
 }

@@ -17,7 +17,7 @@ same-length-2 c = search needs
 returns : tie.Need-returns
 returns c =
     let fill-list = c .before .before .before .before .fill-list in
-    λ t k. before-rows _ t k _ _ _ _ _ _ _ _ _ (length-keys _ _ _) (fill-list .ensures)
+    λ t k. before-rows _ t k _ _ _ _ _ _ _ (length-keys _ _ _) (fill-list .ensures)
 
 pub fetch-kvs-before-spec : {M : Type 1} → statement M
 fetch-kvs-before-spec = tie.close (tie.spec fill-list-requires same-length same-length-2 returns)

@@ -17,7 +17,7 @@ same-length-2 c = search needs
 returns : tie.Need-returns
 returns c =
     let fill-list = c .before .before .before .before .fill-list in
-    λ t k. rewritten-rows _ t k _ _ _ _ _ _ _ _ (length-keys _ _ _) (fill-list .ensures)
+    λ t k. rewritten-rows _ t k _ _ _ _ _ _ (length-keys _ _ _) (fill-list .ensures)
 
 pub fetch-rewritten-kvs-spec : {M : Type 1} → statement M
 fetch-rewritten-kvs-spec =

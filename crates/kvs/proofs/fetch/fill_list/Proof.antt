@@ -18,13 +18,13 @@ returns : tie.Need-returns
 returns c =
     let count-chosen = c .before .before .count-chosen in
     let lesser = c .before .lesser in
-    list-short _ _ _ _ (keysIn _ _ _) _ (lesser .result) (lesser .ensures ∙ ap (min _) (count-chosen .ensures)) _ _ (omega arith)
+    list-short _ _ (keysIn _ _ _) _ (lesser .result) (lesser .ensures ∙ ap (min _) (count-chosen .ensures)) _ _ (omega arith)
 
 returns-2 : tie.Need-returns-2
 returns-2 c =
     let count-chosen = c .before .before .before .count-chosen in
     let lesser = c .before .before .lesser in
-    list-short _ _ _ _ (keysIn _ _ _) _ (lesser .result) (lesser .ensures ∙ ap (min _) (count-chosen .ensures)) _ _ (omega arith)
+    list-short _ _ (keysIn _ _ _) _ (lesser .result) (lesser .ensures ∙ ap (min _) (count-chosen .ensures)) _ _ (omega arith)
 
 copy-chosen-requires : tie.Need-copy-chosen-requires
 copy-chosen-requires c κs = search needs
@@ -40,7 +40,7 @@ returns-3 c =
     let count-chosen = c .before .before .before .before .before .before .before .before .before .before .count-chosen in
     let lesser = c .before .before .before .before .before .before .before .before .before .lesser in
     let copy-chosen = c .before .before .before .before .copy-chosen in
-    list-full _ _ _ _ (keysIn _ _ _) _ (lesser .result) (lesser .ensures ∙ ap (min _) (count-chosen .ensures)) _ _ _ _ (omega arith) (copy-chosen .ensures .0) (copy-chosen .ensures .1)
+    list-full _ _ (keysIn _ _ _) _ (lesser .result) (lesser .ensures ∙ ap (min _) (count-chosen .ensures)) _ _ _ _ (omega arith) (copy-chosen .ensures .0) (copy-chosen .ensures .1)
 
 pub fill-list-spec : {M : Type 1} → statement M
 fill-list-spec =

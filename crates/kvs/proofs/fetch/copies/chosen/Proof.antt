@@ -1,20 +1,11 @@
 -- `kvs::fetch::copies::chosen` meets its contract. Assumes nothing.
 use borrow.Author.Needs.{needs}
-use Rattle.kvs.proofs.Answers.{meets-bounds, meets-gate, meets-rewrite}
+use Rattle.kvs.proofs.Answers.{meets-gate, meets-rewrite}
 use Rattle.kvs.proofs.fetch.copies.chosen.Statement.{statement}
 use Rattle.kvs.proofs.fetch.copies.chosen.Tie as tie
 
 enum-known-which : tie.Need-enum-known-which
 enum-known-which c = search needs
-
-key-at-requires : tie.Need-key-at-requires
-key-at-requires c κs = search needs
-
-in-bounds-requires : tie.Need-in-bounds-requires
-in-bounds-requires c κs = search needs
-
-enum-known-which-2 : tie.Need-enum-known-which-2
-enum-known-which-2 c = search needs
 
 up-to-requires : tie.Need-up-to-requires
 up-to-requires c κs = search needs
@@ -39,28 +30,19 @@ is-of-requires c κs = search needs
 
 returns : tie.Need-returns
 returns c =
-    let which = c .before .before .before .which in
-    let key-at = c .before .key-at in
-    meets-bounds _ _ _ _ _ _ _ _ _ _ (which .given .1) (key-at .ensures) (c .in-bounds .ensures)
+    let which = c .before .before .which in
+    meets-gate _ _ _ _ _ _ (which .given .1) (c .up-to .ensures)
 
 returns-2 : tie.Need-returns-2
 returns-2 c =
-    let which2 = c .before .before .which2 in
-    meets-gate _ _ _ _ _ _ _ _ (which2 .given .1) (c .up-to .ensures)
-
-returns-3 : tie.Need-returns-3
-returns-3 c =
     let enum-told = c .before .before .enum-told in
-    meets-rewrite _ _ _ _ _ _ _ (enum-told .given .1) (c .is-of .ensures)
+    meets-rewrite _ _ _ _ _ (enum-told .given .1) (c .is-of .ensures)
 
 pub chosen-spec : {M : Type 1} → statement M
 chosen-spec =
     tie.close
     (tie.spec
     enum-known-which
-    key-at-requires
-    in-bounds-requires
-    enum-known-which-2
     up-to-requires
     enum-told
     mul-is-of
@@ -69,5 +51,4 @@ chosen-spec =
     shared-slice-read-is-of
     is-of-requires
     returns
-    returns-2
-    returns-3)
+    returns-2)
