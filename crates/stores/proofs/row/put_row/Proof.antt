@@ -20,10 +20,13 @@ file-seq-requires c κs = search needs
 
 returns : tie.Need-returns
 returns c =
+    let value-told = c .before .before .before .value-told in
+    let value-len = c .before .before .value-len in
+    let file-number = c .before .file-number in
     rw (
-      c .before .before .before .value-told .ensures,
-      c .before .before .value-len .ensures,
-      c .before .file-number .ensures,
+      value-told .ensures,
+      value-len .ensures,
+      file-number .ensures,
       c .file-seq .ensures,
     )
 

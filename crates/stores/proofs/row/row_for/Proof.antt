@@ -17,19 +17,28 @@ enum-known-content-3 : tie.Need-enum-known-content-3
 enum-known-content-3 c = search needs
 
 key-row-requires : tie.Need-key-row-requires
-key-row-requires c κs = rw (c .before .content3 .given .1) at (c .before .before .before .pre)
+key-row-requires c κs =
+    let start = c .before .before .before in
+    let content3 = c .before .content3 in
+    rw (content3 .given .1) at (start .pre)
 
 returns : tie.Need-returns
 unfolding rowFor
-returns c = rw (c .before .content .given .1)
+returns c =
+    let content = c .before .content in
+    rw (content .given .1)
 
 returns-2 : tie.Need-returns-2
 unfolding rowFor
-returns-2 c = rw (c .before .before .content2 .given .1) (c .command-row .ensures)
+returns-2 c =
+    let content2 = c .before .before .content2 in
+    rw (content2 .given .1) (c .command-row .ensures)
 
 returns-3 : tie.Need-returns-3
 unfolding rowFor
-returns-3 c = rw (c .before .before .content3 .given .1) (c .key-row .ensures)
+returns-3 c =
+    let content3 = c .before .before .content3 in
+    rw (content3 .given .1) (c .key-row .ensures)
 
 pub row-for-spec : {M : Type 1} → statement M
 row-for-spec =
