@@ -7,7 +7,7 @@ ghost use Rattle.takes_lines.specs.Views.{ruined, emptied, behindEntry, 
 use crate::fields::Field;
 use crate::reader::KEPT_MOST;
 use crate::reader::LineReader;
-use log_batch::open::ENTRY_WIDTH;
+use pipe_log::ENTRY_WIDTH;
 
 // The reader of a malformed line.
 pub fn ruin(h: LineReader) -> LineReader
