@@ -4,7 +4,7 @@ ghost use lib.ListN.{length};
 ghost use Rattle.batch_cases.specs.Reading.{movesOn, movesTo, outcomeMovesOn, outcomeMovesTo};
 use log_batch::Call;
 use log_batch::Checked;
-use log_batch::Gate;
+use pipe_log::Gate;
 use text::Number;
 use text::number_at;
 
@@ -91,7 +91,7 @@ fn call_of(number: u64) -> Call {
         1 => Call::ReplayRewrite,
         2 => Call::LiveAppend,
         _ => Call::LiveRewrite {
-            gate: Gate::Absent,
+            gate: Gate::None,
             seq: 1,
         },
     }

@@ -10,7 +10,7 @@ use Rattle.rules.specs.Calls.{replay, merge, join, append, rewrite}
 use Rattle.rules.specs.Queries.{takeCleaned, afterTaking}
 use Rattle.history.specs.Held.{Premise}
 use Rattle.history.specs.Recovery.{onePass, history, itemsOf, Runs, run, merged, batchesOf, Made}
-use Rattle.history.specs.Demand3.{Last, Demand3}
+use Rattle.history.specs.Demand3.{Last, Demand3, Claim, Reached}
 use Rattle.history.proofs.Basics.{ok-inj}
 use Rattle.history.proofs.Contexts.{GoodContext, good-fresh}
 use Rattle.history.proofs.Passes.{Pass, pass-good, pass-split, pass-unique, batch-replay, run-merges}
@@ -121,10 +121,43 @@ module _ (batches : List Batch) (premise : Premise (itemsOf (history batches (fr
         alike = λ query. ap query e;
       }
 
-  pub demand-3 : Demand3 batches
-  demand-3 =
+  demands : Demand3 batches
+  demands =
       record {
         replay-accepted = next-replay;
         merge-accepted = next-merged;
         last = λ runs c e m. last-context c (same-context runs c e m);
       }
+
+pub demand-3 : Claim
+demand-3 batches premise = demands batches premise
+
+-- ---- every cutting has a last context, by what is accepted
+
+module _ (batches : List Batch) (d : Demand3 batches) where
+  -- the rest of a run is replayed
+  goes-on : (before so-far rest after : List Batch) (c : Context) → history batches (fresh Append) ≡ before ++ (so-far ++ (rest ++ after)) → Made (run so-far) c → (x : Context) × Made (run (so-far ++ rest)) x
+  goes-on before so-far [] after c e m = (c, rw (append-nil so-far) m)
+  goes-on before so-far (b ∷ rest) after c e m =
+      let next = d .replay-accepted before so-far (rest ++ after) b c e m in
+      rw (append-assoc so-far (b ∷ []) rest) at
+      (goes-on before (so-far ++ (b ∷ [])) rest after (next .0) (e ∙ ap (λ bs. before ++ bs) (sym (append-assoc so-far (b ∷ []) (rest ++ after)))) (Made.replayed b (next .0) m (next .1)))
+
+  -- neighbouring runs are merged
+  reaches : (runs : Runs) (before after : List Batch) → history batches (fresh Append) ≡ before ++ (batchesOf runs ++ after) → (c : Context) × Made runs c
+  unfolding batchesOf
+  reaches (run bs) before after e = goes-on before [] bs after (fresh Append) e Made.started
+  reaches (merged older newer) before after e =
+      let l = e ∙ ap (λ bs. before ++ bs) (append-assoc (batchesOf older) (batchesOf newer) after) in
+      let o = reaches older before (batchesOf newer ++ after) l in
+      let n = reaches newer (before ++ batchesOf older) after (l ∙ sym (append-assoc before (batchesOf older) (batchesOf newer ++ after))) in
+      let m = d .merge-accepted before after older newer (o .0) (n .0) e (o .1) (n .1) in
+      (m .0, Made.mergedInto (m .0) (o .1) (n .1) (m .1))
+
+  reached-last : (runs : Runs) → batchesOf runs ≡ history batches (fresh Append) → (c : Context) × Made runs c × Last batches c
+  reached-last runs e =
+      let r = reaches runs [] [] (sym e ∙ sym (append-nil (batchesOf runs))) in
+      (r .0, r .1, d .last runs (r .0) e (r .1))
+
+pub reached : Reached
+reached batches premise = reached-last batches (demand-3 batches premise)

@@ -62,3 +62,14 @@ pub record Demand3 (batches : List Batch) : Type 1 where
       → (e : Context) × (merge d c ≡ ok e)
   -- 'The last context': of runs that the whole history was cut into
   pub last : (runs : Runs) (c : Context) → batchesOf runs ≡ history batches (fresh Append) → Made runs c → Last batches c
+
+-- demand 3 as one claim: of every list of batches in whose history each compaction leaves its group an entry or finds none
+abbrev pub Claim : Type 1
+Claim = (batches : List Batch) → Premise (itemsOf (history batches (fresh Append))) → Demand3 batches
+
+-- and it is never empty: every cutting of the history, merged in any order, has a last context, of which all this holds
+abbrev pub Reached : Type 1
+Reached =
+    (batches : List Batch) → Premise (itemsOf (history batches (fresh Append)))
+    → (runs : Runs) → batchesOf runs ≡ history batches (fresh Append)
+    → (c : Context) × Made runs c × Last batches c

@@ -25,7 +25,7 @@ use Rattle.kvs.specs.RowLaws.{Same}
 use Rattle.kvs.specs.RowIn.{RowIn, row-in, number-at}
 use Rattle.kvs.specs.Places.{placeOf, laidAt, belowAt}
 use Rattle.kvs.specs.PlaceLaws.{insert-place}
-use Rattle.kvs.specs.Calls.{heldBy, Holds, given, rewrittenAs, moves, movedRows, rewrittenRows, RewriteKey}
+use Rattle.kvs.specs.Calls.{heldBy, Holds, rewrittenAs, moves, movedRows, rewrittenRows, RewriteKey}
 use Rattle.kvs.proofs.Search.{at-below}
 use Rattle.kvs.proofs.Puts.{put-holds}
 use Rattle.kvs.proofs.Found.{found-at, found-none, found-key}
@@ -179,22 +179,22 @@ module _ (i : ℕ) (rows bs : List ℕ) where
   held-rewrite e = rw (number-at i rows bs 2 (omega arith), number-at i rows bs 3 (omega arith), ne-eqb (getD rows (i * 4 + 2) 0) 0 e)
 
 module _ (n : ℕ) (rows bs k : List ℕ) (s : ℕ) (w : Wf n rows bs) (i : ℕ) (e : placeOf k (keysIn n rows bs) ≡ At i) where
-  pub ungated : getD rows (i * 4 + 2) 0 ≡ 0 → (gated : Bool) (g : ℕ) → gated ≡ false → RewriteKey n rows bs k (given gated g) s Accepted rows
-  unfolding given rewriteFile moves sameQueue orElse
-  ungated q gated g f = rw f (stays n rows bs k none s w i e _ (held-append i rows bs q) refl refl)
+  pub ungated : getD rows (i * 4 + 2) 0 ≡ 0 → RewriteKey n rows bs k none s Accepted rows
+  unfolding rewriteFile moves sameQueue orElse
+  ungated q = stays n rows bs k none s w i e _ (held-append i rows bs q) refl refl
 
-  module _ (gated : Bool) (g : ℕ) (t : gated ≡ true) (q : getD rows (i * 4 + 2) 0 ≡ 0) where
-    pub above-gate : g < getD rows (i * 4 + 3) 0 → RewriteKey n rows bs k (given gated g) s Accepted rows
-    unfolding given rewriteFile moves sameQueue orElse
+  module _ (g : ℕ) (q : getD rows (i * 4 + 2) 0 ≡ 0) where
+    pub above-gate : g < getD rows (i * 4 + 3) 0 → RewriteKey n rows bs k (some g) s Accepted rows
+    unfolding rewriteFile moves sameQueue orElse
     above-gate l =
         let f = lt-leb (getD rows (i * 4 + 3) 0) g l in
-        rw t (stays n rows bs k (some g) s w i e _ (held-append i rows bs q) (rw f) (rw f))
+        stays n rows bs k (some g) s w i e _ (held-append i rows bs q) (rw f) (rw f)
 
-    pub up-to-gate : getD rows (i * 4 + 3) 0 ≤ g → RewriteKey n rows bs k (given gated g) s Accepted (movedRows i s rows)
-    unfolding given rewriteFile moves sameQueue orElse
+    pub up-to-gate : getD rows (i * 4 + 3) 0 ≤ g → RewriteKey n rows bs k (some g) s Accepted (movedRows i s rows)
+    unfolding rewriteFile moves sameQueue orElse
     up-to-gate l =
         let f = le-leb (getD rows (i * 4 + 3) 0) g l in
-        rw t (moved n rows bs k (some g) s w i e _ (held-append i rows bs q) (rw f) (rw f))
+        moved n rows bs k (some g) s w i e _ (held-append i rows bs q) (rw f) (rw f)
 
   module _ (gate : Option ℕ) (q : getD rows (i * 4 + 2) 0 ≡ 0 → ⊥) where
     pub lower : s < getD rows (i * 4 + 3) 0 → RewriteKey n rows bs k gate s GoesBack rows

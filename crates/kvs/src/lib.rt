@@ -13,6 +13,7 @@ pub use fetch::scan;
 pub use files::count_of;
 pub use files::least_seq;
 pub use merge::merge_keys;
+use pipe_log::Gate;
 use pipe_log::LogQueue;
 use rows::close_row;
 use rows::insert_row;
@@ -21,9 +22,10 @@ use rows::move_file;
 use rows::value_at;
 use rows::write_row;
 ghost use mathlib.Core.Path.{_≡_};
+ghost use Rattle.pipe_log.specs.Numbers.{gateOf};
 ghost use Rattle.kvs.specs.Rows.{keysIn, Wf};
 ghost use Rattle.kvs.specs.Places.{placeOf};
-ghost use Rattle.kvs.specs.Calls.{heldBy, given, PutKey, DeleteKey, GetKey, RewriteKey};
+ghost use Rattle.kvs.specs.Calls.{heldBy, PutKey, DeleteKey, GetKey, RewriteKey};
 ghost use Prim.Native.Nat.{_≤_};
 ghost use lib.ListN.{length};
 
@@ -130,18 +132,17 @@ pub fn get<'a>(n: usize, rows: &[u64], bytes: &'a [u8], key: &[u8], found: &mut 
     }
 }
 
-// `rewrite_key` of a key of any length to Rewrite file `seq`, under the gate or, where `gated` is false, under none. The bytes stay.
+// `rewrite_key` of a key of any length to Rewrite file `seq`, gated or not. The bytes stay.
 pub fn rewrite_key(
     n: usize,
     rows: &mut [u64],
     bytes: &[u8],
     key: &[u8],
-    gated: bool,
-    gate: u64,
+    gate: Gate,
     seq: u64,
 ) -> Rewritten
     requires { ⌜ Wf n (now rows) (now bytes) ⌝ }
-    ensures { λ r. ⌜ RewriteKey n (now (rows .entry)) (now (bytes .entry)) (now (key .entry)) (given gated gate) seq r (now (rows .exit)) ⌝ }
+    ensures { λ r. ⌜ RewriteKey n (now (rows .entry)) (now (bytes .entry)) (now (key .entry)) (gateOf gate) seq r (now (rows .exit)) ⌝ }
 {
     let Place::At(i) = find(n, rows, bytes, key) else {
         return Rewritten::Accepted;
@@ -149,10 +150,10 @@ pub fn rewrite_key(
     let queue = rows[i * 4 + 2];
     let held = rows[i * 4 + 3];
     if queue == 0 {
-        if !gated {
+        let Gate::Seq(highest) = gate else {
             return Rewritten::Accepted;
-        }
-        if gate < held {
+        };
+        if highest < held {
             return Rewritten::Accepted;
         }
         move_file(rows, i, seq);

@@ -6,6 +6,7 @@ use Prim.Native.Nat.{ℕ}
 use lib.Dec.{eqb, ltb}
 use Rattle.maps.specs.Lists.{any, mapOption}
 use Rattle.pipe_log.specs.declared.EntryIndex.{EntryIndex}
+use Rattle.pipe_log.specs.Numbers.{gateOf}
 use Rattle.rules.specs.Limits.{maxItems, maxListEntries, maxBytes, maxIndex, maxEntryLen}
 use Rattle.rules.specs.Items as rules
 use Rattle.rules.specs.Causes.{Refusal}
@@ -19,16 +20,11 @@ use Rattle.log_batch.specs.declared.mark.AtomicGroupStatus as status
 use Rattle.log_batch.specs.declared.mark.MarkByte as byte
 use Rattle.log_batch.specs.declared.mark.Mark as mark
 use Rattle.log_batch.specs.declared.mark.FirstMark as first
-use Rattle.log_batch.specs.declared.causes.Gate as gate
 use Rattle.log_batch.specs.declared.causes.Call as call
 use Rattle.log_batch.specs.declared.checks.Checked as checked
 use Rattle.log_batch.specs.declared.checks.Best.{Best}
 
 -- ---- calls and marks
-
-unfoldable pub gateOf : gate.Gate → Option ℕ
-gateOf gate.the-variants.Absent = none
-gateOf (gate.the-variants.At n) = some n
 
 unfoldable pub callOf : call.Call → rules.Call
 callOf call.the-variants.ReplayAppend = rules.replayAppend

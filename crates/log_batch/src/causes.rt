@@ -19,6 +19,7 @@ use crate::item::LogItemContent;
 use crate::item::OpType;
 use crate::item::Value;
 use crate::item::entries_of;
+use pipe_log::Gate;
 use pipe_log::LogQueue;
 
 // The bounds of cause 2.
@@ -27,12 +28,6 @@ pub const MAX_ITEMS: usize = 32;
 pub const MAX_LIST_ENTRIES: usize = 32;
 
 pub const MAX_BYTES: usize = 32;
-
-// The gate of a live rewrite, which may be ungated.
-pub enum Gate {
-    Absent,
-    At(u64),
-}
 
 // The four calls that take a batch; a live rewrite has its gate and the batch's sequence number.
 pub enum Call {

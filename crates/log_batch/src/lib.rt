@@ -8,6 +8,5 @@ pub mod mark;
 pub mod open;
 
 pub use causes::Call;
-pub use causes::Gate;
 pub use checks::Checked;
 pub use checks::check;

@@ -9,6 +9,9 @@ use lib.Dec.{ltb, leb}
 use lib.ListN.{drop}
 use borrow.Author.Tests.{lt-ltb, le-ltb, le-leb, lt-leb}
 use Rattle.maps.specs.Lists.{first, mapOption, orElse}
+use Rattle.pipe_log.specs.declared.Bound.{Bound}
+use Rattle.pipe_log.specs.declared.Bound.the-variants as size
+use Rattle.pipe_log.specs.Numbers.{boundOf}
 use Rattle.pipe_log.specs.Rows.{withIndex, window}
 use Rattle.rules.specs.Causes.{Result, ok, refuse, andThen, entryCompacted, entryNotFound}
 use Rattle.rules.specs.Items.{EntryIndex}
@@ -19,12 +22,10 @@ use Rattle.maps.specs.BoolLaws.{and-false}
 use Rattle.memtable.specs.declared.Head.{Head}
 use Rattle.memtable.specs.declared.Fetched.{Fetched}
 use Rattle.memtable.specs.declared.Fetched.the-variants as answer
-use Rattle.memtable.specs.declared.MaxSize.{MaxSize}
-use Rattle.memtable.specs.declared.MaxSize.the-variants as size
 use Rattle.memtable.specs.declared.fetch.Range.{the-variants.Rows, the-variants.EntryCompacted, the-variants.EntryNotFound}
 use Rattle.memtable.specs.Views.{tableOf, rowAt, AnyRows, Wf}
 use Rattle.memtable.specs.Columns.{Columns, judged, columnsAfter, Answered}
-use Rattle.memtable.specs.Fetches.{sizeOf, entriesAt, RangeAnswer}
+use Rattle.memtable.specs.Fetches.{entriesAt, RangeAnswer}
 use Rattle.memtable.specs.Scans.{countBefore, sizeCount}
 use Rattle.memtable.specs.ListLaws.{select-append, select-all, select-none}
 use Rattle.memtable.specs.RowLaws.{held-row, any-drop}
@@ -64,7 +65,7 @@ module _ (f n begin end : ℕ) (xs : List ℕ) (a : f ≤ begin) (b : begin ≤ 
 
 -- ---- `fetch_range`
 
-module _ (h : Head) (xs : List ℕ) (begin end : ℕ) (s : MaxSize) where
+module _ (h : Head) (xs : List ℕ) (begin end : ℕ) (s : Bound) where
   pub range-empty : end ≤ begin → RangeAnswer h xs begin end s (Rows 0 0)
   unfolding fetchEntriesTo entriesAt window
   range-empty l = record { rule = λ keys counted. rw (le-leb end begin l); within = omega arith }
@@ -100,7 +101,7 @@ module _ (h : Head) (xs : List ℕ) (begin end : ℕ) (s : MaxSize) where
               within = omega arith;
             }
 
-        range-rows : (m : ℕ) → end ≤ h .«first_index» + h .len → m ≤ end - begin → entriesAt (begin - h .«first_index») m h xs ≡ sized (sizeOf s) (entriesAt (begin - h .«first_index») (end - begin) h xs)
+        range-rows : (m : ℕ) → end ≤ h .«first_index» + h .len → m ≤ end - begin → entriesAt (begin - h .«first_index») m h xs ≡ sized (boundOf s) (entriesAt (begin - h .«first_index») (end - begin) h xs)
             → RangeAnswer h xs begin end s (Rows (begin - h .«first_index») m)
         unfolding fetchEntriesTo tableOf orElse entriesAt
         range-rows m d b e =

@@ -1,26 +1,20 @@
 -- `fetch_entries_to`: the entries that it answers.
 use mathlib.Core.Bool.{Bool}
 use mathlib.Core.List.{List}
-use mathlib.Core.Option.{Option, none, some}
 use mathlib.Core.Path.{_≡_}
 use Prim.Native.Nat.{ℕ, _+_, _*_, _≤_}
 use lib.ListN.{drop}
 use Rattle.maps.specs.Maps.{Map}
+use Rattle.pipe_log.specs.declared.Bound.{Bound}
+use Rattle.pipe_log.specs.Numbers.{boundOf}
 use Rattle.pipe_log.specs.Rows.{window}
 use Rattle.rules.specs.Causes.{Result, ok, refuse, entryCompacted, entryNotFound}
 use Rattle.rules.specs.Items.{EntryIndex}
 use Rattle.rules.specs.Table.{Held}
 use Rattle.rules.specs.TableQueries.{fetchEntriesTo}
 use Rattle.memtable.specs.declared.Head.{Head}
-use Rattle.memtable.specs.declared.MaxSize.{MaxSize}
-use Rattle.memtable.specs.declared.MaxSize.the-variants as size
 use Rattle.memtable.specs.declared.fetch.Range.{Range, the-variants.Rows, the-variants.EntryCompacted, the-variants.EntryNotFound}
 use Rattle.memtable.specs.Views.{tableOf}
-
--- a size that may be absent
-abbrev pub sizeOf : MaxSize → Option ℕ
-sizeOf size.None = none
-sizeOf (size.At n) = some n
 
 -- n entries of a head from place a on
 unfoldable pub entriesAt : ℕ → ℕ → Head → List ℕ → List EntryIndex
@@ -36,6 +30,6 @@ rangeEnd (Rows a n) = a + n
 rangeEnd EntryCompacted = 0
 rangeEnd EntryNotFound = 0
 
-pub record RangeAnswer (h : Head) (xs : List ℕ) (begin end : ℕ) (size : MaxSize) (r : Range) : Type 0 where
-  pub rule : (keys : Map (List ℕ) Held) (counted : Bool) → rangeOf r h xs ≡ fetchEntriesTo begin end (sizeOf size) (tableOf h xs keys counted)
+pub record RangeAnswer (h : Head) (xs : List ℕ) (begin end : ℕ) (size : Bound) (r : Range) : Type 0 where
+  pub rule : (keys : Map (List ℕ) Held) (counted : Bool) → rangeOf r h xs ≡ fetchEntriesTo begin end (boundOf size) (tableOf h xs keys counted)
   pub within : rangeEnd r ≤ h .len

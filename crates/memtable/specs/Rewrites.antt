@@ -1,7 +1,7 @@
 -- `rewrite`: what its answers say.
 use mathlib.Core.Bool.{Bool, true, false}
 use mathlib.Core.List.{List}
-use mathlib.Core.Option.{Option, none, some}
+use mathlib.Core.Option.{Option, some}
 use mathlib.Core.Path.{_≡_}
 use Prim.Native.Nat.{ℕ, _+_, _-_, _*_, _/_, _≤_, _<_, max}
 use lib.ListN.{length, take}
@@ -13,16 +13,9 @@ use Rattle.rules.specs.Causes.{Result, ok, refuse, appendLeft, alreadyRewritten
 use Rattle.rules.specs.Items.{EntryIndex}
 use Rattle.rules.specs.Table.{Held, Table, entriesFrom, replaces, meetsRewrite, rewritten}
 use Rattle.memtable.specs.declared.Head.{Head}
-use Rattle.memtable.specs.declared.Gate.{Gate}
-use Rattle.memtable.specs.declared.Gate.the-variants as gate
 use Rattle.memtable.specs.declared.Rewritten.{Rewritten, the-variants.Done, the-variants.AppendLeft, the-variants.AlreadyRewritten}
 use Rattle.memtable.specs.declared.rewrite.Replacing.{Replacing, the-variants.Rows, the-variants.Already}
 use Rattle.memtable.specs.Views.{tableOf, rowAt, Wf}
-
--- a gate that may be absent
-abbrev pub gateOf : Gate → Option ℕ
-gateOf gate.None = none
-gateOf (gate.Seq n) = some n
 
 -- the rules' result for each answer
 abbrev pub rewrittenOf : Rewritten → List ℕ → Map (List ℕ) Held → Bool → Result Table

@@ -8,12 +8,13 @@ ghost use Rattle.rules.specs.Table.{Held};
 ghost use Rattle.rules.specs.TableQueries.{fetchEntriesTo, fetchEntryIndexesBefore, fetchRewrittenEntryIndexes};
 ghost use Rattle.memtable.specs.Views.{tableOf, Wf};
 ghost use Rattle.memtable.specs.Columns.{columns, SameLength, Answered};
-ghost use Rattle.memtable.specs.Fetches.{sizeOf, RangeAnswer};
+ghost use Rattle.pipe_log.specs.Numbers.{boundOf};
+ghost use Rattle.memtable.specs.Fetches.{RangeAnswer};
 use crate::Fetched;
 use crate::Head;
-use crate::MaxSize;
 use crate::scans::count_before;
 use crate::scans::count_to_size;
+use pipe_log::Bound;
 
 // The entries that a fetch answers, by their place and number.
 enum Range {
@@ -23,7 +24,7 @@ enum Range {
 }
 
 impl Head {
-    fn fetch_range(self, part: &[u64], begin: u64, end: u64, max_size: MaxSize) -> Range
+    fn fetch_range(self, part: &[u64], begin: u64, end: u64, max_size: Bound) -> Range
         requires { ⌜ Wf self (now part) ⌝ }
         ensures { λ r. ⌜ RangeAnswer self (now (part .entry)) begin end «max_size» r ⌝ }
     {
@@ -44,8 +45,8 @@ impl Head {
         let from = (begin - first) as usize;
         let count = (end - begin) as usize;
         match max_size {
-            MaxSize::None => Range::Rows(from, count),
-            MaxSize::At(size) => Range::Rows(from, count_to_size(part, from, count, size)),
+            Bound::None => Range::Rows(from, count),
+            Bound::At(size) => Range::Rows(from, count_to_size(part, from, count, size)),
         }
     }
 
@@ -55,7 +56,7 @@ impl Head {
         part: &[u64],
         begin: u64,
         end: u64,
-        max_size: MaxSize,
+        max_size: Bound,
         index: &mut [u64],
         queue: &mut [u64],
         seq: &mut [u64],
@@ -67,7 +68,7 @@ impl Head {
     ) -> Fetched
         requires { ⌜ Wf self (now part) ⌝ }
         requires { ⌜ SameLength (columns (now index) (now queue) (now seq) (now offset) (now len) (now compression) (now «entry_offset») (now «entry_len»)) ⌝ }
-        ensures { λ r. ⌜ ((keys : Map (List ℕ) Held) (counted : Bool) → Answered (fetchEntriesTo begin end (sizeOf «max_size») (tableOf self (now (part .entry)) keys counted)) (columns (now (index .entry)) (now (queue .entry)) (now (seq .entry)) (now (offset .entry)) (now (len .entry)) (now (compression .entry)) (now («entry_offset» .entry)) (now («entry_len» .entry))) r (columns (now (index .exit)) (now (queue .exit)) (now (seq .exit)) (now (offset .exit)) (now (len .exit)) (now (compression .exit)) (now («entry_offset» .exit)) (now («entry_len» .exit)))) ⌝ }
+        ensures { λ r. ⌜ ((keys : Map (List ℕ) Held) (counted : Bool) → Answered (fetchEntriesTo begin end (boundOf «max_size») (tableOf self (now (part .entry)) keys counted)) (columns (now (index .entry)) (now (queue .entry)) (now (seq .entry)) (now (offset .entry)) (now (len .entry)) (now (compression .entry)) (now («entry_offset» .entry)) (now («entry_len» .entry))) r (columns (now (index .exit)) (now (queue .exit)) (now (seq .exit)) (now (offset .exit)) (now (len .exit)) (now (compression .exit)) (now («entry_offset» .exit)) (now («entry_len» .exit)))) ⌝ }
     {
         let range = self.fetch_range(part, begin, end, max_size);
         match range {

@@ -77,18 +77,6 @@ pub enum Fetched {
     ListTooShort,
 }
 
-// The size up to which records are fetched, or that there is none.
-pub enum MaxSize {
-    None,
-    At(u64),
-}
-
-// The gate of a rewrite, or that there is none.
-pub enum Gate {
-    None,
-    Seq(u64),
-}
-
 // What a rewrite answers: the head after it, or document 01's 15 or 16.
 pub enum Rewritten {
     Done(Head),

@@ -4,13 +4,14 @@ ghost use mathlib.Core.Path.{_≡_};
 ghost use lib.ListN.{length, drop};
 ghost use Rattle.memtable.specs.Views.{Wf};
 ghost use Rattle.memtable.specs.Appends.{Lent};
-ghost use Rattle.memtable.specs.Rewrites.{gateOf, Rewriting, RunAnswer, Replaced};
-use crate::Gate;
+ghost use Rattle.pipe_log.specs.Numbers.{gateOf};
+ghost use Rattle.memtable.specs.Rewrites.{Rewriting, RunAnswer, Replaced};
 use crate::Head;
 use crate::Rewritten;
 use crate::numbers::beyond;
 use crate::numbers::lesser;
 use crate::scans::count_before;
+use pipe_log::Gate;
 
 // How many entries are replaced, or that a gated rewrite meets a Rewrite entry.
 enum Replacing {

@@ -12,10 +12,10 @@ use crate::words;
 use crate::words::Word;
 use memtable::Appended;
 use memtable::AtomicGroup;
-use memtable::Gate;
 use memtable::Head;
 use memtable::Rewritten;
 use memtable::Spanned;
+use pipe_log::Gate;
 
 // A head after a call, and what the call answers.
 pub struct Turn {
@@ -190,13 +190,6 @@ pub fn lay_list(head: Head, part: &mut [u64], line: &[u8], at: usize, way: Way) 
     lay(head, part, &rows[..end], way)
 }
 
-fn gate_of(gate: words::Gate) -> Gate {
-    if gate.given {
-        return Gate::Seq(gate.number);
-    }
-    Gate::None
-}
-
 fn rewritten(head: Head, answer: Rewritten) -> Turn
     ensures { λ r. ⌜ r .head ≡ rewrittenHead head answer ⌝ }
 {
@@ -238,12 +231,7 @@ pub fn rewrite(head: Head, part: &mut [u64], line: &[u8], at: usize) -> Turn
         return malformed(head);
     }
     let end = count * 8;
-    rewrite_rows(
-        head,
-        part,
-        &rows[..end],
-        gate_of(words::read_gate(line, at)),
-    )
+    rewrite_rows(head, part, &rows[..end], words::read_gate(line, at))
 }
 
 pub fn compact_to(head: Head, part: &mut [u64], line: &[u8], at: usize) -> Turn

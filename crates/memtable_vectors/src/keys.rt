@@ -108,7 +108,7 @@ fn rewrite_key(n: usize, rows: &mut [u64], bytes: &[u8], key: &[u8], line: &[u8]
     let Word::Number(seq, _) = words::read_number(line, words::next_word(line, at)) else {
         return malformed(n);
     };
-    let rewritten = kvs::rewrite_key(n, rows, bytes, key, gate.given, gate.number, seq);
+    let rewritten = kvs::rewrite_key(n, rows, bytes, key, gate, seq);
     match rewritten {
         Rewritten::Accepted => Turn {
             keys: n,

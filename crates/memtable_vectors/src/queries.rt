@@ -11,12 +11,12 @@ use memtable::Fetched;
 use memtable::Found;
 use memtable::FoundEntry;
 use memtable::Head;
-use memtable::MaxSize;
 use memtable::SomeBefore;
+use pipe_log::Bound;
 
 // Which records a fetch asks for.
 enum Asked {
-    To(u64, u64, MaxSize),
+    To(u64, u64, Bound),
     Before(u64),
     Rewritten,
     Malformed,
@@ -72,8 +72,8 @@ fn read_to(line: &[u8], at: usize) -> Asked {
         return Asked::Malformed;
     };
     match words::read_number(line, behind) {
-        Word::Number(size, _) => Asked::To(begin, end, MaxSize::At(size)),
-        Word::Absent(_) => Asked::To(begin, end, MaxSize::None),
+        Word::Number(size, _) => Asked::To(begin, end, Bound::At(size)),
+        Word::Absent(_) => Asked::To(begin, end, Bound::None),
         Word::Malformed => Asked::Malformed,
     }
 }

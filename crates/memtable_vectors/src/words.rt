@@ -1,6 +1,7 @@
 // The words of a line: one space parts them, and the line end ends the last one.
 ghost use Prim.Native.Nat.{_≤_};
 use cells::Order;
+use pipe_log::Gate;
 use text::Number;
 
 // A word that is a number or `-`, with the place of the next word.
@@ -179,25 +180,11 @@ pub fn read_bytes(line: &[u8], at: usize, into: &mut [u8]) -> Bytes {
 }
 
 // A gate: a number, or `-` for none. A word that is neither is taken for none.
-pub struct Gate {
-    pub given: bool,
-    pub number: u64,
-}
-
 pub fn read_gate(line: &[u8], at: usize) -> Gate {
     match read_number(line, at) {
-        Word::Number(value, _) => Gate {
-            given: true,
-            number: value,
-        },
-        Word::Absent(_) => Gate {
-            given: false,
-            number: 0,
-        },
-        Word::Malformed => Gate {
-            given: false,
-            number: 0,
-        },
+        Word::Number(value, _) => Gate::Seq(value),
+        Word::Absent(_) => Gate::None,
+        Word::Malformed => Gate::None,
     }
 }
 

@@ -35,6 +35,18 @@ pub enum EntryBlock {
     At(FileBlockHandle),
 }
 
+// The gate of a rewrite, a sequence number of the Append queue (the Rust's `Option<FileSeq>`): document 01's gated or ungated.
+pub enum Gate {
+    None,
+    Seq(u64),
+}
+
+// A number that bounds an answer, which may be absent (the Rust's `Option<usize>`).
+pub enum Bound {
+    None,
+    At(u64),
+}
+
 // Location of a log entry: document 01's entry record.
 pub struct EntryIndex {
     pub index: u64,

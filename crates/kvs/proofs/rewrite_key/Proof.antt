@@ -1,8 +1,6 @@
 -- `kvs::rewrite_key` meets its contract. Assumes nothing.
 use mathlib.Core.Path.{sym, _∙_}
 use native.Mathlib.Omega.{arith}
-use borrow.Author.Tests.{not-true, not-false}
-use Rattle.kvs.specs.Calls.{given}
 use Rattle.kvs.proofs.Search.{at-below}
 use Rattle.kvs.proofs.Rewrites.{rewrite-absent, ungated, above-gate, up-to-gate, lower, not-lower}
 use borrow.Author.Needs.{needs}
@@ -22,67 +20,157 @@ same-length : tie.Need-same-length
 same-length c = search needs
 
 returns : tie.Need-returns
-returns c = rewrite-absent (c .before .before .before .before .before .before .before .args .n) (c .before .before .before .before .before .before .before .args .rows .now) (c .before .before .before .before .before .before .before .args .bytes .now) (c .before .before .before .before .before .before .before .args .key .now) (given (c .before .before .before .before .before .before .before .args .gated) (c .before .before .before .before .before .before .before .args .gate)) (c .before .before .before .before .before .before .before .args .seq) (c .before .before .before .before .before .before .before .pre) (c .enum-told .given .0 .0) (sym (c .before .before .find .ensures) ∙ c .enum-told .given .1)
+returns c =
+    let start = c .before .before .before .before .before .before .before in
+    let find = c .before .before .find in
+    rewrite-absent _ _ _ _ _ _ (start .pre) _ (sym (find .ensures) ∙ c .enum-told .given .1)
 
 mul-queue : tie.Need-mul-queue
-mul-queue c = let b = at-below (c .before .before .before .before .before .before .before .before .args .n) (c .before .before .before .before .before .before .before .before .args .rows .now) (c .before .before .before .before .before .before .before .before .args .bytes .now) (c .before .before .before .before .before .before .before .before .args .key .now) (c .before .i .given .0 .0) (sym (c .before .before .before .find .ensures) ∙ c .before .i .given .1) in omega (arith, c .before .before .before .before .before .before .before .before .pre, c .before .before .before .before .before .before .before .before .good)
+mul-queue c =
+    let start = c .before .before .before .before .before .before .before .before in
+    let find = c .before .before .before .find in
+    let i = c .before .i in
+    let b = at-below _ _ _ _ _ (sym (find .ensures) ∙ i .given .1) in
+    omega (arith, start .pre, start .good)
 
 add-queue : tie.Need-add-queue
-add-queue c = let b = at-below (c .before .before .before .before .before .before .before .before .args .n) (c .before .before .before .before .before .before .before .before .args .rows .now) (c .before .before .before .before .before .before .before .before .args .bytes .now) (c .before .before .before .before .before .before .before .before .args .key .now) (c .before .i .given .0 .0) (sym (c .before .before .before .find .ensures) ∙ c .before .i .given .1) in omega (arith, c .before .before .before .before .before .before .before .before .pre, c .before .before .before .before .before .before .before .before .good)
+add-queue c =
+    let start = c .before .before .before .before .before .before .before .before in
+    let find = c .before .before .before .find in
+    let i = c .before .i in
+    let b = at-below _ _ _ _ _ (sym (find .ensures) ∙ i .given .1) in
+    omega (arith, start .pre, start .good)
 
 mul-queue-2 : tie.Need-mul-queue-2
-mul-queue-2 c = let b = at-below (c .before .before .before .before .before .before .before .before .args .n) (c .before .before .before .before .before .before .before .before .args .rows .now) (c .before .before .before .before .before .before .before .before .args .bytes .now) (c .before .before .before .before .before .before .before .before .args .key .now) (c .before .i .given .0 .0) (sym (c .before .before .before .find .ensures) ∙ c .before .i .given .1) in omega (arith, c .before .before .before .before .before .before .before .before .pre, c .before .before .before .before .before .before .before .before .good)
+mul-queue-2 c =
+    let start = c .before .before .before .before .before .before .before .before in
+    let find = c .before .before .before .find in
+    let i = c .before .i in
+    let b = at-below _ _ _ _ _ (sym (find .ensures) ∙ i .given .1) in
+    omega (arith, start .pre, start .good)
 
 slice-read-queue : tie.Need-slice-read-queue
-slice-read-queue c = let b = at-below (c .before .before .before .before .before .before .before .before .before .args .n) (c .before .before .before .before .before .before .before .before .before .args .rows .now) (c .before .before .before .before .before .before .before .before .before .args .bytes .now) (c .before .before .before .before .before .before .before .before .before .args .key .now) (c .before .before .i .given .0 .0) (sym (c .before .before .before .before .find .ensures) ∙ c .before .before .i .given .1) in omega (arith, c .before .before .before .before .before .before .before .before .before .pre, c .before .before .before .before .before .before .before .before .before .good)
+slice-read-queue c =
+    let start = c .before .before .before .before .before .before .before .before .before in
+    let find = c .before .before .before .before .find in
+    let i = c .before .before .i in
+    let b = at-below _ _ _ _ _ (sym (find .ensures) ∙ i .given .1) in
+    omega (arith, start .pre, start .good)
 
 mul-held : tie.Need-mul-held
-mul-held c = let b = at-below (c .before .before .before .before .before .before .before .before .before .args .n) (c .before .before .before .before .before .before .before .before .before .args .rows .now) (c .before .before .before .before .before .before .before .before .before .args .bytes .now) (c .before .before .before .before .before .before .before .before .before .args .key .now) (c .before .before .i .given .0 .0) (sym (c .before .before .before .before .find .ensures) ∙ c .before .before .i .given .1) in omega (arith, c .before .before .before .before .before .before .before .before .before .pre, c .before .before .before .before .before .before .before .before .before .good)
+mul-held c =
+    let start = c .before .before .before .before .before .before .before .before .before in
+    let find = c .before .before .before .before .find in
+    let i = c .before .before .i in
+    let b = at-below _ _ _ _ _ (sym (find .ensures) ∙ i .given .1) in
+    omega (arith, start .pre, start .good)
 
 add-held : tie.Need-add-held
-add-held c = let b = at-below (c .before .before .before .before .before .before .before .before .before .args .n) (c .before .before .before .before .before .before .before .before .before .args .rows .now) (c .before .before .before .before .before .before .before .before .before .args .bytes .now) (c .before .before .before .before .before .before .before .before .before .args .key .now) (c .before .before .i .given .0 .0) (sym (c .before .before .before .before .find .ensures) ∙ c .before .before .i .given .1) in omega (arith, c .before .before .before .before .before .before .before .before .before .pre, c .before .before .before .before .before .before .before .before .before .good)
+add-held c =
+    let start = c .before .before .before .before .before .before .before .before .before in
+    let find = c .before .before .before .before .find in
+    let i = c .before .before .i in
+    let b = at-below _ _ _ _ _ (sym (find .ensures) ∙ i .given .1) in
+    omega (arith, start .pre, start .good)
 
 mul-held-2 : tie.Need-mul-held-2
-mul-held-2 c = let b = at-below (c .before .before .before .before .before .before .before .before .before .args .n) (c .before .before .before .before .before .before .before .before .before .args .rows .now) (c .before .before .before .before .before .before .before .before .before .args .bytes .now) (c .before .before .before .before .before .before .before .before .before .args .key .now) (c .before .before .i .given .0 .0) (sym (c .before .before .before .before .find .ensures) ∙ c .before .before .i .given .1) in omega (arith, c .before .before .before .before .before .before .before .before .before .pre, c .before .before .before .before .before .before .before .before .before .good)
+mul-held-2 c =
+    let start = c .before .before .before .before .before .before .before .before .before in
+    let find = c .before .before .before .before .find in
+    let i = c .before .before .i in
+    let b = at-below _ _ _ _ _ (sym (find .ensures) ∙ i .given .1) in
+    omega (arith, start .pre, start .good)
 
 slice-read-held : tie.Need-slice-read-held
-slice-read-held c = let b = at-below (c .before .before .before .before .before .before .before .before .before .before .args .n) (c .before .before .before .before .before .before .before .before .before .before .args .rows .now) (c .before .before .before .before .before .before .before .before .before .before .args .bytes .now) (c .before .before .before .before .before .before .before .before .before .before .args .key .now) (c .before .before .before .i .given .0 .0) (sym (c .before .before .before .before .before .find .ensures) ∙ c .before .before .before .i .given .1) in omega (arith, c .before .before .before .before .before .before .before .before .before .before .pre, c .before .before .before .before .before .before .before .before .before .before .good)
+slice-read-held c =
+    let start = c .before .before .before .before .before .before .before .before .before .before in
+    let find = c .before .before .before .before .before .find in
+    let i = c .before .before .before .i in
+    let b = at-below _ _ _ _ _ (sym (find .ensures) ∙ i .given .1) in
+    omega (arith, start .pre, start .good)
+
+enum-known-gate : tie.Need-enum-known-gate
+enum-known-gate c = search needs
+
+enum-told-2 : tie.Need-enum-told-2
+enum-told-2 c = search needs
 
 same-length-2 : tie.Need-same-length-2
 same-length-2 c = search needs
 
 returns-2 : tie.Need-returns-2
-returns-2 c = ungated (c .before .before .before .before .before .before .before .before .before .before .before .before .args .n) (c .before .before .before .before .before .before .before .before .before .before .before .before .args .rows .now) (c .before .before .before .before .before .before .before .before .before .before .before .before .args .bytes .now) (c .before .before .before .before .before .before .before .before .before .before .before .before .args .key .now) (c .before .before .before .before .before .before .before .before .before .before .before .before .args .seq) (c .before .before .before .before .before .before .before .before .before .before .before .before .pre) (c .before .before .before .before .before .i .given .0 .0) (sym (c .before .before .before .before .before .before .before .find .ensures) ∙ c .before .before .before .before .before .i .given .1) (c .before .if1 .taken) (c .before .before .before .before .before .before .before .before .before .before .before .before .args .gated) (c .before .before .before .before .before .before .before .before .before .before .before .before .args .gate) (not-true _ (c .if2 .taken))
+returns-2 c =
+    let start = c .before .before .before .before .before .before .before .before .before .before .before .before .before in
+    let find = c .before .before .before .before .before .before .before .before .find in
+    let i = c .before .before .before .before .before .before .i in
+    let if1 = c .before .before .if1 in
+    rw (c .enum-told2 .given .1) (ungated _ _ _ _ _ (start .pre) _ (sym (find .ensures) ∙ i .given .1) (if1 .taken))
 
 same-length-3 : tie.Need-same-length-3
 same-length-3 c = search needs
 
 returns-3 : tie.Need-returns-3
-returns-3 c = above-gate (c .before .before .before .before .before .before .before .before .before .before .before .before .before .args .n) (c .before .before .before .before .before .before .before .before .before .before .before .before .before .args .rows .now) (c .before .before .before .before .before .before .before .before .before .before .before .before .before .args .bytes .now) (c .before .before .before .before .before .before .before .before .before .before .before .before .before .args .key .now) (c .before .before .before .before .before .before .before .before .before .before .before .before .before .args .seq) (c .before .before .before .before .before .before .before .before .before .before .before .before .before .pre) (c .before .before .before .before .before .before .i .given .0 .0) (sym (c .before .before .before .before .before .before .before .before .find .ensures) ∙ c .before .before .before .before .before .before .i .given .1) (c .before .before .before .before .before .before .before .before .before .before .before .before .before .args .gated) (c .before .before .before .before .before .before .before .before .before .before .before .before .before .args .gate) (not-false _ (c .before .if2 .left)) (c .before .before .if1 .taken) (c .if3 .taken)
+returns-3 c =
+    let start = c .before .before .before .before .before .before .before .before .before .before .before .before .before .before .before in
+    let find = c .before .before .before .before .before .before .before .before .before .before .find in
+    let i = c .before .before .before .before .before .before .before .before .i in
+    let if1 = c .before .before .before .before .if1 in
+    let gate = c .before .before .gate in
+    rw (gate .given .1) (above-gate _ _ _ _ _ (start .pre) _ (sym (find .ensures) ∙ i .given .1) _ (if1 .taken) (c .if2 .taken))
 
 move-file-requires : tie.Need-move-file-requires
-move-file-requires c κs = let b = at-below (c .before .before .before .before .before .before .before .before .before .before .before .before .before .before .args .n) (c .before .before .before .before .before .before .before .before .before .before .before .before .before .before .args .rows .now) (c .before .before .before .before .before .before .before .before .before .before .before .before .before .before .args .bytes .now) (c .before .before .before .before .before .before .before .before .before .before .before .before .before .before .args .key .now) (c .before .before .before .before .before .before .before .i .given .0 .0) (sym (c .before .before .before .before .before .before .before .before .before .find .ensures) ∙ c .before .before .before .before .before .before .before .i .given .1) in omega (arith, c .before .before .before .before .before .before .before .before .before .before .before .before .before .before .pre, c .before .before .before .before .before .before .before .before .before .before .before .before .before .before .good)
+move-file-requires c κs =
+    let start = c .before .before .before .before .before .before .before .before .before .before .before .before .before .before .before .before in
+    let find = c .before .before .before .before .before .before .before .before .before .before .before .find in
+    let i = c .before .before .before .before .before .before .before .before .before .i in
+    let b = at-below _ _ _ _ _ (sym (find .ensures) ∙ i .given .1) in
+    omega (arith, start .pre, start .good)
 
 same-length-4 : tie.Need-same-length-4
 same-length-4 c = search needs
 
 returns-4 : tie.Need-returns-4
-returns-4 c = rw (c .before .before .move-file .ensures) (up-to-gate (c .before .before .before .before .before .before .before .before .before .before .before .before .before .before .before .before .before .args .n) (c .before .before .before .before .before .before .before .before .before .before .before .before .before .before .before .before .before .args .rows .now) (c .before .before .before .before .before .before .before .before .before .before .before .before .before .before .before .before .before .args .bytes .now) (c .before .before .before .before .before .before .before .before .before .before .before .before .before .before .before .before .before .args .key .now) (c .before .before .before .before .before .before .before .before .before .before .before .before .before .before .before .before .before .args .seq) (c .before .before .before .before .before .before .before .before .before .before .before .before .before .before .before .before .before .pre) (c .before .before .before .before .before .before .before .before .before .before .i .given .0 .0) (sym (c .before .before .before .before .before .before .before .before .before .before .before .before .find .ensures) ∙ c .before .before .before .before .before .before .before .before .before .before .i .given .1) (c .before .before .before .before .before .before .before .before .before .before .before .before .before .before .before .before .before .args .gated) (c .before .before .before .before .before .before .before .before .before .before .before .before .before .before .before .before .before .args .gate) (not-false _ (c .before .before .before .before .before .if2 .left)) (c .before .before .before .before .before .before .if1 .taken) (c .before .before .before .before .if3 .left))
+returns-4 c =
+    let start = c .before .before .before .before .before .before .before .before .before .before .before .before .before .before .before .before .before .before .before in
+    let find = c .before .before .before .before .before .before .before .before .before .before .before .before .before .before .find in
+    let i = c .before .before .before .before .before .before .before .before .before .before .before .before .i in
+    let if1 = c .before .before .before .before .before .before .before .before .if1 in
+    let gate = c .before .before .before .before .before .before .gate in
+    let if2 = c .before .before .before .before .if2 in
+    let move-file = c .before .before .move-file in
+    rw (gate .given .1, move-file .ensures) (up-to-gate _ _ _ _ _ (start .pre) _ (sym (find .ensures) ∙ i .given .1) _ (if1 .taken) (if2 .left))
 
 same-length-5 : tie.Need-same-length-5
 same-length-5 c = search needs
 
 returns-5 : tie.Need-returns-5
-returns-5 c = lower (c .before .before .before .before .before .before .before .before .before .before .before .before .args .n) (c .before .before .before .before .before .before .before .before .before .before .before .before .args .rows .now) (c .before .before .before .before .before .before .before .before .before .before .before .before .args .bytes .now) (c .before .before .before .before .before .before .before .before .before .before .before .before .args .key .now) (c .before .before .before .before .before .before .before .before .before .before .before .before .args .seq) (c .before .before .before .before .before .before .before .before .before .before .before .before .pre) (c .before .before .before .before .before .i .given .0 .0) (sym (c .before .before .before .before .before .before .before .find .ensures) ∙ c .before .before .before .before .before .i .given .1) _ (c .before .if1 .left) (c .if4 .taken)
+returns-5 c =
+    let start = c .before .before .before .before .before .before .before .before .before .before .before .before in
+    let find = c .before .before .before .before .before .before .before .find in
+    let i = c .before .before .before .before .before .i in
+    let if1 = c .before .if1 in
+    lower _ _ _ _ _ (start .pre) _ (sym (find .ensures) ∙ i .given .1) _ (if1 .left) (c .if3 .taken)
 
 move-file-requires-2 : tie.Need-move-file-requires-2
-move-file-requires-2 c κs = let b = at-below (c .before .before .before .before .before .before .before .before .before .before .before .before .before .args .n) (c .before .before .before .before .before .before .before .before .before .before .before .before .before .args .rows .now) (c .before .before .before .before .before .before .before .before .before .before .before .before .before .args .bytes .now) (c .before .before .before .before .before .before .before .before .before .before .before .before .before .args .key .now) (c .before .before .before .before .before .before .i .given .0 .0) (sym (c .before .before .before .before .before .before .before .before .find .ensures) ∙ c .before .before .before .before .before .before .i .given .1) in omega (arith, c .before .before .before .before .before .before .before .before .before .before .before .before .before .pre, c .before .before .before .before .before .before .before .before .before .before .before .before .before .good)
+move-file-requires-2 c κs =
+    let start = c .before .before .before .before .before .before .before .before .before .before .before .before .before in
+    let find = c .before .before .before .before .before .before .before .before .find in
+    let i = c .before .before .before .before .before .before .i in
+    let b = at-below _ _ _ _ _ (sym (find .ensures) ∙ i .given .1) in
+    omega (arith, start .pre, start .good)
 
 same-length-6 : tie.Need-same-length-6
 same-length-6 c = search needs
 
 returns-6 : tie.Need-returns-6
-returns-6 c = rw (c .before .before .move-file2 .ensures) (not-lower (c .before .before .before .before .before .before .before .before .before .before .before .before .before .before .before .before .args .n) (c .before .before .before .before .before .before .before .before .before .before .before .before .before .before .before .before .args .rows .now) (c .before .before .before .before .before .before .before .before .before .before .before .before .before .before .before .before .args .bytes .now) (c .before .before .before .before .before .before .before .before .before .before .before .before .before .before .before .before .args .key .now) (c .before .before .before .before .before .before .before .before .before .before .before .before .before .before .before .before .args .seq) (c .before .before .before .before .before .before .before .before .before .before .before .before .before .before .before .before .pre) (c .before .before .before .before .before .before .before .before .before .i .given .0 .0) (sym (c .before .before .before .before .before .before .before .before .before .before .before .find .ensures) ∙ c .before .before .before .before .before .before .before .before .before .i .given .1) _ (c .before .before .before .before .before .if1 .left) (c .before .before .before .before .if4 .left))
+returns-6 c =
+    let start = c .before .before .before .before .before .before .before .before .before .before .before .before .before .before .before .before in
+    let find = c .before .before .before .before .before .before .before .before .before .before .before .find in
+    let i = c .before .before .before .before .before .before .before .before .before .i in
+    let if1 = c .before .before .before .before .before .if1 in
+    let if3 = c .before .before .before .before .if3 in
+    let move-file2 = c .before .before .move-file2 in
+    rw (move-file2 .ensures) (not-lower _ _ _ _ _ (start .pre) _ (sym (find .ensures) ∙ i .given .1) _ (if1 .left) (if3 .left))
 
 pub rewrite-key-spec : {M : Type 1} → statement M
 rewrite-key-spec =
@@ -101,6 +189,8 @@ rewrite-key-spec =
     add-held
     mul-held-2
     slice-read-held
+    enum-known-gate
+    enum-told-2
     same-length-2
     returns-2
     same-length-3

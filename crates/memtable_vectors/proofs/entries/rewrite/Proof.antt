@@ -35,9 +35,6 @@ slice-aggregate-rewrite-rows c = sym (length-take-le (c .before .before .before 
 read-gate-requires : tie.Need-read-gate-requires
 read-gate-requires c κs = search needs
 
-gate-of-requires : tie.Need-gate-of-requires
-gate-of-requires c κs = search needs
-
 rewrite-rows-requires : tie.Need-rewrite-rows-requires
 rewrite-rows-requires c κs = search needs
 
@@ -60,7 +57,6 @@ rewrite-spec =
     array-share-prefix-rows
     slice-aggregate-rewrite-rows
     read-gate-requires
-    gate-of-requires
     rewrite-rows-requires
     same-length
     returns-2)
