@@ -1,2 +1,4 @@
 -- Contexts and the index over lent areas: what an item does, the view of an area, and what the calls promise.
 pub mod Steps
+pub mod Deeds
+pub mod DeedLaws
