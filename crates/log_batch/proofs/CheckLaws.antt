@@ -3,22 +3,21 @@ use mathlib.Core.Bool.{Bool, true, false, cond}
 use mathlib.Core.Path.{_≡_, refl, sym, ap, _∙_}
 use mathlib.Core.List.{List}
 use mathlib.Core.Option.{Option, none, some}
-use Prim.Native.Nat.{ℕ, zero, suc, _+_, _*_, _/_, _-_, _≤_, _<_}
+use Prim.Native.Nat.{ℕ, zero, suc, _+_, _*_, _-_, _≤_, _<_}
 use native.Mathlib.Decide.{decLe}
 use native.Mathlib.Omega.{arith}
 use lib.Dec.{ltb}
-use lib.ListN.{length, drop}
+use lib.ListN.{drop}
 use borrow.Author.Tests.{ltb-true, ltb-false}
 use Rattle.maps.specs.Lists.{findFrom}
 use Rattle.rules.specs.Causes.{Cause, numberOf, Refusal, tooLong, incomplete, outOfRange, wrongQueue, notRewritable, badMark}
 use Rattle.rules.specs.Items.{LogItem, Call, replayAppend, replayRewrite, liveAppend, liveRewrite}
 use Rattle.rules.specs.Checks.{Mark, isRewriteReplay, meets7, firstMark, orNext, checks}
 use Rattle.log_batch.specs.declared.checks.Best.{Best}
-use Rattle.log_batch.specs.declared.open.Opened.{the-variants.Refused}
-use Rattle.log_batch.specs.Lent.{rowCount, openedRow, itemAt, itemsFrom, itemsOf}
+use Rattle.log_batch.specs.Lent.{rowCount, itemAt, itemsFrom, itemsOf}
 use Rattle.log_batch.specs.Judged.{judge, leastOf, lesserOf, markFor}
-use Rattle.log_batch.proofs.ItemLaws.{item-is, items-start, find-end, find-here, find-more, none-met}
-use Rattle.log_batch.proofs.LeastLaws.{refused-is-3, Least, least-of}
+use Rattle.log_batch.proofs.ItemLaws.{items-start, find-end, find-here, find-more}
+use Rattle.log_batch.proofs.LeastLaws.{Least, least-of}
 
 -- ---- the chain by numbers
 
@@ -131,30 +130,3 @@ module _ (call : Call) (m : Option Mark) (xs es bs : List ℕ) where
       pub passed-at-end : b .number ≡ 8 → none ≡ checks call (itemsOf xs es bs)
       passed-at-end e =
           sym (rw (checks-chain (itemsOf xs es bs) call, ← marks) (chain-passed (λ (n : ℕ). findFrom (judge call m n) 0 (itemsOf xs es bs)) 6 2 (λ n a c. none-below n a (omega arith))))
-
--- ---- after the checks every row is an item
-
-found-none : (n : ℕ) (o : Option ℕ) (x : Option Refusal) → orNumber n o x ≡ none → o ≡ none
-unfolding orNumber
-found-none n none x e = refl
-found-none n (some p) x e = let z : _≡_ {A = ℕ} 0 1 = cc in absurd (omega arith)
-
-next-none : (n : ℕ) (o : Option ℕ) (x : Option Refusal) → orNumber n o x ≡ none → x ≡ none
-unfolding orNumber
-next-none n none x e = e
-next-none n (some p) x e = let z : _≡_ {A = ℕ} 0 1 = cc in absurd (omega arith)
-
-third-none : (found : ℕ → Option ℕ) → chain found 6 2 ≡ none → found 3 ≡ none
-unfolding chain
-third-none found e = found-none 3 (found 3) _ (next-none 2 (found 2) _ e)
-
-pub passed-opens : (call : Call) (xs es bs : List ℕ) (i g : ℕ) → checks call (itemsOf xs es bs) ≡ none → i < rowCount xs → openedRow (drop (i * 9) xs) (length es / 8) (length bs) ≡ Refused g → ⊥
-unfolding itemsOf
-passed-opens call xs es bs i g passed h row =
-    let m = markFor call (itemsOf xs es bs) in
-    let third = third-none _ (sym (checks-chain (itemsOf xs es bs) call) ∙ passed) in
-    let here = none-met es bs xs (rowCount xs) (judge call m 3) i h third in
-    let refused = rw (item-is es bs _ _ row) at here in
-    let z : true ≡ false = sym (refused-is-3 call m i g es bs) ∙ refused in
-    let t : _≡_ {A = ℕ} 0 1 = cc in
-    omega arith

@@ -1,9 +1,9 @@
 -- Reserved keys and marks, and scans over the items from item i on. Assumes nothing.
 use mathlib.Core.Bool.{Bool, true, false, _&&_}
-use mathlib.Core.Path.{_≡_, refl, sym, ap, _∙_}
+use mathlib.Core.Path.{_≡_, refl}
 use mathlib.Core.List.{List, [], _∷_}
 use mathlib.Core.Option.{Option, none, some}
-use Prim.Native.Nat.{ℕ, zero, suc, _+_, _*_, _/_, _-_, _≤_, _<_}
+use Prim.Native.Nat.{ℕ, zero, suc, _+_, _*_, _-_, _≤_, _<_}
 use native.Mathlib.Numerals.{add-one}
 use native.Mathlib.Omega.{arith}
 use lib.Dec.{eqb}
@@ -15,9 +15,9 @@ use Rattle.maps.specs.Maps.{sameBytes}
 use Rattle.rules.specs.Limits.{reservedKey}
 use Rattle.rules.specs.Items.{LogItem, oneByte, end, statusOf}
 use Rattle.rules.specs.Checks.{Mark, firstMark}
-use Rattle.log_batch.specs.declared.open.Opened.{Opened}
-use Rattle.log_batch.specs.Lent.{openedRow, openedOf, itemAt, itemsFrom}
+use Rattle.log_batch.specs.Lent.{itemAt, itemsFrom}
 use Rattle.log_batch.specs.Judged.{markHere}
+pub use Rattle.log_batch.specs.OpenLaws.{item-is}
 
 -- ---- reserved keys
 
@@ -73,11 +73,6 @@ module _ (f : ℕ → Mark) (d : Option Mark) where
 -- ---- the items from item i on
 
 module _ (es bs : List ℕ) where
-  -- what a row is opened into is its item
-  pub item-is : (row : List ℕ) (o : Opened) → openedRow row (length es / 8) (length bs) ≡ o → itemAt es bs row ≡ openedOf o es bs
-  unfolding itemAt
-  item-is row o e = rw e
-
   pub items-start : (n : ℕ) (xs : List ℕ) → itemsFrom es bs n xs ≡ itemsFrom es bs (n - 0) (drop (0 * 9) xs)
   items-start n xs = let e : n - 0 ≡ n = omega arith in rw e
 
@@ -126,25 +121,3 @@ unfolding statusOf
 status-end zero p q = absurd (p refl)
 status-end (suc zero) p q = absurd (q refl)
 status-end (suc (suc n)) p q = refl
-
--- ---- no item meets a test that is found nowhere
-
-some-none : (p : ℕ) → some p ≡ none → ⊥
-some-none p e = let z : _≡_ {A = ℕ} 0 1 = cc in omega arith
-
-not-met : (b : Bool) → (b ≡ true → ⊥) → b ≡ false
-not-met true h = absurd (h refl)
-not-met false h = refl
-
-module _ (es bs xs : List ℕ) (n : ℕ) (p : ℕ → LogItem → Bool) where
-  none-here : (i : ℕ) → i < n → findFrom p i (itemsFrom es bs (n - i) (drop (i * 9) xs)) ≡ none → p i (itemAt es bs (drop (i * 9) xs)) ≡ false
-  none-here i h e = not-met _ (λ t. some-none i (sym (find-here es bs n i xs p h t) ∙ e))
-
-  none-from : (k j i : ℕ) → j + k ≡ i → i < n → findFrom p j (itemsFrom es bs (n - j) (drop (j * 9) xs)) ≡ none → p i (itemAt es bs (drop (i * 9) xs)) ≡ false
-  none-from zero j i h l e = let same : j ≡ i = omega arith in none-here i l (rw same at e)
-  none-from (suc k) j i h l e =
-      let s : j < n = omega arith in
-      none-from k (j + 1) i (omega arith) l (sym (find-more es bs n j xs p s (none-here j s e)) ∙ e)
-
-  pub none-met : (i : ℕ) → i < n → findFrom p 0 (itemsFrom es bs n xs) ≡ none → p i (itemAt es bs (drop (i * 9) xs)) ≡ false
-  none-met i h e = none-from i 0 i (omega arith) h (ap (findFrom p 0) (sym (items-start es bs n xs)) ∙ e)

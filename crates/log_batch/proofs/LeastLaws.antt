@@ -1,9 +1,9 @@
 -- The least number that one item meets. Assumes nothing.
 use mathlib.Core.Bool.{Bool, true, false, cond}
-use mathlib.Core.Path.{_≡_, refl, ap}
+use mathlib.Core.Path.{_≡_, refl}
 use mathlib.Core.List.{List}
 use mathlib.Core.Option.{Option}
-use Prim.Native.Nat.{ℕ, zero, suc, _-_, _≤_, _<_}
+use Prim.Native.Nat.{ℕ, suc, _≤_, _<_}
 use native.Mathlib.Decide.{decLe}
 use native.Mathlib.Omega.{arith}
 use lib.Dec.{ltb}
@@ -11,7 +11,6 @@ use lib.ListN.{length}
 use borrow.Author.Tests.{eq-eqb, ne-eqb, lt-ltb, le-ltb}
 use Rattle.cells.specs.PartLaws.{length-part}
 use Rattle.maps.specs.Lists.{any, orElse}
-use Rattle.pipe_log.specs.Rows.{entriesOf}
 use Rattle.rules.specs.Items.{hasFile, LogItem, isReserved, Call}
 use Rattle.rules.specs.Checks.{Mark, longChange, long, isIncomplete, isOutOfRange, isOtherQueue, isNotRewritable, meets3, unlessReserved}
 use Rattle.log_batch.specs.declared.item.OpType as op
@@ -20,14 +19,10 @@ use Rattle.log_batch.specs.declared.item.KeyFile.{KeyFile}
 use Rattle.log_batch.specs.declared.item.LogItemContent as content
 use Rattle.log_batch.specs.declared.open.Opened.{the-variants.Refused}
 use Rattle.log_batch.specs.Lent.{valueOf, changeOf, keyChange, keyContent, contentOf, withoutFile, openedOf, valueWithin, bytesWithin}
+use Rattle.log_batch.specs.OpenLaws.{length-entries}
 use Rattle.log_batch.specs.Judged.{longValue, longKey, longPlaces, incompleteMark, leastContent, leastMark, judge, leastOf}
 
 -- ---- `long` by the places
-
-length-rows : (n : ℕ) (xs : List ℕ) → length (entriesOf n xs) ≡ n
-unfolding entriesOf
-length-rows zero xs = refl
-length-rows (suc n) xs = ap suc (length-rows n _)
 
 long-value : (o : op.OpType) (v : value.Value) (f : KeyFile) (bs : List ℕ) → valueWithin v (length bs) → longValue o v ≡ longChange (changeOf o v f bs)
 unfolding longValue longChange changeOf valueOf orElse
@@ -37,7 +32,7 @@ long-value op.the-variants.Put (value.the-variants.At a n) f bs w = rw (length-p
 
 pub long-is : (c : content.LogItemContent) (es bs : List ℕ) → bytesWithin c (length bs) → longPlaces c ≡ long (contentOf c es bs)
 unfolding longPlaces longKey long contentOf keyContent keyChange
-long-is (content.the-variants.EntryIndexes e) es bs w = rw (length-rows (e .count) _)
+long-is (content.the-variants.EntryIndexes e) es bs w = rw (length-entries (e .count) _)
 long-is (content.the-variants.Command c) es bs w = refl
 long-is (content.the-variants.Kv k) es bs w =
     rw (length-part (k .«key_at») (k .«key_len») bs (w .0), long-value (k .«op_type») (k .value) (k .«file_id») bs (w .1))
@@ -83,10 +78,6 @@ module _ (call : Call) (m : Option Mark) (i : ℕ) (it : LogItem) where
 pub least-refused : (call : Call) (m : Option Mark) (i g : ℕ) (es bs : List ℕ) → (i ≡ 32 → ⊥) → leastOf call m i (openedOf (Refused g) es bs) ≡ 3
 unfolding leastOf judge openedOf withoutFile long meets3 isReserved isIncomplete any hasFile
 least-refused call m i g es bs h = rw (ne-eqb i 32 h)
-
-pub refused-is-3 : (call : Call) (m : Option Mark) (i g : ℕ) (es bs : List ℕ) → judge call m 3 i (openedOf (Refused g) es bs) ≡ true
-unfolding judge openedOf withoutFile meets3 isReserved isIncomplete any hasFile
-refused-is-3 call m i g es bs = refl
 
 -- ---- the first number of a run that meets a test
 

@@ -2,7 +2,8 @@
 use Prim.Native.Nat.{_*_}
 use native.Mathlib.Omega.{arith}
 use borrow.Author.Needs.{needs}
-use Rattle.log_batch.proofs.PlaceLaws.{row-begins, row-left, opened-within, lent-back}
+use Rattle.log_batch.specs.OpenLaws.{opened-within}
+use Rattle.log_batch.proofs.PlaceLaws.{row-begins, row-left, lent-back}
 use Rattle.log_batch.proofs.open.open_item.Statement.{statement}
 use Rattle.log_batch.proofs.open.open_item.Tie as tie
 
