@@ -1,6 +1,6 @@
 -- What the checks 2 to 6 say of an item that passed them, and that a deed is what the rules say of its item. Assumes nothing.
 use mathlib.Core.Bool.{Bool, true, false, cond, not, _&&_, _||_}
-use mathlib.Core.List.{List, []}
+use mathlib.Core.List.{List, [], _∷_}
 use mathlib.Core.Option.{Option, none, some}
 use mathlib.Core.Path.{_≡_, refl, sym, ap, _∙_}
 use Prim.Native.Nat.{ℕ, _+_, _*_, _/_, _≤_, _<_, _^_}
@@ -33,7 +33,8 @@ use Rattle.log_batch.specs.declared.item.EntryIndexes.{EntryIndexes}
 use Rattle.log_batch.specs.declared.item.LogItemContent as content
 use Rattle.log_batch.specs.Lent.{rowCount, itemAt, itemsOf, contentOf, keyContent, keyChange, changeOf, valueOf, keyFileOf, commandOf, Within}
 use Rattle.log_batch.specs.Judged.{callOf}
-use Rattle.log_batch.proofs.ItemLaws.{none-met}
+use Rattle.log_batch.specs.OpenLaws.{bareOp, Bare}
+use Rattle.log_batch.specs.PassedLaws.{Passed}
 use Rattle.stretch.specs.declared.Change as change′
 use Rattle.stretch.specs.Changes.{ruleOf, Ready}
 use Rattle.index.specs.declared.Deed as deed
@@ -49,42 +50,16 @@ pub record Clear (c : rules.Call) (x : rules.Content) : Type 0 where
   pub own-queue : isOtherQueue c x ≡ false
   pub rewritable : isNotRewritable c x ≡ false
 
-some-not-none : {A : Type 0} {a : A} → some a ≡ none → ⊥
-some-not-none e = let z : _≡_ {A = ℕ} 0 1 = cc in omega arith
-
-none-found : (n : Cause) (o : Option ℕ) (x : Option Refusal) → orNext n o x ≡ none → o ≡ none
-unfolding orNext
-none-found n none x e = refl
-none-found n (some p) x e = absurd (some-not-none e)
-
-none-next : (n : Cause) (o : Option ℕ) (x : Option Refusal) → orNext n o x ≡ none → x ≡ none
-unfolding orNext
-none-next n none x e = e
-none-next n (some p) x e = absurd (some-not-none e)
-
-module _ (c : rules.Call) (xs es bs : List ℕ) (passed : checks c (itemsOf xs es bs) ≡ none) (i : ℕ) (h : i < rowCount xs) where
-  abbrev item : rules.LogItem
-  item = itemAt es bs (drop (i * 9) xs)
-
-  pub item-short : long (item .content) ≡ false
-  unfolding checks itemsOf
-  item-short =
-      neither-right (eqb i maxItems) (long (item .content))
-      (none-met es bs xs (rowCount xs) (λ j it. eqb j maxItems || long (it .content)) i h (none-found _ _ _ passed))
-
-  pub item-clear : rules.isReserved (item .content) ≡ false → Clear c (item .content)
-  unfolding checks itemsOf meets3 unlessReserved
-  item-clear r =
-      let from3 = none-next _ _ _ passed in
-      let from4 = none-next _ _ _ from3 in
-      let from5 = none-next _ _ _ from4 in
-      let from6 = none-next _ _ _ from5 in
+module _ (c : rules.Call) (items : List rules.LogItem) (i : ℕ) (it : rules.LogItem) (p : Passed c items i it) (r : rules.isReserved (it .content) ≡ false) where
+  pub passed-clear : Clear c (it .content)
+  unfolding meets3 unlessReserved
+  passed-clear =
       record {
-        short = item-short;
-        complete = rw r at (none-met es bs xs (rowCount xs) (λ j it. meets3 c (it .content)) i h (none-found _ _ _ from3));
-        in-range = rw r at (none-met es bs xs (rowCount xs) (unlessReserved isOutOfRange) i h (none-found _ _ _ from4));
-        own-queue = rw r at (none-met es bs xs (rowCount xs) (unlessReserved (isOtherQueue c)) i h (none-found _ _ _ from5));
-        rewritable = rw r at (none-met es bs xs (rowCount xs) (unlessReserved (isNotRewritable c)) i h (none-found _ _ _ from6));
+        short = p .short;
+        complete = rw r at (p .complete);
+        in-range = rw r at (p .ranged);
+        own-queue = rw r at (p .queued);
+        rewritable = rw r at (p .rewritable);
       }
 
 -- ---- what a deed says of its item
@@ -249,20 +224,14 @@ module _ (key : List ℕ) (r : sameBytes key reservedKey ≡ false) where
   put-by-call call.the-variants.LiveAppend v f bs k = put-says rules.liveAppend refl (λ v f t. refl) v f bs k
   put-by-call (call.the-variants.LiveRewrite g s) v f bs k = move-says g s (valueOf v bs) (keyFileOf f) (valuePart v bs)
 
-  op-says : (c : call.Call) (o : op.OpType) (v : value.Value) (f : file.KeyFile) (bs : List ℕ) → (o ≡ op.the-variants.Del → v ≡ value.the-variants.Absent) → Clear (callOf c) (rules.kv key (changeOf o v f bs)) → DeedSays (opDeed c o f) (callOf c) (rules.kv key (changeOf o v f bs)) [] key (valuePart v bs)
+  op-says : (c : call.Call) (o : op.OpType) (v : value.Value) (f : file.KeyFile) (bs : List ℕ) → bareOp o v → Clear (callOf c) (rules.kv key (changeOf o v f bs)) → DeedSays (opDeed c o f) (callOf c) (rules.kv key (changeOf o v f bs)) [] key (valuePart v bs)
   unfolding DeedSays changeOf
   op-says c op.the-variants.Put v f bs d k = put-by-call c v f bs k
-  op-says c op.the-variants.Del v f bs d k = rw (d refl) (delete-says (callOf c))
+  op-says c op.the-variants.Del v f bs d k = rw d (delete-says (callOf c))
 
 -- ---- any item
 
--- a Del that was opened has no value
-abbrev pub NoValue : content.LogItemContent → Type 0
-NoValue (content.the-variants.EntryIndexes e) = Unit
-NoValue (content.the-variants.Command m) = Unit
-NoValue (content.the-variants.Kv k) = k .«op_type» ≡ op.the-variants.Del → k .value ≡ value.the-variants.Absent
-
-pub deed-says : (c : call.Call) (x : content.LogItemContent) (es bs : List ℕ) → Within x (length es) (length bs) → NoValue x → (rules.isReserved (contentOf x es bs) ≡ false → Clear (callOf c) (contentOf x es bs)) → DeedSays (deedOf c x es bs) (callOf c) (contentOf x es bs) (rowsIn x es) (keyIn x bs) (valueIn x bs)
+pub deed-says : (c : call.Call) (x : content.LogItemContent) (es bs : List ℕ) → Within x (length es) (length bs) → Bare x → (rules.isReserved (contentOf x es bs) ≡ false → Clear (callOf c) (contentOf x es bs)) → DeedSays (deedOf c x es bs) (callOf c) (contentOf x es bs) (rowsIn x es) (keyIn x bs) (valueIn x bs)
 unfolding DeedSays deedOf contentOf keyContent keyChange rules.isReserved
 deed-says c (content.the-variants.EntryIndexes e) es bs w d k = entries-say es e (w .rows) c (k refl)
 deed-says c (content.the-variants.Command m) es bs w d k = command-says c m
@@ -270,3 +239,8 @@ deed-says c (content.the-variants.Kv x) es bs w d k =
     split (sameBytes (part (x .«key_at») (x .«key_len») bs) reservedKey)
     (λ y. rw y y)
     (λ n. rw n (op-says (part (x .«key_at») (x .«key_len») bs) n c (x .«op_type») (x .value) (x .«file_id») bs d (k n)))
+
+-- an empty list has no first number
+pub none-first : (l : List ℕ) → length l ≡ 0 → 0 ≡ getD l 0 0
+none-first [] e = refl
+none-first (x ∷ l) e = absurd (omega arith)

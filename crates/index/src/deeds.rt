@@ -1,8 +1,9 @@
 // What an item does to its group: it is taken apart before any table is touched.
 ghost use mathlib.Core.Path.{_≡_};
+ghost use mathlib.Core.List.{[]};
 ghost use lib.ListN.{length, getD};
-ghost use Rattle.log_batch.specs.Lent.{rowsWithin, bytesWithin, Within};
-ghost use Rattle.index.specs.Deeds.{rowsIn, keyIn, valueIn, entriesChange, commandDeed, putDeed, keyDeed, deedOf};
+ghost use Rattle.log_batch.specs.Lent.{rowsWithin, valueWithin, bytesWithin, Within};
+ghost use Rattle.index.specs.Deeds.{rowsIn, keyIn, valuePart, valueIn, entriesChange, commandDeed, putHeldDeed, putDeed, keyDeed, deedOf};
 use crate::Deed;
 use log_batch::Call;
 use log_batch::item::Command;
@@ -16,18 +17,35 @@ use log_batch::item::entries_of;
 use log_batch::mark::is_reserved;
 use stretch::Change;
 
+// A part with nothing in it.
+fn no_rows(entries: &[u64]) -> &[u64]
+    ensures { λ r. ⌜ now r ≡ [] ⌝ }
+{
+    let none = 0;
+    &entries[none..none]
+}
+
+fn no_bytes(bytes: &[u8]) -> &[u8]
+    ensures { λ r. ⌜ now r ≡ [] ⌝ }
+{
+    let none = 0;
+    &bytes[none..none]
+}
+
 // The rows of an item's entries.
 pub fn rows_in(content: LogItemContent, entries: &[u64]) -> &[u64]
     requires { ⌜ rowsWithin content (length (now entries)) ⌝ }
     ensures { λ r. ⌜ now r ≡ rowsIn content (now (entries .entry)) ⌝ }
 {
-    let LogItemContent::EntryIndexes(list) = content else {
-        let none = 0;
-        return &entries[none..none];
-    };
-    let at = list.at;
-    let count = list.count;
-    entries_of(entries, at, count)
+    match content {
+        LogItemContent::EntryIndexes(list) => {
+            let at = list.at;
+            let count = list.count;
+            entries_of(entries, at, count)
+        }
+        LogItemContent::Command(command) => no_rows(entries),
+        LogItemContent::Kv(kv) => no_rows(entries),
+    }
 }
 
 // The bytes of an item's key.
@@ -35,13 +53,25 @@ pub fn key_in(content: LogItemContent, bytes: &[u8]) -> &[u8]
     requires { ⌜ bytesWithin content (length (now bytes)) ⌝ }
     ensures { λ r. ⌜ now r ≡ keyIn content (now (bytes .entry)) ⌝ }
 {
-    let LogItemContent::Kv(kv) = content else {
-        let none = 0;
-        return &bytes[none..none];
-    };
-    let at = kv.key_at;
-    let len = kv.key_len;
-    bytes_of(bytes, at, len)
+    match content {
+        LogItemContent::EntryIndexes(list) => no_bytes(bytes),
+        LogItemContent::Command(command) => no_bytes(bytes),
+        LogItemContent::Kv(kv) => {
+            let at = kv.key_at;
+            let len = kv.key_len;
+            bytes_of(bytes, at, len)
+        }
+    }
+}
+
+fn value_part(value: Value, bytes: &[u8]) -> &[u8]
+    requires { ⌜ valueWithin value (length (now bytes)) ⌝ }
+    ensures { λ r. ⌜ now r ≡ valuePart value (now (bytes .entry)) ⌝ }
+{
+    match value {
+        Value::Absent => no_bytes(bytes),
+        Value::At { at, len } => bytes_of(bytes, at, len),
+    }
 }
 
 // The bytes of an item's value.
@@ -49,15 +79,14 @@ pub fn value_in(content: LogItemContent, bytes: &[u8]) -> &[u8]
     requires { ⌜ bytesWithin content (length (now bytes)) ⌝ }
     ensures { λ r. ⌜ now r ≡ valueIn content (now (bytes .entry)) ⌝ }
 {
-    let none = 0;
-    let LogItemContent::Kv(kv) = content else {
-        return &bytes[none..none];
-    };
-    let value = kv.value;
-    let Value::At { at, len } = value else {
-        return &bytes[none..none];
-    };
-    bytes_of(bytes, at, len)
+    match content {
+        LogItemContent::EntryIndexes(list) => no_bytes(bytes),
+        LogItemContent::Command(command) => no_bytes(bytes),
+        LogItemContent::Kv(kv) => {
+            let value = kv.value;
+            value_part(value, bytes)
+        }
+    }
 }
 
 // What a list of entries from index `first` does.
@@ -87,13 +116,10 @@ fn command_deed(call: Call, command: Command) -> Deed
     }
 }
 
-// What a Put of a key that is not reserved does; a live rewrite moves the key's file instead.
-fn put_deed(call: Call, file_id: KeyFile) -> Deed
-    ensures { λ r. ⌜ r ≡ putDeed call «file_id» ⌝ }
+// What a Put does that is read: it has a file, or met 3.
+fn put_held_deed(file_id: KeyFile) -> Deed
+    ensures { λ r. ⌜ r ≡ putHeldDeed «file_id» ⌝ }
 {
-    if let Call::LiveRewrite { gate, seq } = call {
-        return Deed::Change(Change::RewriteKey { gate, seq });
-    }
     let KeyFile::Of(file) = file_id else {
         return Deed::Skip;
     };
@@ -102,6 +128,18 @@ fn put_deed(call: Call, file_id: KeyFile) -> Deed
         queue,
         seq: file.seq,
     })
+}
+
+// What a Put of a key that is not reserved does; a live rewrite moves the key's file instead.
+fn put_deed(call: Call, file_id: KeyFile) -> Deed
+    ensures { λ r. ⌜ r ≡ putDeed call «file_id» ⌝ }
+{
+    match call {
+        Call::ReplayAppend => put_held_deed(file_id),
+        Call::ReplayRewrite => put_held_deed(file_id),
+        Call::LiveAppend => put_held_deed(file_id),
+        Call::LiveRewrite { gate, seq } => Deed::Change(Change::RewriteKey { gate, seq }),
+    }
 }
 
 // What a change of a key that is not reserved does.
