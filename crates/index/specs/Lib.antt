@@ -2,3 +2,5 @@
 pub mod Steps
 pub mod Deeds
 pub mod DeedLaws
+pub mod Acts
+pub mod ItemLaws
