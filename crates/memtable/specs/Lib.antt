@@ -3,6 +3,7 @@ pub mod Views
 pub mod ListLaws
 pub mod WindowLaws
 pub mod RowLaws
+pub mod SameLaws
 pub mod Spans
 pub mod Compaction
 pub mod Appends

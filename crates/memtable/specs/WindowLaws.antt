@@ -14,7 +14,8 @@ use lib.Seq.{getD-drop, drop-drop}
 use Rattle.cells.specs.Part.{put}
 use Rattle.cells.specs.PartLaws.{from-put, drop-put, getD-put-before}
 use borrow.Author.Tests.{lt-ltb, le-ltb, le-leb, lt-leb, eq-eqb, ne-eqb}
-use Rattle.maps.specs.Lists.{select, first, last, mapOption, orElse}
+use Rattle.maps.specs.Lists.{select, every, first, last, mapOption, orElse}
+use Rattle.maps.specs.ListLaws.{every-head, every-tail}
 use Rattle.pipe_log.specs.Rows.{isRecord, blockAt, entryOf, withIndex, window}
 use Rattle.rules.specs.Items.{EntryIndex}
 use Rattle.rules.specs.Table.{firstIndex, lastIndex, isBelowFirst, isAboveLast, entriesBelow, entriesFrom}
@@ -78,6 +79,13 @@ unfolding window
 window-all p b f zero xs h = none
 window-all p b f (suc n) xs h =
     more (rw (rowAt-zero f xs) at (h 0 (omega arith))) (window-all p b (suc f) n (drop 8 xs) (λ i l. rw (rowAt-suc f xs i) (h (suc i) (omega arith))))
+
+-- what holds of each record holds of each row
+pub window-every : (p : EntryIndex → Bool) (f n : ℕ) (xs : List ℕ) (i : ℕ) → i < n → every p (window f n xs) ≡ true → p (rowAt f xs i) ≡ true
+unfolding window
+window-every p f zero xs i h a = absurd (omega arith)
+window-every p f (suc n) xs zero h a = rw (rowAt-zero f xs) (every-head p _ _ a)
+window-every p f (suc n) xs (suc i) h a = rw (← rowAt-suc f xs i) (window-every p (suc f) n (drop 8 xs) i (omega arith) (every-tail p _ _ a))
 
 -- ---- by index
 

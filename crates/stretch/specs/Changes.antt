@@ -5,14 +5,14 @@ use mathlib.Core.Path.{_≡_}
 use Prim.Native.Nat.{ℕ, _/_, _≤_}
 use lib.ListN.{length, take}
 use Rattle.maps.specs.Lists.{every}
+use Rattle.pipe_log.specs.Numbers.{gateOf}
 use Rattle.pipe_log.specs.Rows.{window}
 use Rattle.rules.specs.Causes.{Result, ok, refused, refuse, andThen, limitPassed}
-use Rattle.rules.specs.Items.{EntryIndex, isRewrite}
-use Rattle.rules.specs.Table.{Table, appended, replayedRewrite, rewritten, compacted, putKey, deleteKey}
+use Rattle.rules.specs.Items.{isRewrite}
+use Rattle.rules.specs.Table.{Table, appended, replayedRewrite, rewritten, compacted, putKey, deleteKey, rewrittenKey}
 use Rattle.rules.specs.Context.{tableFits}
 use Rattle.kvs.specs.Calls.{heldBy}
 use Rattle.memtable.specs.Appends.{Lent}
-use Rattle.memtable.specs.Rewrites.{gateOf}
 use Rattle.stretch.specs.declared.Change.{Change}
 use Rattle.stretch.specs.declared.Change.the-variants as change
 use Rattle.stretch.specs.declared.Outcome.{Outcome}
@@ -32,6 +32,7 @@ ruleOf (change.Rewrite first gate) rows key value t = rewritten (gateOf gate) (w
 ruleOf (change.Compact index) rows key value t = ok (compacted index t)
 ruleOf (change.Put queue seq) rows key value t = ok (putKey key (heldBy value queue seq) t)
 ruleOf change.Delete rows key value t = ok (deleteKey key t)
+ruleOf (change.RewriteKey gate seq) rows key value t = rewrittenKey key (gateOf gate) seq t
 ruleOf change.Make rows key value t = ok t
 
 -- what a change asks of what is lent with it, and of the table: a replayed rewrite finds Rewrite entries alone
@@ -42,6 +43,7 @@ Ready (change.Rewrite first gate) rows key value t = Lent 1 first rows
 Ready (change.Compact index) rows key value t = Unit {0}
 Ready (change.Put queue seq) rows key value t = (length key ≤ 32) × (length value ≤ 32)
 Ready change.Delete rows key value t = Unit {0}
+Ready (change.RewriteKey gate seq) rows key value t = Unit {0}
 Ready change.Make rows key value t = Unit {0}
 
 -- a table that passes a limit is refused by 18

@@ -8,7 +8,6 @@ use Prim.Native.Nat.{ℕ}
 use lib.Dec.{eqb}
 use lib.ListN.{length, getD}
 use Rattle.cells.specs.Part.{part}
-use Rattle.maps.specs.Maps.{Pair}
 use Rattle.maps.specs.Cells.{Cell}
 use Rattle.rules.specs.Table.{Table}
 use Rattle.kvs.specs.Rows.{keysIn}

@@ -26,6 +26,7 @@ pub fn apply(
         Change::Compact { index } => entries::compact(p, index),
         Change::Put { queue, seq } => keys::put(p, b, key, value, queue, seq),
         Change::Delete => keys::delete(p, b, key),
+        Change::RewriteKey { gate, seq } => keys::rewrite_key(p, b, key, gate, seq),
         Change::Make => Outcome::Done,
     }
 }

@@ -3,11 +3,11 @@ ghost use mathlib.Core.List.{List};
 ghost use mathlib.Core.Path.{_≡_};
 ghost use Prim.Native.Nat.{ℕ, _/_, _≤_};
 ghost use lib.ListN.{length};
+ghost use Rattle.pipe_log.specs.Numbers.{gateOf};
 ghost use Rattle.pipe_log.specs.Rows.{window};
 ghost use Rattle.rules.specs.Causes.{ok};
 ghost use Rattle.rules.specs.Table.{appended, replayedRewrite, rewritten, compacted};
 ghost use Rattle.memtable.specs.Appends.{Lent};
-ghost use Rattle.memtable.specs.Rewrites.{gateOf};
 ghost use Rattle.stretch.specs.Stretch.{headIn, NumbersWf, Wf};
 ghost use Rattle.stretch.specs.Changes.{Changed, laidOutcome, laidNumbers, movedOutcome, movedNumbers};
 use crate::ABOVE_LAST;
@@ -21,8 +21,8 @@ use crate::Outcome;
 use crate::header::head_in;
 use crate::header::write_head;
 use memtable::Appended;
-use memtable::Gate;
 use memtable::Rewritten;
+use pipe_log::Gate;
 
 // Writes the head that laying rows over gives, or answers the refusal.
 fn settle_laid(p: &mut [u64], answer: Appended) -> Outcome

@@ -7,7 +7,7 @@ mod keys;
 
 pub use changes::apply;
 pub use header::make;
-use memtable::Gate;
+use pipe_log::Gate;
 use pipe_log::LogQueue;
 
 // The layout of a stretch.
@@ -27,6 +27,7 @@ pub enum Change {
     Compact { index: u64 },
     Put { queue: LogQueue, seq: u64 },
     Delete,
+    RewriteKey { gate: Gate, seq: u64 },
     Make,
 }
 

@@ -1,0 +1,4 @@
+-- The ways through the changes of a stretch.
+pub mod Outcomes
+pub mod EntryWays
+pub mod KeyWays
