@@ -1,0 +1,131 @@
+// The kind and the lists of a context: tombstones and cleaned numbers. They stand behind the groups of an area.
+ghost use mathlib.Core.List.{List};
+ghost use mathlib.Core.Path.{_≡_};
+ghost use Prim.Native.Nat.{ℕ, _<_};
+ghost use lib.ListN.{length, getD};
+ghost use Rattle.log_batch.specs.Lent.{itemOf};
+ghost use Rattle.stores.specs.Written.{Lent, countOf};
+ghost use Rattle.lists.specs.Rest.{kindOf, Wf, cutTo};
+ghost use Rattle.lists.specs.Calls.{kindAs, Fresh, TombstoneAdded, CleanedAdded};
+use log_batch::item::LogItem;
+use pipe_log::LogQueue;
+use stores::Store;
+
+// The lengths that an area has behind its groups.
+pub const NUMBERS: usize = 7776;
+
+pub const BYTES: usize = 22528;
+
+// The limits of the lists.
+pub const MAX_TOMBSTONES: usize = 64;
+
+pub const MAX_CLEANED: usize = 64;
+
+// Where the numbers stand: the kind, the two counts, the cleaned numbers, and the tombstones' rows.
+const KIND_AT: usize = 0;
+
+const TOMBSTONES_AT: usize = 1;
+
+const CLEANED_AT: usize = 2;
+
+const CLEANED_FROM: usize = 3;
+
+const ROWS_FROM: usize = 67;
+
+const ROWS_TO: usize = 643;
+
+const ROW_BYTES: usize = 4096;
+
+// What an area stands for.
+pub enum Kind {
+    Context(LogQueue),
+    Index,
+}
+
+// The numbers of elements that the lists have.
+pub struct Counts {
+    pub tombstones: usize,
+    pub cleaned: usize,
+}
+
+// What the area stands for.
+pub fn kind_in(ys: &[u64]) -> Kind
+    requires { ⌜ 0 < length (now ys) ⌝ }
+    ensures { λ r. ⌜ kindAs r ≡ kindOf (getD (now (ys .entry)) 0 0) ⌝ }
+{
+    match ys[KIND_AT] {
+        0 => Kind::Context(LogQueue::Append),
+        1 => Kind::Context(LogQueue::Rewrite),
+        _ => Kind::Index,
+    }
+}
+
+// Makes the lists those of a fresh context.
+pub fn clear(ys: &mut [u64], queue: LogQueue)
+    requires { ⌜ length (now ys) ≡ 7776 ⌝ }
+    ensures { λ _. ⌜ ((cs : List ℕ) → length cs ≡ 22528 → Fresh queue (now (ys .exit)) cs) ⌝ }
+{
+    ys[KIND_AT] = queue.to_u64();
+    ys[TOMBSTONES_AT] = 0;
+    ys[CLEANED_AT] = 0;
+}
+
+// The numbers of elements that the lists have.
+pub fn counts_in(ys: &[u64]) -> Counts
+    requires { ⌜ length (now ys) ≡ 7776 ⌝ }
+    ensures { λ r. ⌜ (r .tombstones ≡ getD (now (ys .entry)) 1 0) × (r .cleaned ≡ getD (now (ys .entry)) 2 0) ⌝ }
+{
+    Counts {
+        tombstones: ys[TOMBSTONES_AT] as usize,
+        cleaned: ys[CLEANED_AT] as usize,
+    }
+}
+
+// Cuts the lists back to numbers of elements that they had.
+pub fn cut(ys: &mut [u64], counts: Counts)
+    requires { ⌜ length (now ys) ≡ 7776 ⌝ }
+    ensures { λ _. ⌜ now (ys .exit) ≡ cutTo (counts .tombstones) (counts .cleaned) (now (ys .entry)) ⌝ }
+{
+    ys[TOMBSTONES_AT] = counts.tombstones as u64;
+    ys[CLEANED_AT] = counts.cleaned as u64;
+}
+
+// Adds a tombstone, for which there is room.
+pub fn add_tombstone(ys: &mut [u64], cs: &mut [u8], item: LogItem, entries: &[u64], bytes: &[u8])
+    requires { ⌜ Wf (now ys) (now cs) ⌝ }
+    requires { ⌜ getD (now ys) 1 0 < 64 ⌝ }
+    requires { ⌜ Lent item (length (now entries)) (length (now bytes)) ⌝ }
+    requires { ⌜ countOf (item .content) ≡ 0 ⌝ }
+    ensures { λ _. ⌜ TombstoneAdded (itemOf item (now (entries .entry)) (now (bytes .entry))) (now (ys .entry)) (now (cs .entry)) (now (ys .exit)) (now (cs .exit)) ⌝ }
+{
+    let n = ys[TOMBSTONES_AT] as usize;
+    let store = Store {
+        items: n,
+        entries: 0,
+    };
+    let mut none = [0u64; 0];
+    let from = ROWS_FROM;
+    let to = ROWS_TO;
+    let end = ROW_BYTES;
+    stores::add::add(
+        store,
+        &mut ys[from..to],
+        &mut none,
+        &mut cs[..end],
+        item,
+        entries,
+        bytes,
+    );
+    ys[TOMBSTONES_AT] = n as u64 + 1;
+}
+
+// Adds a cleaned number, for which there is room.
+pub fn add_cleaned(ys: &mut [u64], group: u64)
+    requires { ⌜ length (now ys) ≡ 7776 ⌝ }
+    requires { ⌜ getD (now ys) 2 0 < 64 ⌝ }
+    ensures { λ _. ⌜ ((cs : List ℕ) → Wf (now (ys .entry)) cs → CleanedAdded group (now (ys .entry)) cs (now (ys .exit))) ⌝ }
+{
+    let n = ys[CLEANED_AT] as usize;
+    ys[CLEANED_FROM + n] = group;
+    ys[CLEANED_AT] = n as u64 + 1;
+}
