@@ -4,3 +4,6 @@ pub mod Deeds
 pub mod DeedLaws
 pub mod Acts
 pub mod ItemLaws
+pub mod Contexts
+pub mod Runs
+pub mod Growth
