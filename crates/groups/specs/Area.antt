@@ -87,8 +87,8 @@ Found g xs (At k) = AtSlot g xs k
 Found g xs (Free k) = FreeSlot g xs k
 Found g xs Full = NoSlot g xs
 
--- the stretch that a slot names; where there is none, nothing is changed, at stretch 0 as well
-abbrev pub placeOf : Slot → ℕ
-placeOf (At k) = k
-placeOf (Free k) = k
-placeOf Full = 0
+-- the stretch of a slot alone is changed; where there is none, nothing
+unfoldable pub OnlySlot : Slot → List ℕ → List ℕ → List ℕ → List ℕ → Type 0
+OnlySlot (At k) xs bs xs′ bs′ = Only k xs bs xs′ bs′
+OnlySlot (Free k) xs bs xs′ bs′ = Only k xs bs xs′ bs′
+OnlySlot Full xs bs xs′ bs′ = (xs′ ≡ xs) × (bs′ ≡ bs)

@@ -14,7 +14,7 @@ use Rattle.stretch.specs.declared.Outcome.{Outcome}
 use Rattle.stretch.specs.declared.Outcome.the-variants.{Refused}
 use Rattle.stretch.specs.Changes.{outcomeAs, Changed}
 use Rattle.groups.specs.declared.Slot.{Slot}
-use Rattle.groups.specs.Area.{stretchAt, bytesAt, cells, groupsOf, Wf, Only, placeOf}
+use Rattle.groups.specs.Area.{stretchAt, bytesAt, cells, groupsOf, Wf, Only, OnlySlot}
 
 -- a rule on a group's table, which is made if it is absent, and the limits of a table and of groups
 unfoldable pub onGroup : (Table → Result Table) → ℕ → Map ℕ Table → Result (Map ℕ Table)
@@ -32,11 +32,11 @@ pub record ChangedGroup (by : Table → Result Table) (g : ℕ) (slot : Slot) (x
   pub rule : outcomeAs r (groupsOf xs′ bs′) ≡ onGroup by g (groupsOf xs bs)
   -- refused: the cells are as they were
   pub left : (n : ℕ) → r ≡ Refused n → cells xs′ bs′ ≡ cells xs bs
-  pub only : Only (placeOf slot) xs bs xs′ bs′
+  pub only : OnlySlot slot xs bs xs′ bs′
   pub wf : Wf xs′ bs′
 
 -- group g, which stands at a slot, is removed
 pub record RemovedGroup (g : ℕ) (slot : Slot) (xs bs xs′ : List ℕ) : Type 0 where
   pub rule : groupsOf xs′ bs ≡ remove numbers g (groupsOf xs bs)
-  pub only : Only (placeOf slot) xs bs xs′ bs
+  pub only : OnlySlot slot xs bs xs′ bs
   pub wf : Wf xs′ bs

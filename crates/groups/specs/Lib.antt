@@ -2,3 +2,7 @@
 pub mod Area
 pub mod Calls
 pub mod Undo
+pub mod PlaceLaws
+pub mod Laws
+pub mod AreaLaws
+pub mod UndoLaws

@@ -1,0 +1,4 @@
+pub mod Copies
+pub mod Securings
+pub mod Undoings
+pub mod Finding

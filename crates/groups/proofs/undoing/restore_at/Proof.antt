@@ -1,0 +1,134 @@
+-- `groups::undoing::restore_at` meets its contract. Assumes nothing.
+use mathlib.Core.Path.{refl, ap}
+use Prim.Native.Nat.{_+_}
+use native.Mathlib.Omega.{arith}
+use lib.ListN.{length}
+use Rattle.groups.proofs.Copies.{in-use, copied}
+use borrow.Author.Needs.{needs}
+use Rattle.groups.proofs.undoing.restore_at.Statement.{statement}
+use Rattle.groups.proofs.undoing.restore_at.Tie as tie
+use Rattle.groups.proofs.undoing.restore_at.Reads as reads
+use Rattle.groups.proofs.undoing.restore_at.Lts as lts
+use Rattle.cells.proofs.shift_down_u8.Reads as shift-down-u8-reads
+use Rattle.cells.proofs.shift_down_u64.Reads as shift-down-u64-reads
+
+add-from : tie.Need-add-from
+add-from c = search needs
+
+mul-from : tie.Need-mul-from
+mul-from c = search needs
+
+mul-to : tie.Need-mul-to
+mul-to c = search needs
+
+add-entries : tie.Need-add-entries
+add-entries c = search needs
+
+mul-entries : tie.Need-mul-entries
+mul-entries c = search needs
+
+slice-read-entries : tie.Need-slice-read-entries
+slice-read-entries c = search needs
+
+add-keys : tie.Need-add-keys
+add-keys c = search needs
+
+mul-keys : tie.Need-mul-keys
+mul-keys c = search needs
+
+slice-read-keys : tie.Need-slice-read-keys
+slice-read-keys c = search needs
+
+mul-shift-down-u64 : tie.Need-mul-shift-down-u64
+mul-shift-down-u64 c =
+    let start = c .before .before .before .before .before in
+    omega (arith, in-use (8 + start .args .k) (start .args .xs .now) (start .args .bs .now) (start .pre .1))
+
+add-shift-down-u64 : tie.Need-add-shift-down-u64
+add-shift-down-u64 c =
+    let start = c .before .before .before .before .before in
+    omega (arith, in-use (8 + start .args .k) (start .args .xs .now) (start .args .bs .now) (start .pre .1))
+
+shift-down-u64-requires : tie.Need-shift-down-u64-requires
+shift-down-u64-requires c κs =
+    let start = c .before .before .before .before .before in
+    omega (arith, in-use (8 + start .args .k) (start .args .xs .now) (start .args .bs .now) (start .pre .1))
+
+add-shift-down-u64-2 : tie.Need-add-shift-down-u64-2
+add-shift-down-u64-2 c = search needs
+
+add-shift-down-u64-3 : tie.Need-add-shift-down-u64-3
+add-shift-down-u64-3 c = search needs
+
+mul-shift-down-u64-2 : tie.Need-mul-shift-down-u64-2
+mul-shift-down-u64-2 c =
+    let start = c .before .before .before .before .before .before .before .before .before in
+    omega (arith, in-use (8 + start .args .k) (start .args .xs .now) (start .args .bs .now) (start .pre .1))
+
+shift-down-u64-requires-2 : tie.Need-shift-down-u64-requires-2
+shift-down-u64-requires-2 c κs =
+    let start = c .before .before .before .before .before .before .before .before .before in
+    let shift-down-u64 = c .before .before .before .shift-down-u64 in
+    let few = in-use (8 + start .args .k) (start .args .xs .now) (start .args .bs .now) (start .pre .1) in omega (arith, few, start .pre, ap length (shift-down-u64 .ensures))
+
+add-shift-down-u8 : tie.Need-add-shift-down-u8
+add-shift-down-u8 c = search needs
+
+mul-shift-down-u8 : tie.Need-mul-shift-down-u8
+mul-shift-down-u8 c = search needs
+
+mul-shift-down-u8-2 : tie.Need-mul-shift-down-u8-2
+mul-shift-down-u8-2 c = search needs
+
+mul-shift-down-u8-3 : tie.Need-mul-shift-down-u8-3
+mul-shift-down-u8-3 c =
+    let start = c .before .before .before .before .before .before .before .before .before .before .before .before .before in
+    omega (arith, in-use (8 + start .args .k) (start .args .xs .now) (start .args .bs .now) (start .pre .1))
+
+shift-down-u8-requires : tie.Need-shift-down-u8-requires
+shift-down-u8-requires c κs =
+    let start = c .before .before .before .before .before .before .before .before .before .before .before .before .before in
+    omega (arith, in-use (8 + start .args .k) (start .args .xs .now) (start .args .bs .now) (start .pre .1))
+
+same-length : tie.Need-same-length
+same-length c = search needs
+
+same-length-2 : tie.Need-same-length-2
+same-length-2 c = search needs
+
+returns : tie.Need-returns
+returns c =
+    let start = c .before .before .before .before .before .before .before .before .before .before .before .before .before .before .before .before in
+    let shift-down-u64 = c .before .before .before .before .before .before .before .before .before .before .shift-down-u64 in
+    let shift-down-u642 = c .before .before .before .before .before .before .shift-down-u642 in
+    let shift-down-u8 = c .before .before .shift-down-u8 in
+    copied (8 + start .args .k) (start .args .k) (start .args .xs .now) (start .args .bs .now) (omega arith) (omega arith) (λ e. omega arith) (start .pre .0 .1) (start .pre .0 .2) (start .pre .1) _ _ _ _ _ refl refl (shift-down-u64 .ensures) (shift-down-u642 .ensures) (shift-down-u8 .ensures)
+
+pub restore-at-spec : {M : Type 1} → statement M
+restore-at-spec =
+    tie.close
+    (tie.spec
+    add-from
+    mul-from
+    mul-to
+    add-entries
+    mul-entries
+    slice-read-entries
+    add-keys
+    mul-keys
+    slice-read-keys
+    mul-shift-down-u64
+    add-shift-down-u64
+    shift-down-u64-requires
+    add-shift-down-u64-2
+    add-shift-down-u64-3
+    mul-shift-down-u64-2
+    shift-down-u64-requires-2
+    add-shift-down-u8
+    mul-shift-down-u8
+    mul-shift-down-u8-2
+    mul-shift-down-u8-3
+    shift-down-u8-requires
+    same-length
+    same-length-2
+    returns)

@@ -1,0 +1,230 @@
+-- The laws of groups that a crate above cites: where a group stands and what is looked up, the limits, what lies beside and
+-- behind a changed stretch, and what the stretches go back to. Assumes nothing.
+use mathlib.Core.Bool.{true, false, _&&_, false≢true}
+use mathlib.Core.List.{List, []}
+use mathlib.Core.Option.{none, some, Option·some-injective, Option·none-ne-some}
+use mathlib.Core.Path.{_≡_, refl, sym, ap, _∙_}
+use Prim.Native.Nat.{ℕ, _+_, _*_, _≤_, _<_}
+use native.Mathlib.Nat.{add-zero}
+use native.Mathlib.Omega.{arith}
+use lib.Dec.{eqb}
+use lib.ListN.{length, take, drop, getD, set}
+use borrow.Author.Tests.{eqb-true, eqb-false}
+use Rattle.cells.specs.PartLaws.{getD-part}
+use Rattle.maps.specs.Lists.{every}
+use Rattle.maps.specs.Maps.{lookup, numbers}
+use Rattle.maps.specs.MapLaws.{pair, Ascending}
+use Rattle.maps.specs.OrderLaws.{split, same-sym, numbersLawful}
+use Rattle.maps.specs.Cells.{Cell, mapOf, holds, isFree, Distinct}
+use Rattle.maps.specs.CellLaws.{lookup-at, lookup-absent, mapOf-ascending, length-le, length-full, every-mapOf, all-free}
+use Rattle.rules.specs.Context.{tableFits}
+use Rattle.rules.specs.Table.{Table}
+use Rattle.stretch.specs.Layout.{stretchWidth}
+use Rattle.stretch.specs.Stretch.{isUsed, groupIn, tableIn}
+use Rattle.stretch.specs.Laws.{cell-used, cell-free, wf-fits}
+use Rattle.groups.specs.declared.Slot.{Slot}
+use Rattle.groups.specs.declared.Slot.the-variants.{At, Free, Full}
+use Rattle.groups.specs.Area.{slots, numbersInUse, bytesInUse, stretchAt, bytesAt, cellAt, cells, groupsOf, Wf, Only, isOf, AtSlot, FreeSlot, NoSlot, Found, OnlySlot}
+use Rattle.groups.specs.Undo.{liveNumbers, markAt, undoneCell, undoneCells, Undoable, Secured}
+use Rattle.groups.specs.AreaLaws.{length-cells, getD-cells, Same, Alike, same-back, same-cell, same-cells, same-groups, same-wf, same-found, same-stretch, same-bytes, front-fits, only-none, only-set, first-set, only-length, only-length-bytes, only-other, only-drop, only-drop-bytes}
+use Rattle.groups.specs.UndoLaws.{same-undone, same-undoneCells, Spares, same-undoable}
+
+-- ---- where a group stands
+
+pub found-at : (g k : ℕ) (xs : List ℕ) (r : Slot) → Found g xs r → r ≡ At k → AtSlot g xs k
+unfolding Found
+found-at g k xs r f e = rw e at f
+
+pub found-free : (g k : ℕ) (xs : List ℕ) (r : Slot) → Found g xs r → r ≡ Free k → FreeSlot g xs k
+unfolding Found
+found-free g k xs r f e = rw e at f
+
+pub found-full : (g : ℕ) (xs : List ℕ) (r : Slot) → Found g xs r → r ≡ Full → NoSlot g xs
+unfolding Found
+found-full g xs r f e = rw e at f
+
+-- the cells of a stretch that is used, that is of group g, and that is free
+pub used-cell : (k : ℕ) (xs bs : List ℕ) → isUsed (stretchAt k xs) ≡ true → cellAt k xs bs ≡ some (pair (groupIn (stretchAt k xs)) (tableIn (stretchAt k xs) (bytesAt k bs)))
+unfolding cellAt
+used-cell k xs bs u = cell-used (stretchAt k xs) (bytesAt k bs) u
+
+pub at-cell : (g k : ℕ) (xs bs : List ℕ) → AtSlot g xs k → cellAt k xs bs ≡ some (pair g (tableIn (stretchAt k xs) (bytesAt k bs)))
+at-cell g k xs bs a = used-cell k xs bs (a .used) ∙ rw (a .number)
+
+pub free-cell : (k : ℕ) (xs bs : List ℕ) → isUsed (stretchAt k xs) ≡ false → cellAt k xs bs ≡ none
+unfolding cellAt
+free-cell k xs bs u = cell-free (stretchAt k xs) (bytesAt k bs) u
+
+-- a stretch whose first number is 0 is free
+pub no-use : (k : ℕ) (xs : List ℕ) → getD xs (k * stretchWidth) 0 ≡ 0 → isUsed (stretchAt k xs) ≡ false
+unfolding isUsed stretchAt
+no-use k xs z = rw (getD-part (k * stretchWidth) stretchWidth xs 0 0 (omega arith), add-zero (k * stretchWidth), z)
+
+-- ---- what is looked up
+
+pub lookup-found : (g k : ℕ) (xs bs : List ℕ) → Wf xs bs → AtSlot g xs k → lookup numbers g (groupsOf xs bs) ≡ some (tableIn (stretchAt k xs) (bytesAt k bs))
+unfolding groupsOf
+lookup-found g k xs bs w a =
+    lookup-at (cells xs bs) k g _ (w .distinct) (rw (length-cells xs bs) (a .inside)) (getD-cells k xs bs (a .inside) ∙ at-cell g k xs bs a)
+
+other-cell : (g j : ℕ) (xs bs : List ℕ) → isOf g (stretchAt j xs) ≡ false → holds g (cellAt j xs bs) ≡ false
+unfolding isOf holds
+other-cell g j xs bs n =
+    split (isUsed (stretchAt j xs))
+    (λ u. rw (used-cell j xs bs u) (same-sym numbers numbersLawful (groupIn (stretchAt j xs)) g (rw u at n)))
+    (λ u. rw (free-cell j xs bs u))
+
+-- no stretch is that of group g
+abbrev pub Absent : ℕ → List ℕ → Type 0
+Absent g xs = (j : ℕ) → j < slots → isOf g (stretchAt j xs) ≡ false
+
+pub lookup-none : (g : ℕ) (xs bs : List ℕ) → Absent g xs → lookup numbers g (groupsOf xs bs) ≡ none
+unfolding groupsOf
+lookup-none g xs bs n =
+    lookup-absent (cells xs bs) g (λ i l. let h : i < slots = omega (arith, length-cells xs bs) in rw (getD-cells i xs bs h) (other-cell g i xs bs (n i h)))
+
+pub lookup-free : (g k : ℕ) (xs bs : List ℕ) → FreeSlot g xs k → lookup numbers g (groupsOf xs bs) ≡ none
+lookup-free g k xs bs f = lookup-none g xs bs (f .absent)
+
+pub lookup-full : (g : ℕ) (xs bs : List ℕ) → NoSlot g xs → lookup numbers g (groupsOf xs bs) ≡ none
+lookup-full g xs bs f = lookup-none g xs bs (f .absent)
+
+-- ---- the limits
+
+pub groups-fit : (xs bs : List ℕ) → Wf xs bs → (length (groupsOf xs bs) ≤ slots) × (every (λ p. tableFits (p .val)) (groupsOf xs bs) ≡ true)
+unfolding groupsOf
+groups-fit xs bs w = (
+  omega (arith, length-le (cells xs bs), length-cells xs bs),
+  every-mapOf (λ p. tableFits (p .val)) (cells xs bs) (λ i p l e.
+      let h : i < slots = omega (arith, length-cells xs bs) in
+      let c = sym (getD-cells i xs bs h) ∙ e in
+      split (isUsed (stretchAt i xs))
+      (λ u. rw (← Option·some-injective _ p (sym (used-cell i xs bs u) ∙ c)) (wf-fits (stretchAt i xs) (bytesAt i bs) (w .used i h u)))
+      (λ u. absurd (Option·none-ne-some p (sym (free-cell i xs bs u) ∙ c)))),
+)
+
+pub groups-ascend : (xs bs : List ℕ) → Ascending numbers (groupsOf xs bs)
+unfolding groupsOf
+groups-ascend xs bs = mapOf-ascending (cells xs bs)
+
+-- no stretch is free: there are as many groups as there can be
+pub groups-full : (g : ℕ) (xs bs : List ℕ) → Wf xs bs → NoSlot g xs → length (groupsOf xs bs) ≡ slots
+unfolding groupsOf isFree
+groups-full g xs bs w f =
+    length-full (cells xs bs) (w .distinct) (λ i l.
+        let h : i < slots = omega (arith, length-cells xs bs) in rw (getD-cells i xs bs h, used-cell i xs bs (f .full i h)))
+    ∙ length-cells xs bs
+
+-- all stretches are free: there are no groups
+pub fresh : (xs bs : List ℕ) → numbersInUse ≤ length xs → bytesInUse ≤ length bs → ((k : ℕ) → k < slots → getD xs (k * stretchWidth) 0 ≡ 0) → Wf xs bs × (groupsOf xs bs ≡ [])
+unfolding groupsOf
+fresh xs bs p q z =
+    let f = all-free (cells xs bs) (λ i l. let h : i < slots = omega (arith, length-cells xs bs) in getD-cells i xs bs h ∙ free-cell i xs bs (no-use i xs (z i h))) in (
+      record {
+        numbers-fit = p;
+        bytes-fit = q;
+        used = λ k l u. absurd (false≢true (sym (no-use k xs (z k l)) ∙ u));
+        distinct = f .1;
+      },
+      f .0,
+    )
+
+-- ---- the front of an area: numbers and bytes behind the stretches and the spare ones change nothing
+
+module _ (xs bs ys ds : List ℕ) (p : take numbersInUse xs ≡ take numbersInUse ys) (q : take bytesInUse bs ≡ take bytesInUse ds) where
+  front-alike : Alike 16 xs bs ys ds
+  front-alike j l =
+      record { numbers = same-stretch j numbersInUse xs ys (omega arith) p; bytes = same-bytes j bytesInUse bs ds (omega arith) q }
+
+  pub front-cells : cells xs bs ≡ cells ys ds
+  front-cells = same-cells (λ j l. front-alike j (omega arith))
+
+  pub front-groups : groupsOf xs bs ≡ groupsOf ys ds
+  front-groups = same-groups (λ j l. front-alike j (omega arith))
+
+  pub front-wf : Wf xs bs → Wf ys ds
+  front-wf w =
+      same-wf (λ j l. front-alike j (omega arith)) w (front-fits numbersInUse xs ys p (w .numbers-fit)) (front-fits bytesInUse bs ds q (w .bytes-fit))
+
+  pub front-found : (g : ℕ) (slot : Slot) → Found g xs slot → Found g ys slot
+  front-found g slot f = same-found g slot xs ys (λ j l. front-alike j (omega arith) .numbers) f
+
+  pub front-undone : undoneCells xs bs ≡ undoneCells ys ds
+  front-undone =
+      same-undoneCells xs bs ys ds (λ k l. same-undone k (front-alike (slots + k) (omega arith)) (λ z. same-cell (front-alike k (omega arith))))
+
+  pub front-undoable : Undoable xs bs → Undoable ys ds
+  front-undoable u = same-undoable (λ k l. front-alike (slots + k) (omega arith)) front-undone u
+
+-- a search depends on the stretches without the spare ones
+pub live-found : (g : ℕ) (slot : Slot) (xs xs′ : List ℕ) → take liveNumbers xs′ ≡ take liveNumbers xs → Found g xs slot → Found g xs′ slot
+live-found g slot xs xs′ e f = same-found g slot xs xs′ (λ j l. same-stretch j liveNumbers xs xs′ (omega arith) (sym e)) f
+
+-- ---- what a changed stretch leaves
+
+-- what lies behind the stretches and the spare ones is as it was
+pub record Behind (xs bs xs′ bs′ : List ℕ) : Type 0 where
+  pub numbers : drop numbersInUse xs′ ≡ drop numbersInUse xs
+  pub bytes : drop bytesInUse bs′ ≡ drop bytesInUse bs
+  pub numbers-length : length xs′ ≡ length xs
+  pub bytes-length : length bs′ ≡ length bs
+
+module _ (k : ℕ) (xs bs xs′ bs′ : List ℕ) (l : k < 16) (p : numbersInUse ≤ length xs) (q : bytesInUse ≤ length bs) (o : Only k xs bs xs′ bs′) where
+  pub only-behind : Behind xs bs xs′ bs′
+  only-behind =
+      record {
+        numbers = only-drop l p q o numbersInUse (omega arith);
+        bytes = only-drop-bytes l p q o bytesInUse (omega arith);
+        numbers-length = only-length l p q o;
+        bytes-length = only-length-bytes l p q o;
+      }
+
+-- the spare stretches stay
+only-spares : (k : ℕ) (xs bs xs′ bs′ : List ℕ) → k < slots → numbersInUse ≤ length xs → bytesInUse ≤ length bs → Only k xs bs xs′ bs′ → Spares xs bs xs′ bs′
+only-spares k xs bs xs′ bs′ l p q o j h = same-back (only-other (omega arith) p q o (slots + j) (λ e. omega arith))
+
+-- what the stretches go back to stays, if the spare ones do and each stretch that is not marked
+kept-undone : (xs bs xs′ bs′ : List ℕ) → Spares xs bs xs′ bs′ → ((k : ℕ) → k < slots → markAt k xs ≡ 0 → cellAt k xs bs ≡ cellAt k xs′ bs′) → Undoable xs bs → (undoneCells xs′ bs′ ≡ undoneCells xs bs) × Undoable xs′ bs′
+kept-undone xs bs xs′ bs′ s f u =
+    let e = same-undoneCells xs bs xs′ bs′ (λ k l. same-undone k (s k l) (f k l)) in (sym e, same-undoable s e u)
+
+only-undone : (k : ℕ) (xs bs xs′ bs′ : List ℕ) → k < slots → numbersInUse ≤ length xs → bytesInUse ≤ length bs → Only k xs bs xs′ bs′ → (markAt k xs ≡ 0 → cellAt k xs bs ≡ cellAt k xs′ bs′) → Undoable xs bs → (undoneCells xs′ bs′ ≡ undoneCells xs bs) × Undoable xs′ bs′
+only-undone k xs bs xs′ bs′ l p q o f u =
+    kept-undone xs bs xs′ bs′ (only-spares k xs bs xs′ bs′ l p q o) (λ j h z.
+        split (eqb j k)
+        (λ e. let d = eqb-true j k e in rw d (f (rw d at z)))
+        (λ e. sym (same-cell (only-other (omega arith) p q o j (eqb-false j k e))))) u
+
+-- a stretch that was freed
+pub freed : (k : ℕ) (xs bs : List ℕ) → k < slots → numbersInUse ≤ length xs → bytesInUse ≤ length bs → (isUsed (stretchAt k (set xs (k * stretchWidth) 0)) ≡ false) × Only k xs bs (set xs (k * stretchWidth) 0) bs
+unfolding isUsed
+freed k xs bs l p q = (rw (first-set k 0 xs (omega arith) p), only-set k 0 xs bs (omega arith) p q)
+
+-- where nothing is written, stretch 0 alone is changed as well
+slot-only : (g : ℕ) (slot : Slot) (xs bs xs′ bs′ : List ℕ) → Found g xs slot → numbersInUse ≤ length xs → bytesInUse ≤ length bs → OnlySlot slot xs bs xs′ bs′ → (k : ℕ) × (k < slots) × Only k xs bs xs′ bs′
+unfolding Found OnlySlot
+slot-only g (At k) xs bs xs′ bs′ f p q o = (k, f .inside, o)
+slot-only g (Free k) xs bs xs′ bs′ f p q o = (k, f .inside, o)
+slot-only g Full xs bs xs′ bs′ f p q o = (
+  0,
+  omega arith,
+  rw (o .0, o .1) (only-none 0 xs bs (omega arith) p q),
+)
+
+module _ (g : ℕ) (slot : Slot) (xs bs xs′ bs′ : List ℕ) (f : Found g xs slot) (p : numbersInUse ≤ length xs) (q : bytesInUse ≤ length bs) (o : OnlySlot slot xs bs xs′ bs′) where
+  pub slot-behind : Behind xs bs xs′ bs′
+  slot-behind = let c = slot-only g slot xs bs xs′ bs′ f p q o in only-behind (c .0) xs bs xs′ bs′ (omega (arith, c .1)) p q (c .2)
+
+  -- the cells are as they were, and so is what they go back to
+  pub left-undone : cells xs′ bs′ ≡ cells xs bs → Undoable xs bs → (undoneCells xs′ bs′ ≡ undoneCells xs bs) × Undoable xs′ bs′
+  left-undone e u =
+      let c = slot-only g slot xs bs xs′ bs′ f p q o in
+      only-undone (c .0) xs bs xs′ bs′ (c .1) p q (c .2) (λ z.
+          sym (getD-cells (c .0) xs bs (c .1)) ∙ ap (λ (l : List (Cell Table)). getD l (c .0) none) (sym e) ∙ getD-cells (c .0) xs′ bs′ (c .1)) u
+
+-- a secured slot may be written: what the stretches go back to is as it was
+pub secured-undone : (g : ℕ) (slot : Slot) (xs bs xs′ bs′ : List ℕ) → Found g xs slot → numbersInUse ≤ length xs → bytesInUse ≤ length bs → OnlySlot slot xs bs xs′ bs′ → Secured slot xs → Undoable xs bs → (undoneCells xs′ bs′ ≡ undoneCells xs bs) × Undoable xs′ bs′
+unfolding Found OnlySlot Secured
+secured-undone g (At k) xs bs xs′ bs′ f p q o s u = only-undone k xs bs xs′ bs′ (f .inside) p q o (λ z. absurd (eqb-false _ 0 s z)) u
+secured-undone g (Free k) xs bs xs′ bs′ f p q o s u = only-undone k xs bs xs′ bs′ (f .inside) p q o (λ z. absurd (eqb-false _ 0 s z)) u
+secured-undone g Full xs bs xs′ bs′ f p q o s u = rw (o .0, o .1) (refl, u)
