@@ -7,3 +7,6 @@ pub mod ItemLaws
 pub mod Contexts
 pub mod Runs
 pub mod Growth
+pub mod ActLaws
+pub mod RunLaws
+pub mod BatchLaws

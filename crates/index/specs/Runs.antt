@@ -59,3 +59,8 @@ pub record Going (t n : ℕ) (c : Context) (xs bs : List ℕ) : Type 0 where
   pub lists-wf : lists.Wf (cutTo t n (drop numbersInUse xs)) (drop bytesInUse bs)
   pub tombstones-grow : t ≤ getD (drop numbersInUse xs) 1 0
   pub cleaned-grow : n ≤ getD (drop numbersInUse xs) 2 0
+
+-- an area that has gone back
+pub record WentBack (t n : ℕ) (xs bs xs′ bs′ : List ℕ) : Type 0 where
+  pub context-is : contextOf xs′ bs′ ≡ backTo t n xs bs
+  pub wf : Wf xs′ bs′
