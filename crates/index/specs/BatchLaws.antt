@@ -15,12 +15,12 @@ use Rattle.rules.specs.Checks.{checks}
 use Rattle.rules.specs.Table.{Table}
 use Rattle.rules.specs.Context.{Context, withGroups, limited, step, run}
 use Rattle.log_batch.specs.declared.item.LogItem as lent
-use Rattle.log_batch.specs.declared.open.Opened.{the-variants.Item}
+use Rattle.log_batch.specs.declared.open.Opened.{Opened, the-variants.Item, the-variants.Refused as Refused′}
 use Rattle.log_batch.specs.Lent.{rowCount, openedRow, openedWithin, itemAt, itemsFrom, itemsOf, itemOf}
-use Rattle.log_batch.specs.OpenLaws.{opened-within, opened-bare, item-opened}
-use Rattle.log_batch.specs.PassedLaws.{OpenedAt, Passed}
+use Rattle.log_batch.specs.OpenLaws.{opened-bare, refused-item}
+use Rattle.log_batch.specs.PassedLaws.{Passed, passed-opens}
 use Rattle.log_batch.proofs.ItemLaws.{items-start, items-end, items-more}
-use Rattle.stores.specs.Written.{contentShort}
+use Rattle.stores.specs.CheckedLaws.{checked-opens}
 use Rattle.stretch.specs.declared.Outcome.{Outcome}
 use Rattle.stretch.specs.declared.Outcome.the-variants.{Done, Refused}
 use Rattle.groups.specs.Area.{numbersInUse, bytesInUse, cells, groupsOf}
@@ -35,6 +35,26 @@ use Rattle.index.specs.declared.Position.the-variants as position
 use Rattle.index.specs.DeedLaws.{Clear, passed-clear}
 use Rattle.index.specs.Contexts.{contextOf, Wf, answerAs, positionOf, Called}
 use Rattle.index.specs.Runs.{ItemReady, outcomeAt, backTo, BackKept, Stepped, Going, WentBack}
+
+-- ---- an item of a batch that passed the checks
+
+same-item : (o : Opened) (x y : lent.LogItem) → o ≡ Item x → o ≡ Item y → x ≡ y
+same-item o x y p q = cc
+
+pub opened-ready : (c : Call) (xs es bs : List ℕ) (i : ℕ) (it : lent.LogItem) → checks c (itemsOf xs es bs) ≡ none → i < rowCount xs → openedRow (drop (i * 9) xs) (length es / 8) (length bs) ≡ Item it → ItemReady c it es bs
+opened-ready c xs es bs i it p h e =
+    let o = passed-opens c xs es bs p i h in
+    let s : o .item ≡ it = same-item _ (o .item) it (o .opens) e in
+    let q : Passed c (itemsOf xs es bs) i (itemOf it es bs) = rw s at (o .passed) in
+    record {
+      lent-is = checked-opens c xs es bs p i h it e;
+      bare = opened-bare (drop (i * 9) xs) (length es / 8) (length bs) it e;
+      clear = passed-clear c (itemsOf xs es bs) i (itemOf it es bs) q;
+    }
+
+-- no row is refused
+pub opened-never : {P : Type 0} (c : Call) (xs es bs : List ℕ) (i g : ℕ) → checks c (itemsOf xs es bs) ≡ none → i < rowCount xs → openedRow (drop (i * 9) xs) (length es / 8) (length bs) ≡ Refused′ g → P
+opened-never c xs es bs i g p h e = let o = passed-opens c xs es bs p i h in refused-item g (o .item) (sym e ∙ o .opens)
 
 -- ---- under way
 

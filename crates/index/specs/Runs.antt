@@ -10,9 +10,9 @@ use Rattle.rules.specs.Causes.{Result, ok, refused}
 use Rattle.rules.specs.Items.{LogItem, Call, isReserved}
 use Rattle.rules.specs.Context.{Context, withGroups, limited, step}
 use Rattle.log_batch.specs.declared.item.LogItem as lent
-use Rattle.log_batch.specs.Lent.{itemOf, Within}
+use Rattle.log_batch.specs.Lent.{itemOf}
 use Rattle.log_batch.specs.OpenLaws.{Bare}
-use Rattle.stores.specs.Written.{contentShort}
+use Rattle.stores.specs.Written.{Lent}
 use Rattle.stretch.specs.declared.Outcome.{Outcome}
 use Rattle.stretch.specs.declared.Outcome.the-variants.{Done, Refused}
 use Rattle.groups.specs.Area.{numbersInUse, bytesInUse}
@@ -26,9 +26,8 @@ use Rattle.index.specs.DeedLaws.{Clear}
 
 -- what is known of an item of a batch that passed the checks
 pub record ItemReady (c : Call) (it : lent.LogItem) (es bs : List ℕ) : Type 0 where
-  pub within : Within (it .content) (length es) (length bs)
+  pub lent-is : Lent it (length es) (length bs)
   pub bare : Bare (it .content)
-  pub short : contentShort (it .content)
   pub clear : isReserved (itemOf it es bs .content) ≡ false → Clear c (itemOf it es bs .content)
 
 -- the result of an item at its place
