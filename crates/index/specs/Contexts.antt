@@ -1,13 +1,12 @@
 -- An area read as the rules' context or index, what holds of it between calls, and what the calls promise.
-use mathlib.Core.Bool.{Bool, true, false}
 use mathlib.Core.List.{List}
 use mathlib.Core.Option.{Option, none, some}
 use mathlib.Core.Path.{_≡_}
-use Prim.Native.Nat.{ℕ}
-use lib.ListN.{drop, length}
-use Rattle.rules.specs.Causes.{Refusal, Result, ok, refused, left}
-use Rattle.rules.specs.Items.{LogItem, Call}
-use Rattle.rules.specs.Context.{Context, withGroups}
+use Prim.Native.Nat.{ℕ, _*_, _<_}
+use lib.ListN.{drop, getD, length}
+use Rattle.rules.specs.Causes.{Result, ok, refused, left}
+use Rattle.rules.specs.Items.{LogQueue}
+use Rattle.rules.specs.Context.{Context, fresh, withGroups}
 use Rattle.groups.specs.Area.{numbersInUse, bytesInUse, groupsOf}
 use Rattle.groups.specs.Area as groups
 use Rattle.lists.specs.Rest.{restOf}
@@ -48,3 +47,14 @@ pub record Called (call : Context → Result Context) (xs bs : List ℕ) (r : An
   pub answers : answerAs r (contextOf xs′ bs′) ≡ call (contextOf xs bs)
   pub leaves : contextOf xs′ bs′ ≡ left (contextOf xs bs) (call (contextOf xs bs))
   pub wf : Wf xs′ bs′
+
+-- ---- a fresh context
+
+-- the eight stretches are free, and what lies behind is as it was
+pub record Cleared (xs xs′ : List ℕ) : Type 0 where
+  pub free : (k : ℕ) → k < 8 → getD xs′ (k * 586) 0 ≡ 0
+  pub length-is : length xs′ ≡ length xs
+
+pub record FreshArea (q : LogQueue) (xs bs : List ℕ) : Type 0 where
+  pub context-is : contextOf xs bs ≡ fresh q
+  pub wf : Wf xs bs

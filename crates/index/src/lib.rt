@@ -1,8 +1,15 @@
 // The accessor of groups, recovery and live writes (src/memtable.rs): contexts and the index over lent areas.
+mod contexts;
 mod deeds;
 mod growth;
 
+pub use contexts::fresh;
 use stretch::Change;
+
+// The lengths of an area: its numbers and its bytes.
+pub const NUMBERS: usize = 17152;
+
+pub const BYTES: usize = 38912;
 
 // Where a refusal was met: at no item, or at the item with this position, counted from 0.
 pub enum Position {
