@@ -7,3 +7,4 @@ pub mod ItemLaws
 pub mod Contexts
 pub mod Runs
 pub mod Growth
+pub mod GrowthLaws
