@@ -1,15 +1,15 @@
 -- How an item adds to the lists of an area: a tombstone, a cleaned number, both or none.
-use mathlib.Core.Bool.{Bool, true, _&&_}
+use mathlib.Core.Bool.{Bool, true}
 use mathlib.Core.List.{List}
 use mathlib.Core.Path.{_≡_}
-use Prim.Native.Nat.{ℕ, _<_}
-use lib.ListN.{length, getD, take, drop}
+use Prim.Native.Nat.{ℕ}
+use lib.ListN.{getD, take, drop}
 use Rattle.rules.specs.Items.{LogItem}
-use Rattle.rules.specs.Context.{Context, withTombstones, withCleaned}
+use Rattle.rules.specs.Context.{Context}
 use Rattle.log_batch.specs.declared.item.LogItem as lent
 use Rattle.stores.specs.Written as stores
 use Rattle.groups.specs.Area.{numbersInUse, bytesInUse}
-use Rattle.lists.specs.Rest.{tombstonesIn, cleanedIn, restOf, Wf}
+use Rattle.lists.specs.Rest.{restOf, Wf}
 use Rattle.lists.specs.Calls.{Keeps}
 use Rattle.index.specs.Steps.{oneMoreIf, roomIf}
 

@@ -10,3 +10,4 @@ pub mod Growth
 pub mod ActLaws
 pub mod RunLaws
 pub mod BatchLaws
+pub mod GrowthLaws

@@ -2,7 +2,7 @@
 ghost use mathlib.Core.List.{List};
 ghost use mathlib.Core.Bool.{_&&_};
 ghost use mathlib.Core.Path.{_≡_};
-ghost use Prim.Native.Nat.{ℕ, _+_};
+ghost use Prim.Native.Nat.{ℕ};
 ghost use lib.ListN.{length, getD, drop};
 ghost use Rattle.rules.specs.Items.{Append, sameQueue, isTombstone, isClean, writes};
 ghost use Rattle.rules.specs.Context.{keeps};
