@@ -87,10 +87,10 @@ module _ (it : LogItem) (ys cs : List ℕ) where
 -- ---- the area
 
 -- what is lent from a on comes back behind what lies before it
-before-back : (a : ℕ) (d s : List ℕ) → a ≤ length d → take a (putMid a (length d - a) d s) ≡ take a d
+pub before-back : (a : ℕ) (d s : List ℕ) → a ≤ length d → take a (putMid a (length d - a) d s) ≡ take a d
 before-back a d s h = take-at (take a d) _ a (length-take-le a d h)
 
-behind-back : (a : ℕ) (d s : List ℕ) → a ≤ length d → drop a (putMid a (length d - a) d s) ≡ s
+pub behind-back : (a : ℕ) (d s : List ℕ) → a ≤ length d → drop a (putMid a (length d - a) d s) ≡ s
 behind-back a d s h =
     drop-at (take a d) _ a (length-take-le a d h)
     ∙ ap (λ (l : List ℕ). s ++ l) (rw (← length-drop a d) (drop-length (drop a d)))

@@ -50,9 +50,9 @@ pub record Called (call : Context → Result Context) (xs bs : List ℕ) (r : An
 
 -- ---- a fresh context
 
--- the eight stretches are free, and what lies behind is as it was
-pub record Cleared (xs xs′ : List ℕ) : Type 0 where
-  pub free : (k : ℕ) → k < 8 → getD xs′ (k * 586) 0 ≡ 0
+-- the first n stretches are free
+pub record Cleared (n : ℕ) (xs xs′ : List ℕ) : Type 0 where
+  pub free : (k : ℕ) → k < n → getD xs′ (k * 586) 0 ≡ 0
   pub length-is : length xs′ ≡ length xs
 
 pub record FreshArea (q : LogQueue) (xs bs : List ℕ) : Type 0 where

@@ -10,7 +10,7 @@ use stretch::STRETCH;
 // Marks the eight stretches as free.
 fn clear_groups(xs: &mut [u64])
     requires { ⌜ length (now xs) ≡ 17152 ⌝ }
-    ensures { λ _. ⌜ Cleared (now (xs .entry)) (now (xs .exit)) ⌝ }
+    ensures { λ _. ⌜ Cleared 8 (now (xs .entry)) (now (xs .exit)) ⌝ }
 {
     let mut k = 0;
     while k < SLOTS {
