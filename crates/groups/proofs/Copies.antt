@@ -1,7 +1,7 @@
 -- A stretch that is copied to another place: the header with the rows of entries in use, the rows of keys in use, and their bytes.
 -- Assumes nothing.
 use mathlib.Core.List.{List}
-use mathlib.Core.Path.{_≡_, refl, sym, ap, _∙_}
+use mathlib.Core.Path.{_≡_, _∙_}
 use Prim.Native.Nat.{ℕ, _+_, _*_, _≤_, _<_}
 use native.Mathlib.Nat.{add-zero}
 use native.Mathlib.Decide.{decLt}
@@ -10,7 +10,7 @@ use lib.ListN.{length, getD, take}
 use Rattle.cells.specs.Part.{part, put}
 use Rattle.cells.specs.PartLaws.{length-part, length-put, getD-part, part-part, take-part, part-put-same, part-put-before, part-put-after}
 use Rattle.stretch.specs.Layout.{stretchWidth, bytesWidth}
-use Rattle.stretch.specs.Stretch.{headIn, keyCount, entryRows, keyRows, cellOf}
+use Rattle.stretch.specs.Stretch.{headIn, keyCount, entryRows, keyRows}
 use Rattle.stretch.specs.Stretch as stretch
 use Rattle.stretch.specs.Laws.{same-front}
 use Rattle.groups.specs.Area.{numbersInUse, bytesInUse, stretchAt, bytesAt, cellAt, Only}
@@ -93,7 +93,7 @@ module _ (from to : ℕ) (xs bs : List ℕ) (f : from < 16) (t : to < 16) (d : f
         let u = few in
         let m = length-head in
         elim (decLt from to) [
-          yes l ↦ part-put-before (from * stretchWidth + 522) (n * 4) xs (to * stretchWidth) head (omega arith) (omega arith)
+          | yes l ↦ part-put-before (from * stretchWidth + 522) (n * 4) xs (to * stretchWidth) head (omega arith) (omega arith)
           | no l ↦ let h : to < from = omega (arith, d) in part-put-after (from * stretchWidth + 522) (n * 4) xs (to * stretchWidth) head (omega arith) (omega arith)
         ]
 
@@ -149,12 +149,12 @@ module _ (from to : ℕ) (xs bs : List ℕ) (f : from < 16) (t : to < 16) (d : f
     unfolding stretchAt bytesAt cellAt
     copied-all =
         let c =
-          same-front (stretchAt from xs) (bytesAt from bs) (stretchAt to twice) (bytesAt to laid) w
-          (length-part (to * stretchWidth) stretchWidth twice (omega (arith, length-twice)))
-          (length-part (to * bytesWidth) bytesWidth laid (omega (arith, length-laid)))
-          (rw (entries-in from xs, a) front-same)
-          (rw (keys-in from xs, b) keys-same)
-          (rw (keys-in from xs, b) bytes-same)
+        same-front (stretchAt from xs) (bytesAt from bs) (stretchAt to twice) (bytesAt to laid) w
+        (length-part (to * stretchWidth) stretchWidth twice (omega (arith, length-twice)))
+        (length-part (to * bytesWidth) bytesWidth laid (omega (arith, length-laid)))
+        (rw (entries-in from xs, a) front-same)
+        (rw (keys-in from xs, b) keys-same)
+        (rw (keys-in from xs, b) bytes-same)
         in
         record { cell = c .0; wf = c .1; only = only }
 

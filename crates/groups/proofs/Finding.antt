@@ -1,19 +1,18 @@
 -- The search for a group through the eight stretches, from any of them on. Assumes nothing.
-use mathlib.Core.Bool.{true, false, _&&_, and-false}
+use mathlib.Core.Bool.{true, false}
 use mathlib.Core.List.{List}
-use mathlib.Core.Path.{_≡_, refl, sym, ap, _∙_}
+use mathlib.Core.Path.{_≡_, sym, _∙_}
 use Prim.Native.Nat.{ℕ, _+_, _-_, _*_, _%_, _≤_, _<_}
 use native.Mathlib.Nat.{add-zero, mod-lt, mod-eq-of-lt, add-mod-right}
 use native.Mathlib.Decide.{decLt}
 use native.Mathlib.Omega.{arith}
 use lib.Dec.{eqb}
-use lib.ListN.{length, getD}
+use lib.ListN.{getD}
 use borrow.Author.Tests.{eq-eqb, ne-eqb, eqb-true, eqb-false}
 use Rattle.cells.specs.PartLaws.{getD-part}
 use Rattle.maps.specs.OrderLaws.{split}
 use Rattle.stretch.specs.Layout.{stretchWidth}
 use Rattle.stretch.specs.Stretch.{isUsed, groupIn}
-use Rattle.groups.specs.declared.Slot.{Slot}
 use Rattle.groups.specs.declared.Slot.the-variants.{At, Free, Full}
 use Rattle.groups.specs.Area.{slots, stretchAt, isOf, Found}
 
@@ -21,7 +20,7 @@ use Rattle.groups.specs.Area.{slots, stretchAt, isOf, Found}
 reach : (s j : ℕ) → s < slots → j < slots → (i : ℕ) × (i < slots) × ((s + i) % slots ≡ j)
 reach s j a b =
     elim (decLt j s) [
-      yes l ↦ let e : s + (j + slots - s) ≡ j + slots = omega arith in (j + slots - s, omega arith, rw (e, add-mod-right j slots) (mod-eq-of-lt b))
+      | yes l ↦ let e : s + (j + slots - s) ≡ j + slots = omega arith in (j + slots - s, omega arith, rw (e, add-mod-right j slots) (mod-eq-of-lt b))
       | no l ↦ let e : s + (j - s) ≡ j = omega arith in (j - s, omega arith, rw e (mod-eq-of-lt b))
     ]
 

@@ -1,12 +1,12 @@
 -- Each way through `secure`: what is marked stays, a used stretch is saved, and a free one is marked. Assumes nothing.
-use mathlib.Core.Bool.{true, false, true≢false}
+use mathlib.Core.Bool.{true, false}
 use mathlib.Core.List.{List}
-use mathlib.Core.Option.{none, some, Option·none-ne-some}
-use mathlib.Core.Path.{_≡_, refl, sym, ap, _∙_}
-use Prim.Native.Nat.{ℕ, _+_, _*_, _≤_, _<_}
+use mathlib.Core.Option.{Option·none-ne-some}
+use mathlib.Core.Path.{_≡_, refl, sym, _∙_}
+use Prim.Native.Nat.{ℕ, _+_, _*_, _<_}
 use native.Mathlib.Omega.{arith}
 use lib.Dec.{eqb}
-use lib.ListN.{length, getD, set, take, drop}
+use lib.ListN.{set}
 use borrow.Author.Tests.{eqb-true, eqb-false, ne-eqb}
 use Rattle.maps.specs.OrderLaws.{split}
 use Rattle.stretch.specs.Layout.{stretchWidth}
@@ -14,7 +14,7 @@ use Rattle.stretch.specs.Stretch.{isUsed}
 use Rattle.stretch.specs.Stretch as stretch
 use Rattle.groups.specs.declared.Slot.{Slot}
 use Rattle.groups.specs.declared.Slot.the-variants.{At, Free, Full}
-use Rattle.groups.specs.Area.{slots, numbersInUse, bytesInUse, stretchAt, bytesAt, cellAt, cells, Wf, Only}
+use Rattle.groups.specs.Area.{slots, numbersInUse, bytesInUse, stretchAt, bytesAt, cellAt, Wf, Only}
 use Rattle.groups.specs.AreaLaws.{Same, same-back, same-cell, same-cells, same-wf, first-set, only-set, only-length, only-length-bytes, only-other, only-front, only-front-bytes, only-drop, only-drop-bytes}
 use Rattle.groups.specs.Laws.{used-cell, free-cell}
 use Rattle.groups.specs.Undo.{liveNumbers, liveBytes, markAt, undoneCell, undoneCells, Undoable, Secured, Securing, Copied}
@@ -59,9 +59,9 @@ module _ (k : ℕ) (xs bs xs′ bs′ : List ℕ) (l : k < slots) (w : Wf xs bs)
     goes-back : undoneCells xs′ bs′ ≡ undoneCells xs bs
     goes-back =
         same-undoneCells xs′ bs′ xs bs (λ j h.
-            split (eqb j k)
-            (λ e. rw (eqb-true j k e) (c ∙ sym (undone-kept k xs bs z)))
-            (λ e. let d = eqb-false j k e in same-undone j (other (slots + j) (λ q. d (omega arith))) (λ m. same-cell (other j (λ q. omega arith)))))
+        split (eqb j k)
+        (λ e. rw (eqb-true j k e) (c ∙ sym (undone-kept k xs bs z)))
+        (λ e. let d = eqb-false j k e in same-undone j (other (slots + j) (λ q. d (omega arith))) (λ m. same-cell (other j (λ q. omega arith)))))
 
     pub secured-by : Securing slot xs bs xs′ bs′
     secured-by =
@@ -83,9 +83,9 @@ module _ (k : ℕ) (xs bs xs′ bs′ : List ℕ) (l : k < slots) (w : Wf xs bs)
                 split (eqb j k)
                 (λ e. rw (eqb-true j k e) (s (rw (eqb-true j k e) at m)))
                 (λ e.
-                    let d = eqb-false j k e in
-                    let t = other (slots + j) (λ y. d (omega arith)) in
-                    rw (t .numbers, t .bytes) (u .saved j h (sym (same-mark j t) ∙ m)));
+                let d = eqb-false j k e in
+                let t = other (slots + j) (λ y. d (omega arith)) in
+                rw (t .numbers, t .bytes) (u .saved j h (sym (same-mark j t) ∙ m)));
             distinct = rw goes-back (u .distinct);
           };
           wf = same-wf stays w (omega (arith, only-length b p q o, p)) (omega (arith, only-length-bytes b p q o, q));

@@ -1,20 +1,19 @@
 -- The marks cleared one by one, and the stretches taken back one by one. Assumes nothing.
 use mathlib.Core.Bool.{true, false≢true}
 use mathlib.Core.List.{List}
-use mathlib.Core.Path.{_≡_, refl, sym, ap, _∙_}
+use mathlib.Core.Path.{_≡_, refl, sym, _∙_}
 use Prim.Native.Nat.{ℕ, _+_, _*_, _≤_, _<_}
-use native.Mathlib.Nat.{add-zero}
 use native.Mathlib.Omega.{arith}
 use lib.Dec.{eqb}
-use lib.ListN.{length, getD, set, take, drop, length-set}
+use lib.ListN.{length, set, take, drop, length-set}
 use lib.Seq.{getD-set-same, getD-set-other, take-set-le, drop-set-lt}
 use borrow.Author.Tests.{eqb-true, eqb-false}
 use Rattle.maps.specs.OrderLaws.{split}
-use Rattle.stretch.specs.Layout.{stretchWidth, bytesWidth}
+use Rattle.stretch.specs.Layout.{stretchWidth}
 use Rattle.stretch.specs.Stretch.{isUsed}
 use Rattle.stretch.specs.Stretch as stretch
-use Rattle.groups.specs.Area.{slots, numbersInUse, bytesInUse, stretchAt, bytesAt, cellAt, cells, Wf, Only}
-use Rattle.groups.specs.AreaLaws.{Same, same-back, same-cell, same-cells, same-wf, same-stretch, only-none, only-length, only-length-bytes, only-other, only-drop, only-drop-bytes}
+use Rattle.groups.specs.Area.{slots, numbersInUse, bytesInUse, stretchAt, bytesAt, cellAt, cells, Wf}
+use Rattle.groups.specs.AreaLaws.{Same, same-cell, same-wf, same-stretch, only-none, only-length, only-length-bytes, only-other, only-drop, only-drop-bytes}
 use Rattle.groups.specs.Laws.{free-cell, freed}
 use Rattle.groups.specs.Undo.{liveNumbers, markAt, undoneCell, undoneCells, Undoable, Begun, Undone, Copied, Restorable, UndoneAt}
 use Rattle.groups.specs.UndoLaws.{undone-are, same-mark, same-undone, undone-kept, undone-saved, undone-free}
@@ -143,8 +142,8 @@ module _ (n : ℕ) (xs bs xs′ bs′ : List ℕ) (l : n < slots) (w : Wf xs bs)
             split (eqb k n)
             (λ e. rw (eqb-true k n e) (a .wf (rw (eqb-true k n e) at y)))
             (λ e.
-                let d = eqb-false k n e in
-                rw (other k d .numbers, other k d .bytes) (t .wf k (omega (arith, d)) (rw (other k d .numbers) at y)));
+            let d = eqb-false k n e in
+            rw (other k d .numbers, other k d .bytes) (t .wf k (omega (arith, d)) (rw (other k d .numbers) at y)));
         rest = λ k h. let m = other k (λ e. omega arith) in let r = t .rest k (omega arith) in record { numbers = m .numbers ∙ r .numbers; bytes = m .bytes ∙ r .bytes };
       }
 

@@ -1,6 +1,6 @@
 -- The laws of the stretches and the cells: what is the same where stretches are the same, and what one changed stretch leaves.
 -- Assumes nothing.
-use mathlib.Core.Bool.{true, false}
+use mathlib.Core.Bool.{true}
 use mathlib.Core.List.{List, [], _∷_}
 use mathlib.Core.Option.{none}
 use mathlib.Core.Path.{_≡_, refl, sym, ap, _∙_}
@@ -17,11 +17,11 @@ use Rattle.maps.specs.OrderLaws.{split}
 use Rattle.maps.specs.Cells.{Cell, Distinct}
 use Rattle.rules.specs.Table.{Table}
 use Rattle.stretch.specs.Layout.{stretchWidth, bytesWidth}
-use Rattle.stretch.specs.Stretch.{isUsed, groupIn, cellOf}
+use Rattle.stretch.specs.Stretch.{isUsed}
 use Rattle.stretch.specs.Stretch as stretch
 use Rattle.groups.specs.declared.Slot.{Slot}
 use Rattle.groups.specs.declared.Slot.the-variants.{At, Free, Full}
-use Rattle.groups.specs.Area.{slots, numbersInUse, bytesInUse, stretchAt, bytesAt, cellAt, cellsBy, cells, groupsOf, Wf, Only, isOf, AtSlot, FreeSlot, NoSlot, Found}
+use Rattle.groups.specs.Area.{slots, numbersInUse, bytesInUse, stretchAt, bytesAt, cellAt, cellsBy, cells, groupsOf, Wf, Only, Found}
 use Rattle.groups.specs.PlaceLaws.{laid-length, laid-front, laid-behind, laid-other, laid-none, laid-in, laid-again}
 
 -- ---- cells that a function of the place gives

@@ -1,6 +1,6 @@
 -- The laws of groups that a crate above cites: where a group stands and what is looked up, the limits, what lies beside and
 -- behind a changed stretch, and what the stretches go back to. Assumes nothing.
-use mathlib.Core.Bool.{true, false, _&&_, false≢true}
+use mathlib.Core.Bool.{true, false, false≢true}
 use mathlib.Core.List.{List, []}
 use mathlib.Core.Option.{none, some, Option·some-injective, Option·none-ne-some}
 use mathlib.Core.Path.{_≡_, refl, sym, ap, _∙_}
@@ -15,7 +15,7 @@ use Rattle.maps.specs.Lists.{every}
 use Rattle.maps.specs.Maps.{lookup, numbers}
 use Rattle.maps.specs.MapLaws.{pair, Ascending}
 use Rattle.maps.specs.OrderLaws.{split, same-sym, numbersLawful}
-use Rattle.maps.specs.Cells.{Cell, mapOf, holds, isFree, Distinct}
+use Rattle.maps.specs.Cells.{Cell, holds, isFree}
 use Rattle.maps.specs.CellLaws.{lookup-at, lookup-absent, mapOf-ascending, length-le, length-full, every-mapOf, all-free}
 use Rattle.rules.specs.Context.{tableFits}
 use Rattle.rules.specs.Table.{Table}
@@ -25,8 +25,8 @@ use Rattle.stretch.specs.Laws.{cell-used, cell-free, wf-fits}
 use Rattle.groups.specs.declared.Slot.{Slot}
 use Rattle.groups.specs.declared.Slot.the-variants.{At, Free, Full}
 use Rattle.groups.specs.Area.{slots, numbersInUse, bytesInUse, stretchAt, bytesAt, cellAt, cells, groupsOf, Wf, Only, isOf, AtSlot, FreeSlot, NoSlot, Found, OnlySlot}
-use Rattle.groups.specs.Undo.{liveNumbers, markAt, undoneCell, undoneCells, Undoable, Secured}
-use Rattle.groups.specs.AreaLaws.{length-cells, getD-cells, Same, Alike, same-back, same-cell, same-cells, same-groups, same-wf, same-found, same-stretch, same-bytes, front-fits, only-none, only-set, first-set, only-length, only-length-bytes, only-other, only-drop, only-drop-bytes}
+use Rattle.groups.specs.Undo.{liveNumbers, markAt, undoneCells, Undoable, Secured}
+use Rattle.groups.specs.AreaLaws.{length-cells, getD-cells, Alike, same-back, same-cell, same-cells, same-groups, same-wf, same-found, same-stretch, same-bytes, front-fits, only-none, only-set, first-set, only-length, only-length-bytes, only-other, only-drop, only-drop-bytes}
 use Rattle.groups.specs.UndoLaws.{same-undone, same-undoneCells, Spares, same-undoable}
 
 -- ---- where a group stands
@@ -54,6 +54,15 @@ at-cell g k xs bs a = used-cell k xs bs (a .used) ∙ rw (a .number)
 pub free-cell : (k : ℕ) (xs bs : List ℕ) → isUsed (stretchAt k xs) ≡ false → cellAt k xs bs ≡ none
 unfolding cellAt
 free-cell k xs bs u = cell-free (stretchAt k xs) (bytesAt k bs) u
+
+-- the cell says where its group stands and what its table is
+pub cell-at : (g k : ℕ) (t : Table) (xs bs : List ℕ) → k < slots → cellAt k xs bs ≡ some (pair g t) → AtSlot g xs k × (tableIn (stretchAt k xs) (bytesAt k bs) ≡ t)
+cell-at g k t xs bs l e =
+    split (isUsed (stretchAt k xs))
+    (λ u.
+    let q = Option·some-injective _ (pair g t) (sym (used-cell k xs bs u) ∙ e) in
+    (record { inside = l; used = u; number = ap (λ p. p .key) q }, ap (λ p. p .val) q))
+    (λ u. absurd (Option·none-ne-some _ (sym (free-cell k xs bs u) ∙ e)))
 
 -- a stretch whose first number is 0 is free
 pub no-use : (k : ℕ) (xs : List ℕ) → getD xs (k * stretchWidth) 0 ≡ 0 → isUsed (stretchAt k xs) ≡ false
@@ -112,7 +121,7 @@ pub groups-full : (g : ℕ) (xs bs : List ℕ) → Wf xs bs → NoSlot g xs → 
 unfolding groupsOf isFree
 groups-full g xs bs w f =
     length-full (cells xs bs) (w .distinct) (λ i l.
-        let h : i < slots = omega (arith, length-cells xs bs) in rw (getD-cells i xs bs h, used-cell i xs bs (f .full i h)))
+    let h : i < slots = omega (arith, length-cells xs bs) in rw (getD-cells i xs bs h, used-cell i xs bs (f .full i h)))
     ∙ length-cells xs bs
 
 -- all stretches are free: there are no groups
@@ -191,9 +200,9 @@ kept-undone xs bs xs′ bs′ s f u =
 only-undone : (k : ℕ) (xs bs xs′ bs′ : List ℕ) → k < slots → numbersInUse ≤ length xs → bytesInUse ≤ length bs → Only k xs bs xs′ bs′ → (markAt k xs ≡ 0 → cellAt k xs bs ≡ cellAt k xs′ bs′) → Undoable xs bs → (undoneCells xs′ bs′ ≡ undoneCells xs bs) × Undoable xs′ bs′
 only-undone k xs bs xs′ bs′ l p q o f u =
     kept-undone xs bs xs′ bs′ (only-spares k xs bs xs′ bs′ l p q o) (λ j h z.
-        split (eqb j k)
-        (λ e. let d = eqb-true j k e in rw d (f (rw d at z)))
-        (λ e. sym (same-cell (only-other (omega arith) p q o j (eqb-false j k e))))) u
+    split (eqb j k)
+    (λ e. let d = eqb-true j k e in rw d (f (rw d at z)))
+    (λ e. sym (same-cell (only-other (omega arith) p q o j (eqb-false j k e))))) u
 
 -- a stretch that was freed
 pub freed : (k : ℕ) (xs bs : List ℕ) → k < slots → numbersInUse ≤ length xs → bytesInUse ≤ length bs → (isUsed (stretchAt k (set xs (k * stretchWidth) 0)) ≡ false) × Only k xs bs (set xs (k * stretchWidth) 0) bs
@@ -220,7 +229,7 @@ module _ (g : ℕ) (slot : Slot) (xs bs xs′ bs′ : List ℕ) (f : Found g xs 
   left-undone e u =
       let c = slot-only g slot xs bs xs′ bs′ f p q o in
       only-undone (c .0) xs bs xs′ bs′ (c .1) p q (c .2) (λ z.
-          sym (getD-cells (c .0) xs bs (c .1)) ∙ ap (λ (l : List (Cell Table)). getD l (c .0) none) (sym e) ∙ getD-cells (c .0) xs′ bs′ (c .1)) u
+      sym (getD-cells (c .0) xs bs (c .1)) ∙ ap (λ (l : List (Cell Table)). getD l (c .0) none) (sym e) ∙ getD-cells (c .0) xs′ bs′ (c .1)) u
 
 -- a secured slot may be written: what the stretches go back to is as it was
 pub secured-undone : (g : ℕ) (slot : Slot) (xs bs xs′ bs′ : List ℕ) → Found g xs slot → numbersInUse ≤ length xs → bytesInUse ≤ length bs → OnlySlot slot xs bs xs′ bs′ → Secured slot xs → Undoable xs bs → (undoneCells xs′ bs′ ≡ undoneCells xs bs) × Undoable xs′ bs′

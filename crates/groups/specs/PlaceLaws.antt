@@ -1,6 +1,6 @@
 -- The laws of a list that is cut into places of w numbers each, of which place k alone is changed. Assumes nothing.
 use mathlib.Core.List.{List}
-use mathlib.Core.Path.{_≡_, refl, sym, ap, _∙_}
+use mathlib.Core.Path.{_≡_, sym, ap, _∙_}
 use Prim.Native.Nat.{ℕ, _+_, _*_, _≤_, _<_}
 use native.Mathlib.Nat.{mul-le-mul-right}
 use native.Mathlib.Decide.{decLt}
@@ -50,7 +50,7 @@ module _ (w k : ℕ) (l m : List ℕ) (h : k * w + w ≤ length l) (e : m ≡ pu
       let s = part-short (k * w) w m in
       ap (part (j * w) w) e
       ∙ elim (decLt j k) [
-        yes b ↦ part-put-before (j * w) w l (k * w) (part (k * w) w m) (apart w j k b) (omega arith)
+        | yes b ↦ part-put-before (j * w) w l (k * w) (part (k * w) w m) (apart w j k b) (omega arith)
         | no b ↦ part-put-after (j * w) w l (k * w) (part (k * w) w m) (omega (arith, apart w k j (omega arith))) (omega arith)
       ]
 

@@ -1,21 +1,17 @@
 -- The laws of what the stretches go back to: it depends on the stretches and the spare ones, each by itself. Assumes nothing.
-use mathlib.Core.Bool.{true, false, cond}
 use mathlib.Core.List.{List}
 use mathlib.Core.Option.{none}
-use mathlib.Core.Path.{_≡_, refl, sym, ap, _∙_}
-use Prim.Native.Nat.{ℕ, _+_, _*_, _≤_, _<_}
+use mathlib.Core.Path.{_≡_, sym, ap, _∙_}
+use Prim.Native.Nat.{ℕ, _+_, _*_, _<_}
 use native.Mathlib.Nat.{add-zero}
 use native.Mathlib.Omega.{arith}
 use lib.Dec.{eqb}
-use lib.ListN.{length, getD}
+use lib.ListN.{getD}
 use borrow.Author.Tests.{eq-eqb, ne-eqb, eqb-true}
 use Rattle.cells.specs.PartLaws.{getD-part}
-use Rattle.maps.specs.Cells.{Cell}
 use Rattle.maps.specs.OrderLaws.{split}
-use Rattle.rules.specs.Table.{Table}
 use Rattle.stretch.specs.Layout.{stretchWidth}
-use Rattle.stretch.specs.Stretch as stretch
-use Rattle.groups.specs.Area.{slots, stretchAt, bytesAt, cellAt, cells}
+use Rattle.groups.specs.Area.{slots, stretchAt, cellAt, cells}
 use Rattle.groups.specs.Undo.{markAt, undoneCell, undoneCells, Undoable}
 use Rattle.groups.specs.AreaLaws.{Same, same-cell, same-cellsBy}
 

@@ -4,8 +4,8 @@ mod calls;
 mod search;
 mod undoing;
 
-
-
+pub use calls::apply;
+pub use calls::remove;
 pub use search::find;
 pub use undoing::begin;
 pub use undoing::secure;

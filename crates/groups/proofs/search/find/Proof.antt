@@ -7,9 +7,6 @@ use Rattle.groups.proofs.Finding.{Passed, passed-none, passed-other, pa
 use borrow.Author.Needs.{needs}
 use Rattle.groups.proofs.search.find.Statement.{statement}
 use Rattle.groups.proofs.search.find.Tie as tie
-use Rattle.groups.proofs.search.find.Reads as reads
-use Rattle.groups.proofs.search.find.Lts as lts
-use Rattle.util.proofs.slot_index.Reads as slot-index-reads
 
 abbrev Inv-loop : tie.InvT-loop
 Inv-loop xs group start free₀ i₀ free i = Passed group xs start free i
@@ -61,8 +58,8 @@ loop-again c =
     let loop = c .before .before .before .loop in
     let loop-test = c .before .before .loop-test in
     ⊎-elim
-    (λ w. rw (w .3) (passed-other _ _ _ _ _ (loop-test .taken) (loop .inv) (w .0 .taken) (w .2 .left)))
-    (λ w. rw (w .1) (passed-free _ _ _ _ _ (loop-test .taken) (loop .inv) (w .0 .left)))
+    (λ w. rw (w .3) (passed-other _ _ _ _ _ (omega (arith, loop-test .taken)) (loop .inv) (w .0 .taken) (w .2 .left)))
+    (λ w. rw (w .1) (passed-free _ _ _ _ _ (omega (arith, loop-test .taken)) (loop .inv) (w .0 .left)))
     (c .if1 .came)
 
 returns-2 : tie.Need-returns-2 Inv-loop μ-loop

@@ -6,8 +6,6 @@ use Rattle.groups.proofs.Undoings.{Cleared, cleared-none, cleared-more,
 use borrow.Author.Needs.{needs}
 use Rattle.groups.proofs.undoing.begin.Statement.{statement}
 use Rattle.groups.proofs.undoing.begin.Tie as tie
-use Rattle.groups.proofs.undoing.begin.Reads as reads
-use Rattle.groups.proofs.undoing.begin.Lts as lts
 
 abbrev Inv-loop : tie.InvT-loop
 Inv-loop xs₀ k₀ xs k = (k ≤ 8) × Cleared k xs₀ xs

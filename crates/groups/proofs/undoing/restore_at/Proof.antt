@@ -7,10 +7,6 @@ use Rattle.groups.proofs.Copies.{in-use, copied}
 use borrow.Author.Needs.{needs}
 use Rattle.groups.proofs.undoing.restore_at.Statement.{statement}
 use Rattle.groups.proofs.undoing.restore_at.Tie as tie
-use Rattle.groups.proofs.undoing.restore_at.Reads as reads
-use Rattle.groups.proofs.undoing.restore_at.Lts as lts
-use Rattle.cells.proofs.shift_down_u8.Reads as shift-down-u8-reads
-use Rattle.cells.proofs.shift_down_u64.Reads as shift-down-u64-reads
 
 add-from : tie.Need-add-from
 add-from c = search needs

@@ -7,10 +7,6 @@ use Rattle.groups.proofs.Copies.{in-use, copied}
 use borrow.Author.Needs.{needs}
 use Rattle.groups.proofs.undoing.save_at.Statement.{statement}
 use Rattle.groups.proofs.undoing.save_at.Tie as tie
-use Rattle.groups.proofs.undoing.save_at.Reads as reads
-use Rattle.groups.proofs.undoing.save_at.Lts as lts
-use Rattle.cells.proofs.shift_up_u8.Reads as shift-up-u8-reads
-use Rattle.cells.proofs.shift_up_u64.Reads as shift-up-u64-reads
 
 mul-from : tie.Need-mul-from
 mul-from c = search needs

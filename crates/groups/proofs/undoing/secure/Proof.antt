@@ -5,10 +5,6 @@ use Rattle.groups.proofs.Securings.{secured-stays, nothing-secured}
 use borrow.Author.Needs.{needs}
 use Rattle.groups.proofs.undoing.secure.Statement.{statement}
 use Rattle.groups.proofs.undoing.secure.Tie as tie
-use Rattle.groups.proofs.undoing.secure.Reads as reads
-use Rattle.groups.proofs.undoing.secure.Lts as lts
-use Rattle.groups.proofs.undoing.secure_free.Reads as secure-free-reads
-use Rattle.groups.proofs.undoing.secure_used.Reads as secure-used-reads
 
 enum-known-slot : tie.Need-enum-known-slot
 enum-known-slot c = search needs

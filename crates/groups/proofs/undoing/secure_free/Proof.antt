@@ -5,8 +5,6 @@ use Rattle.groups.proofs.Securings.{secured-stays, marked-free, secured
 use borrow.Author.Needs.{needs}
 use Rattle.groups.proofs.undoing.secure_free.Statement.{statement}
 use Rattle.groups.proofs.undoing.secure_free.Tie as tie
-use Rattle.groups.proofs.undoing.secure_free.Reads as reads
-use Rattle.groups.proofs.undoing.secure_free.Lts as lts
 
 add-at : tie.Need-add-at
 add-at c = search needs

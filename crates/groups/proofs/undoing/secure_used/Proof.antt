@@ -5,9 +5,6 @@ use Rattle.groups.proofs.Securings.{secured-stays, marked-at, secured-s
 use borrow.Author.Needs.{needs}
 use Rattle.groups.proofs.undoing.secure_used.Statement.{statement}
 use Rattle.groups.proofs.undoing.secure_used.Tie as tie
-use Rattle.groups.proofs.undoing.secure_used.Reads as reads
-use Rattle.groups.proofs.undoing.secure_used.Lts as lts
-use Rattle.groups.proofs.undoing.save_at.Reads as save-at-reads
 
 add-if1 : tie.Need-add-if1
 add-if1 c = search needs

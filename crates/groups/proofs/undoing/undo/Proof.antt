@@ -6,9 +6,6 @@ use Rattle.groups.proofs.Undoings.{Taken, taken-none, taken-ready, take
 use borrow.Author.Needs.{needs}
 use Rattle.groups.proofs.undoing.undo.Statement.{statement}
 use Rattle.groups.proofs.undoing.undo.Tie as tie
-use Rattle.groups.proofs.undoing.undo.Reads as reads
-use Rattle.groups.proofs.undoing.undo.Lts as lts
-use Rattle.groups.proofs.undoing.undo_at.Reads as undo-at-reads
 
 abbrev Inv-loop : tie.InvT-loop
 Inv-loop xs₀ bs₀ k₀ xs bs k = (k ≤ 8) × Taken k xs₀ bs₀ xs bs

@@ -4,10 +4,6 @@ use Rattle.groups.proofs.Undoings.{undone-stays, undone-back, undone-go
 use borrow.Author.Needs.{needs}
 use Rattle.groups.proofs.undoing.undo_at.Statement.{statement}
 use Rattle.groups.proofs.undoing.undo_at.Tie as tie
-use Rattle.groups.proofs.undoing.undo_at.Reads as reads
-use Rattle.groups.proofs.undoing.undo_at.Lts as lts
-use Rattle.groups.proofs.calls.free_at.Reads as free-at-reads
-use Rattle.groups.proofs.undoing.restore_at.Reads as restore-at-reads
 
 add-mark : tie.Need-add-mark
 add-mark c = search needs
