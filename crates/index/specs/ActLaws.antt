@@ -17,7 +17,9 @@ use Rattle.groups.specs.Area.{numbersInUse, bytesInUse, cells, groupsOf, Wf, Fo
 use Rattle.groups.specs.Calls.{onGroup, ChangedGroup, RemovedGroup}
 use Rattle.groups.specs.Undo.{undoneCells, Undoable, Secured, Securing}
 use Rattle.groups.specs.Laws.{live-found, slot-behind, left-undone, secured-undone}
-use Rattle.index.specs.Acts.{UndoKept, BehindKept, SecuredUnless, Acted}
+use Rattle.stretch.specs.declared.Change.{Change}
+use Rattle.index.specs.declared.Deed as deed
+use Rattle.index.specs.Acts.{deedOn, DeedReady, UndoKept, BehindKept, SecuredUnless, Acted}
 
 -- nothing is secured where no item follows
 pub unsecured : (last : Bool) (slot : Slot) (xs bs : List ℕ) → last ≡ true → Wf xs bs → Undoable xs bs → SecuredUnless last slot xs bs xs bs
@@ -104,3 +106,26 @@ module _ (g : ℕ) (slot : Slot) (last : Bool) (xs bs ys ds : List ℕ) (f : Fou
         behind = behind-all zs es (a .only);
         wf = a .wf;
       }
+
+  -- what a change asks of the group is there still
+  pub ready-still : (P : Table → Type 0) → P (made (lookup numbers g (groupsOf xs bs))) → P (made (lookup numbers g (groupsOf ys ds)))
+  ready-still P r = rw groups-stay r
+
+-- ---- by the deed
+
+module _ (last : Bool) (g : ℕ) (rows key value xs bs ys ds : List ℕ) (r : Outcome) where
+  pub act-skip : (d : deed.Deed) → d ≡ deed.the-variants.Skip → Acted (λ m. ok m) last xs bs r ys ds → Acted (deedOn d g rows key value) last xs bs r ys ds
+  unfolding deedOn
+  act-skip d e a = rw e a
+
+  pub act-clean : (d : deed.Deed) → d ≡ deed.the-variants.Clean → Acted (λ m. ok (remove numbers g m)) last xs bs r ys ds → Acted (deedOn d g rows key value) last xs bs r ys ds
+  unfolding deedOn
+  act-clean d e a = rw e a
+
+  pub act-change : (d : deed.Deed) (ch : Change) → d ≡ deed.the-variants.Change ch → Acted (onGroup (ruleOf ch rows key value) g) last xs bs r ys ds → Acted (deedOn d g rows key value) last xs bs r ys ds
+  unfolding deedOn
+  act-change d ch e a = rw e a
+
+pub change-ready : (d : deed.Deed) (ch : Change) (rows key value : List ℕ) (t : Table) → d ≡ deed.the-variants.Change ch → DeedReady d rows key value t → Ready ch rows key value t
+unfolding DeedReady
+change-ready d ch rows key value t e r = rw e at r

@@ -1,7 +1,10 @@
 // The accessor of groups, recovery and live writes (src/memtable.rs): contexts and the index over lent areas.
+mod acts;
+mod batches;
 mod contexts;
 mod deeds;
 mod growth;
+mod items;
 
 pub use contexts::fresh;
 use stretch::Change;
