@@ -11,3 +11,4 @@ pub mod ActLaws
 pub mod RunLaws
 pub mod BatchLaws
 pub mod GrowthLaws
+pub mod CarryLaws

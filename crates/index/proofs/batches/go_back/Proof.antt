@@ -1,3 +1,5 @@
+use borrow.Rule.Slice.PartAt.{part-to-end}
+use Rattle.index.proofs.BatchWays.{went-back}
 use borrow.Author.Needs.{needs}
 use Rattle.index.proofs.batches.go_back.Statement.{statement}
 use Rattle.index.proofs.batches.go_back.Tie as tie
@@ -6,41 +8,39 @@ use Rattle.index.proofs.batches.go_back.Lts as lts
 use Rattle.groups.proofs.undo.Reads as undo-reads
 use Rattle.lists.proofs.cut.Reads as cut-reads
 
--- src/batches.rt:62:5
 undo-requires : tie.Need-undo-requires
 undo-requires c κs = search needs
 
--- src/batches.rt:64:16
 mul-cut : tie.Need-mul-cut
 mul-cut c = search needs
 
--- src/batches.rt:64:16
 sub-cut : tie.Need-sub-cut
 sub-cut c = search needs
 
--- src/batches.rt:64:16
 part-cut-start : tie.Need-part-cut-start
 part-cut-start c = search needs
 
--- src/batches.rt:64:16
 part-cut-end : tie.Need-part-cut-end
 part-cut-end c = search needs
 
--- src/batches.rt:64:5
 cut-requires : tie.Need-cut-requires
-cut-requires c κs = ?
+cut-requires c κs =
+    let start = c .before .before .before .before .before .before .before .before .before .before in
+    let undo = c .before .before .before .before .before .undo in
+    rw (part-to-end (undo .last .0) 9376, undo .ensures .behind) (start .pre .0 .rest .numbers-are)
 
--- src/batches.rt:56:1
 same-length : tie.Need-same-length
 same-length c = search needs
 
--- src/batches.rt:56:1
 same-length-2 : tie.Need-same-length-2
 same-length-2 c = search needs
 
--- src/batches.rt:56:1
 returns : tie.Need-returns
-returns c = ?
+returns c =
+    let start = c .before .before .before .before .before .before .before .before .before .before .before .before .before in
+    let undo = c .before .before .before .before .before .before .before .before .undo in
+    let cut = c .before .before .cut in
+    went-back _ _ (start .args .xs .now) (start .args .bs .now) (undo .last .0) (undo .last .1 .0) (cut .last .0) (start .pre .1 .1) (undo .ensures) (cut .ensures)
 
 pub go-back-spec : {M : Type 1} → statement M
 go-back-spec =

@@ -1,3 +1,8 @@
+use Prim.Native.Nat.{_-_}
+use borrow.Rule.Slice.PartAt.{part-to-end}
+use Rattle.log_batch.specs.Judged.{callOf}
+use Rattle.index.specs.BatchLaws.{begun-context}
+use Rattle.index.proofs.BatchWays.{Under, under-start, under-more, under-back, under-refused, under-all, area-length, area-bytes, same-lengths}
 use borrow.Author.Needs.{needs}
 use native.Mathlib.Omega.{arith}
 use Rattle.index.proofs.batches.run_items.Statement.{statement}
@@ -11,97 +16,125 @@ use Rattle.lists.proofs.counts_in.Reads as counts-in-reads
 use Rattle.log_batch.proofs.open.row_count.Reads as row-count-reads
 
 abbrev Inv-loop : tie.InvT-loop
-Inv-loop xs₀ bs₀ call items entries bytes a counts n i₀ xs bs i = ?
+Inv-loop xs₀ bs₀ call items entries bytes a counts n i₀ xs bs i =
+    Under (callOf call) items entries bytes n (counts .tombstones) (counts .cleaned) xs₀ bs₀ i xs bs
 
 abbrev μ-loop : tie.MeasureT-loop
-μ-loop xs₀ bs₀ call items entries bytes a counts n i₀ xs bs i = ?
+μ-loop xs₀ bs₀ call items entries bytes a counts n i₀ xs bs i = n - i
 
--- src/batches.rt:82:35
 mul-counts-in : tie.Need-mul-counts-in Inv-loop μ-loop
 mul-counts-in c = search needs
 
--- src/batches.rt:82:35
 sub-counts-in : tie.Need-sub-counts-in Inv-loop μ-loop
 sub-counts-in c = search needs
 
--- src/batches.rt:82:35
 part-counts-in-start : tie.Need-part-counts-in-start Inv-loop μ-loop
 part-counts-in-start c = search needs
 
--- src/batches.rt:82:35
 part-counts-in-end : tie.Need-part-counts-in-end Inv-loop μ-loop
 part-counts-in-end c = search needs
 
--- src/batches.rt:82:9
 counts-in-requires : tie.Need-counts-in-requires Inv-loop μ-loop
-counts-in-requires c κs = search needs
+counts-in-requires c κs =
+    let start = c .before .before .before .before .before .before .before in
+    rw (part-to-end (start .args .xs .now) 9376) (start .pre .0 .rest .numbers-are)
 
--- src/batches.rt:83:5
 begin-requires : tie.Need-begin-requires Inv-loop μ-loop
 begin-requires c κs = search needs
 
--- src/batches.rt:84:9
 row-count-requires : tie.Need-row-count-requires Inv-loop μ-loop
 row-count-requires c κs = search needs
 
--- src/batches.rt:86:5
 loop-holds : tie.Need-loop-holds Inv-loop μ-loop
-loop-holds c = ?
+loop-holds c =
+    let start = c .before .before .before .before .before .before .before .before .before .before .before .before .before in
+    let counts-in = c .before .before .before .before .before .counts-in in
+    let begin = c .before .before .before .begin in
+    under-start _ _ _ _ _ (start .args .xs .now) (start .args .bs .now) _ _ _ (start .pre .0) (begin .ensures _ (start .pre .0 .groups)) (counts-in .ensures .0) (counts-in .ensures .1)
 
--- src/batches.rt:87:67
 add-turn : tie.Need-add-turn Inv-loop μ-loop
 add-turn c = search needs
 
--- src/batches.rt:87:13
 turn-requires : tie.Need-turn-requires Inv-loop μ-loop
-turn-requires c κs = search needs
+turn-requires c κs =
+    let start = c .before .before .before .before .before .before .before .before .before .before .before .before .before .before .before .before .before in
+    let row-count = c .before .before .before .before .row-count in
+    let loop = c .before .before .before .loop in
+    let loop-test = c .before .before .loop-test in
+    (loop .inv .wf, (loop .inv .going (loop-test .taken) .undoable, (rw (row-count .ensures) at (loop-test .taken), start .pre .1)))
 
--- src/batches.rt:88:33
 enum-known-answer : tie.Need-enum-known-answer Inv-loop μ-loop
 enum-known-answer c = search needs
 
--- src/batches.rt:89:13
 go-back-requires : tie.Need-go-back-requires Inv-loop μ-loop
-go-back-requires c κs = search needs
+go-back-requires c κs =
+    let loop = c .before .before .before .before .before .before .before .before .before .before .before .before .before .loop in
+    let loop-test = c .before .before .before .before .before .before .before .before .before .before .before .before .loop-test in
+    let turn = c .before .before .before .before .before .before .before .before .before .turn in
+    let answer = c .before .before .before .answer in
+    let s = rw (answer .given .1) at (turn .ensures) in let g = under-back _ _ _ _ _ _ _ _ _ _ _ _ (loop .inv) (loop-test .taken) _ _ _ s in (s .wf, (g .undoable, g .lists-wf))
 
--- src/batches.rt:90:13
 same-length : tie.Need-same-length Inv-loop μ-loop
-same-length c = search needs
+same-length c =
+    let start = c .before .before .before .before .before .before .before .before .before .before .before .before .before .before .before .before .before .before .before .before .before .before .before .before .before .before .before .before .before .before .before .before in
+    let go-back = c .before .before .before .before .go-back in
+    same-lengths (area-length _ _ (go-back .ensures .wf)) (area-length _ _ (start .pre .0))
 
--- src/batches.rt:90:13
 same-length-2 : tie.Need-same-length-2 Inv-loop μ-loop
-same-length-2 c = search needs
+same-length-2 c =
+    let start = c .before .before .before .before .before .before .before .before .before .before .before .before .before .before .before .before .before .before .before .before .before .before .before .before .before .before .before .before .before .before .before .before in
+    let go-back = c .before .before .before .before .go-back in
+    same-lengths (area-bytes _ _ (go-back .ensures .wf)) (area-bytes _ _ (start .pre .0))
 
--- src/batches.rt:90:13
 returns : tie.Need-returns Inv-loop μ-loop
-returns c = ?
+returns c =
+    let start = c .before .before .before .before .before .before .before .before .before .before .before .before .before .before .before .before .before .before .before .before .before .before .before .before .before .before .before .before .before .before .before .before in
+    let begin = c .before .before .before .before .before .before .before .before .before .before .before .before .before .before .before .before .before .before .before .before .before .before .begin in
+    let row-count = c .before .before .before .before .before .before .before .before .before .before .before .before .before .before .before .before .before .before .before .row-count in
+    let loop = c .before .before .before .before .before .before .before .before .before .before .before .before .before .before .before .before .before .before .loop in
+    let loop-test = c .before .before .before .before .before .before .before .before .before .before .before .before .before .before .before .before .before .loop-test in
+    let turn = c .before .before .before .before .before .before .before .before .before .before .before .before .before .before .turn in
+    let answer = c .before .before .before .before .before .before .before .before .answer in
+    let go-back = c .before .before .before .before .go-back in
+    under-refused _ _ _ _ _ _ _ _ _ _ _ _ (loop .inv) (loop-test .taken) _ _ _ _ _ (rw (answer .given .1) at (turn .ensures)) (go-back .ensures) _ _ (begun-context (start .args .xs .now) (start .args .bs .now) _ (start .pre .0) (begin .ensures _ (start .pre .0 .groups))) (row-count .ensures)
 
 enum-told : tie.Need-enum-told Inv-loop μ-loop
 enum-told c = search needs
 
--- src/batches.rt:95:9
 add-i : tie.Need-add-i Inv-loop μ-loop
 add-i c = search needs
 
--- src/batches.rt:86:5
 loop-less : tie.Need-loop-less Inv-loop μ-loop
 loop-less c = search needs
 
--- src/batches.rt:86:5
 loop-again : tie.Need-loop-again Inv-loop μ-loop
-loop-again c = ?
+loop-again c =
+    let loop = c .before .before .before .before .before .before .before .before .before .before .loop in
+    let loop-test = c .before .before .before .before .before .before .before .before .before .loop-test in
+    let turn = c .before .before .before .before .before .before .turn in
+    let enum-told = c .enum-told in
+    under-more _ _ _ _ _ _ _ _ _ _ _ _ (loop .inv) (loop-test .taken) _ _ (rw (enum-told .given .1) at (turn .ensures))
 
--- src/batches.rt:68:1
 same-length-3 : tie.Need-same-length-3 Inv-loop μ-loop
-same-length-3 c = search needs
+same-length-3 c =
+    let start = c .before .before .before .before .before .before .before .before .before .before .before .before .before .before .before in
+    let loop = c .before .loop in
+    same-lengths (area-length _ _ (loop .inv .wf)) (area-length _ _ (start .pre .0))
 
--- src/batches.rt:68:1
 same-length-4 : tie.Need-same-length-4 Inv-loop μ-loop
-same-length-4 c = search needs
+same-length-4 c =
+    let start = c .before .before .before .before .before .before .before .before .before .before .before .before .before .before .before in
+    let loop = c .before .loop in
+    same-lengths (area-bytes _ _ (loop .inv .wf)) (area-bytes _ _ (start .pre .0))
 
--- src/batches.rt:68:1
 returns-2 : tie.Need-returns-2 Inv-loop μ-loop
-returns-2 c = ?
+returns-2 c =
+    let start = c .before .before .before .before .before .before .before .before .before .before .before .before .before .before .before in
+    let begin = c .before .before .before .before .before .begin in
+    let row-count = c .before .before .row-count in
+    let loop = c .before .loop in
+    let loop-test = c .loop-test in
+    under-all _ _ _ _ _ _ _ _ _ _ _ _ (loop .inv) (loop-test .left) _ _ (begun-context (start .args .xs .now) (start .args .bs .now) _ (start .pre .0) (begin .ensures _ (start .pre .0 .groups))) (row-count .ensures)
 
 pub run-items-spec : {M : Type 1} → statement M
 run-items-spec =
