@@ -2,3 +2,4 @@
 pub mod GrowthLaws
 pub mod ContextLaws
 pub mod BatchWays
+pub mod CallLaws

@@ -1,11 +1,15 @@
 // The accessor of groups, recovery and live writes (src/memtable.rs): contexts and the index over lent areas.
 mod acts;
 mod batches;
+mod calls;
 mod contexts;
 mod deeds;
 mod growth;
 mod items;
 
+pub use calls::append;
+pub use calls::replay_append;
+pub use calls::rewrite;
 pub use contexts::fresh;
 use stretch::Change;
 
