@@ -1,0 +1,95 @@
+-- The calls of a batch: the wrong kind, a batch that is refused by the checks, and one that is carried out. Assumes nothing.
+use mathlib.Core.Bool.{Bool, true, false, cond, _&&_}
+use mathlib.Core.List.{List}
+use mathlib.Core.Option.{none, some}
+use mathlib.Core.Path.{_≡_, refl, sym, ap, _∙_}
+use Prim.Native.Nat.{ℕ, _-_, _<_}
+use native.Mathlib.Omega.{arith}
+use lib.ListN.{length, getD, take, drop}
+use borrow.Rule.Slice.PartAt.{part-to-end}
+use Rattle.maps.specs.Lists.{orElse}
+use Rattle.rules.specs.Causes.{Refusal, Result, ok, refused, refuse, left, wrongKind}
+use Rattle.rules.specs.Items.{FileId, Append, Rewrite, sameQueue, placedFrom, Batch, Call, replayAppend, liveAppend, liveRewrite}
+use Rattle.rules.specs.Checks.{checks}
+use Rattle.rules.specs.Context.{Context, Kind, isContext, isIndex, withGroups, limited, run}
+use Rattle.rules.specs.Calls.{checked, runBatch, replayBatch, replay, write, append, rewrite}
+use Rattle.log_batch.specs.Lent.{itemsOf, batchOf}
+use Rattle.lists.specs.Rest.{kindOf, restOf}
+use Rattle.lists.specs.Laws.{rest-kind}
+use Rattle.index.specs.declared.Answer.{Answer}
+use Rattle.index.specs.declared.Answer.the-variants as answer
+use Rattle.index.specs.declared.Position.the-variants as position
+use Rattle.index.specs.Contexts.{contextOf, Wf, answerAs, positionOf, Called}
+
+-- a call that refuses at once
+pub refused-called : (to : Context → Result Context) (xs bs : List ℕ) (r : Answer) (f : Refusal) → Wf xs bs → to (contextOf xs bs) ≡ refused f → answerAs r (contextOf xs bs) ≡ refused f → Called to xs bs r xs bs
+unfolding left
+refused-called to xs bs r f w e a =
+    record { answers = a ∙ sym e; leaves = sym (ap (left (contextOf xs bs)) e); wf = w }
+
+-- a call that is another one on this area
+pub same-called : (to as′ : Context → Result Context) (xs bs : List ℕ) (r : Answer) (ys ds : List ℕ) → to (contextOf xs bs) ≡ as′ (contextOf xs bs) → Called as′ xs bs r ys ds → Called to xs bs r ys ds
+same-called to as′ xs bs r ys ds e k =
+    record { answers = k .answers ∙ sym e; leaves = k .leaves ∙ ap (left (contextOf xs bs)) (sym e); wf = k .wf }
+
+-- ---- the checks
+
+module _ (c : Call) (file : FileId) (items es ds : List ℕ) (xs bs : List ℕ) where
+  abbrev batch : Batch
+  batch = batchOf file items es ds
+
+  abbrev writes-it : Context → Result Context
+  writes-it x = checked c batch (runBatch c batch x)
+
+  pub checks-refuse : (n p : ℕ) → Wf xs bs → some (record { number = n; place = some p }) ≡ checks c (itemsOf items es ds) → Called writes-it xs bs (answer.Refused n (position.At p)) xs bs
+  unfolding checked batchOf orElse answerAs positionOf
+  checks-refuse n p w e =
+      refused-called writes-it xs bs (answer.Refused n (position.At p)) (record { number = n; place = some p }) w (rw (← e)) refl
+
+  pub checks-pass : (r : Answer) (ys fs : List ℕ) → none ≡ checks c (itemsOf items es ds) → Called (run limited c (placedFrom 0 (itemsOf items es ds))) xs bs r ys fs → Called writes-it xs bs r ys fs
+  unfolding checked runBatch batchOf orElse
+  checks-pass r ys fs e k =
+      same-called writes-it (run limited c (placedFrom 0 (itemsOf items es ds))) xs bs r ys fs (rw (← e)) k
+
+-- ---- the kind
+
+module _ (xs bs : List ℕ) (k : Kind) (e : k ≡ kindOf (getD (take (length xs - 9376) (drop 9376 xs)) 0 0)) where
+  kind-is : contextOf xs bs .kind ≡ k
+  unfolding contextOf withGroups
+  kind-is = rest-kind (drop 9376 xs) (drop 16384 bs) ∙ sym (rw (part-to-end xs 9376) at e)
+
+  module _ (file : FileId) (items es ds : List ℕ) where
+    pub replay-wrong : (seq : ℕ) → Wf xs bs → isContext Append k ≡ false → Called (replay (batchOf (record { queue = Append; seq = seq }) items es ds)) xs bs (answer.Refused 1 position.None) xs bs
+    unfolding replay batchOf answerAs positionOf
+    replay-wrong seq w f =
+        refused-called (replay (batchOf (record { queue = Append; seq = seq }) items es ds)) xs bs (answer.Refused 1 position.None) _ w (rw (kind-is, f)) refl
+
+    pub replay-right : (seq : ℕ) (r : Answer) (ys fs : List ℕ) → isContext Append k ≡ true → Called (writes-it replayAppend (record { queue = Append; seq = seq }) items es ds xs bs) xs bs r ys fs → Called (replay (batchOf (record { queue = Append; seq = seq }) items es ds)) xs bs r ys fs
+    unfolding replay replayBatch batchOf
+    replay-right seq r ys fs y c =
+        same-called _ (writes-it replayAppend (record { queue = Append; seq = seq }) items es ds xs bs) xs bs r ys fs (rw (kind-is, y)) c
+
+    pub append-wrong : Wf xs bs → (isIndex k && sameQueue (file .queue) Append) ≡ false → Called (append (batchOf file items es ds)) xs bs (answer.Refused 1 position.None) xs bs
+    unfolding append write batchOf answerAs positionOf
+    append-wrong w f =
+        refused-called (append (batchOf file items es ds)) xs bs (answer.Refused 1 position.None) _ w (rw (kind-is, f)) refl
+
+    pub append-right : (r : Answer) (ys fs : List ℕ) → (isIndex k && sameQueue (file .queue) Append) ≡ true → Called (writes-it liveAppend file items es ds xs bs) xs bs r ys fs → Called (append (batchOf file items es ds)) xs bs r ys fs
+    unfolding append write batchOf
+    append-right r ys fs y c =
+        same-called _ (writes-it liveAppend file items es ds xs bs) xs bs r ys fs (rw (kind-is, y)) c
+
+    module _ (gate : _) where
+      pub rewrite-wrong : Wf xs bs → (isIndex k && sameQueue (file .queue) Rewrite) ≡ false → Called (rewrite gate (batchOf file items es ds)) xs bs (answer.Refused 1 position.None) xs bs
+      unfolding rewrite write batchOf answerAs positionOf
+      rewrite-wrong w f =
+          refused-called (rewrite gate (batchOf file items es ds)) xs bs (answer.Refused 1 position.None) _ w (rw (kind-is, f)) refl
+
+      pub rewrite-right : (r : Answer) (ys fs : List ℕ) → (isIndex k && sameQueue (file .queue) Rewrite) ≡ true → Called (writes-it (liveRewrite gate (file .seq)) file items es ds xs bs) xs bs r ys fs → Called (rewrite gate (batchOf file items es ds)) xs bs r ys fs
+      unfolding rewrite write batchOf
+      rewrite-right r ys fs y c =
+          same-called _ (writes-it (liveRewrite gate (file .seq)) file items es ds xs bs) xs bs r ys fs (rw (kind-is, y)) c
+
+-- the numbers behind the groups begin with the kind
+pub zero-below : (l : List ℕ) → length l ≡ 7776 → 0 < length l
+zero-below l e = omega arith

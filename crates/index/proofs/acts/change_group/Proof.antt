@@ -1,0 +1,48 @@
+use Rattle.stretch.specs.Changes.{Ready}
+use Rattle.index.specs.ActLaws.{found-still, ready-still, acted-change}
+use borrow.Author.Needs.{needs}
+use Rattle.index.proofs.acts.change_group.Statement.{statement}
+use Rattle.index.proofs.acts.change_group.Tie as tie
+use Rattle.index.proofs.acts.change_group.Reads as reads
+use Rattle.index.proofs.acts.change_group.Lts as lts
+use Rattle.groups.proofs.apply.Reads as apply-reads
+use Rattle.groups.proofs.find.Reads as find-reads
+use Rattle.index.proofs.acts.secure_unless.Reads as secure-unless-reads
+
+find-requires : tie.Need-find-requires
+find-requires c κs = search needs
+
+secure-unless-requires : tie.Need-secure-unless-requires
+secure-unless-requires c κs = search needs
+
+apply-requires : tie.Need-apply-requires
+apply-requires c κs =
+    let start = c .before .before .before .before .before .before .before .before .before .before .before .before .before .before .before .before in
+    let find = c .before .before .before .before .before .before .before .before .before .find in
+    let secure-unless = c .before .before .before .before .before .before .secure-unless in
+    (secure-unless .ensures .wf, (found-still (start .args .group) (find .result) (start .args .last) (start .args .xs .now) (start .args .bs .now) _ _ (find .ensures) (secure-unless .ensures), ready-still (start .args .group) (find .result) (start .args .last) (start .args .xs .now) (start .args .bs .now) _ _ (find .ensures) (secure-unless .ensures) (Ready (start .args .change) (start .args .rows .now) (start .args .key .now) (start .args .value .now)) (start .pre .1 .1)))
+
+same-length : tie.Need-same-length
+same-length c = search needs
+
+same-length-2 : tie.Need-same-length-2
+same-length-2 c = search needs
+
+returns : tie.Need-returns
+returns c =
+    let start = c .before .before .before .before .before .before .before .before .before .before .before .before .before .before .before .before .before .before .before .before .before in
+    let find = c .before .before .before .before .before .before .before .before .before .before .before .before .before .before .find in
+    let secure-unless = c .before .before .before .before .before .before .before .before .before .before .before .secure-unless in
+    let apply = c .before .before .before .before .apply in
+    acted-change (start .args .group) (find .result) (start .args .last) (start .args .xs .now) (start .args .bs .now) _ _ (find .ensures) (secure-unless .ensures) _ _ _ _ (apply .ensures)
+
+pub change-group-spec : {M : Type 1} → statement M
+change-group-spec =
+    tie.close
+    (tie.spec
+    find-requires
+    secure-unless-requires
+    apply-requires
+    same-length
+    same-length-2
+    returns)

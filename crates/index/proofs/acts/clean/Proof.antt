@@ -1,0 +1,47 @@
+use Rattle.index.specs.ActLaws.{found-still, acted-clean}
+use borrow.Author.Needs.{needs}
+use Rattle.index.proofs.acts.clean.Statement.{statement}
+use Rattle.index.proofs.acts.clean.Tie as tie
+use Rattle.index.proofs.acts.clean.Reads as reads
+use Rattle.index.proofs.acts.clean.Lts as lts
+use Rattle.groups.proofs.remove.Reads as remove-reads
+use Rattle.groups.proofs.find.Reads as find-reads
+use Rattle.index.proofs.acts.secure_unless.Reads as secure-unless-reads
+
+find-requires : tie.Need-find-requires
+find-requires c κs = search needs
+
+secure-unless-requires : tie.Need-secure-unless-requires
+secure-unless-requires c κs = search needs
+
+remove-requires : tie.Need-remove-requires
+remove-requires c κs =
+    let start = c .before .before .before .before .before .before .before .before .before .before .before .before in
+    let find = c .before .before .before .before .before .before .before .before .find in
+    let secure-unless = c .before .before .before .before .before .secure-unless in
+    (secure-unless .ensures .wf .numbers-fit, found-still (start .args .group) (find .result) (start .args .last) (start .args .xs .now) (start .args .bs .now) _ _ (find .ensures) (secure-unless .ensures))
+
+same-length : tie.Need-same-length
+same-length c = search needs
+
+same-length-2 : tie.Need-same-length-2
+same-length-2 c = search needs
+
+returns : tie.Need-returns
+returns c =
+    let start = c .before .before .before .before .before .before .before .before .before .before .before .before .before .before .before in
+    let find = c .before .before .before .before .before .before .before .before .before .before .before .find in
+    let secure-unless = c .before .before .before .before .before .before .before .before .secure-unless in
+    let remove = c .before .before .remove in
+    acted-clean (start .args .group) (find .result) (start .args .last) (start .args .xs .now) (start .args .bs .now) _ _ (find .ensures) (secure-unless .ensures) _ (remove .ensures _ (secure-unless .ensures .wf))
+
+pub clean-spec : {M : Type 1} → statement M
+clean-spec =
+    tie.close
+    (tie.spec
+    find-requires
+    secure-unless-requires
+    remove-requires
+    same-length
+    same-length-2
+    returns)

@@ -1,0 +1,23 @@
+use Rattle.index.specs.DeedLaws.{none-first}
+use borrow.Author.Needs.{needs}
+use Rattle.index.proofs.deeds.first_of.Statement.{statement}
+use Rattle.index.proofs.deeds.first_of.Tie as tie
+use Rattle.index.proofs.deeds.first_of.Reads as reads
+use Rattle.index.proofs.deeds.first_of.Lts as lts
+
+-- src/deeds.rt:124:9
+returns : tie.Need-returns
+returns c =
+    let start = c .before in
+    none-first (start .args .rows .now) (c .if1 .taken)
+
+-- src/deeds.rt:126:5
+shared-slice-read-result : tie.Need-shared-slice-read-result
+shared-slice-read-result c = search needs
+
+-- src/deeds.rt:120:1
+returns-2 : tie.Need-returns-2
+returns-2 c = search needs
+
+pub first-of-spec : {M : Type 1} → statement M
+first-of-spec = tie.close (tie.spec returns shared-slice-read-result returns-2)

@@ -1,0 +1,33 @@
+use borrow.Author.Needs.{needs}
+use Rattle.index.proofs.deeds.key_deed.Statement.{statement}
+use Rattle.index.proofs.deeds.key_deed.Tie as tie
+use Rattle.index.proofs.deeds.key_deed.Reads as reads
+use Rattle.index.proofs.deeds.key_deed.Lts as lts
+use Rattle.index.proofs.deeds.put_deed.Reads as put-deed-reads
+
+enum-told : tie.Need-enum-told
+enum-told c = search needs
+
+-- src/deeds.rt:113:29
+enum-told-2 : tie.Need-enum-told-2
+enum-told-2 c = search needs
+
+-- src/deeds.rt:113:9
+returns : tie.Need-returns
+returns c =
+    let enum-told2 = c .enum-told2 in
+    rw (enum-told2 .given .1)
+
+-- src/deeds.rt:116:5
+put-deed-requires : tie.Need-put-deed-requires
+put-deed-requires c κs = search needs
+
+-- src/deeds.rt:108:1
+returns-2 : tie.Need-returns-2
+returns-2 c =
+    let enum-told = c .before .enum-told in
+    let put-deed = c .put-deed in
+    rw (enum-told .given .1) (put-deed .ensures)
+
+pub key-deed-spec : {M : Type 1} → statement M
+key-deed-spec = tie.close (tie.spec enum-told enum-told-2 returns put-deed-requires returns-2)

@@ -1,0 +1,121 @@
+// A batch on an area: its items in order, and back to where it began if one is refused.
+ghost use mathlib.Core.Bool.{false};
+ghost use mathlib.Core.Option.{none};
+ghost use mathlib.Core.Path.{_≡_};
+ghost use Prim.Native.Nat.{_<_, _≤_, _*_};
+ghost use lib.ListN.{length, getD, drop};
+ghost use Rattle.rules.specs.Items.{FileId, placedFrom};
+ghost use Rattle.rules.specs.Checks.{checks, isRewriteReplay};
+ghost use Rattle.rules.specs.Context.{limited, run};
+ghost use Rattle.rules.specs.Calls.{checked, runBatch};
+ghost use Rattle.log_batch.specs.Lent.{rowCount, itemAt, itemsOf, batchOf};
+ghost use Rattle.log_batch.specs.Judged.{callOf};
+ghost use Rattle.groups.specs.Undo.{Undoable};
+ghost use Rattle.lists.specs.Rest.{cutTo};
+ghost use Rattle.lists.specs.Rest as lists·rest;
+ghost use Rattle.index.specs.Contexts.{Wf, Called};
+ghost use Rattle.index.specs.Runs.{Stepped, WentBack};
+use crate::Answer;
+use crate::Position;
+use crate::items::carry_out;
+use lists::Counts;
+use log_batch::Call;
+use log_batch::Checked;
+use log_batch::check;
+use log_batch::open::Opened;
+use log_batch::open::open_item;
+use log_batch::open::row_count;
+use stretch::Outcome;
+
+// Carries out item i of a batch that passed the checks.
+fn turn(
+    xs: &mut [u64],
+    bs: &mut [u8],
+    call: Call,
+    items: &[u64],
+    entries: &[u64],
+    bytes: &[u8],
+    i: usize,
+    last: bool,
+) -> Outcome
+    requires { ⌜ Wf (now xs) (now bs) ⌝ }
+    requires { ⌜ Undoable (now xs) (now bs) ⌝ }
+    requires { ⌜ i < rowCount (now items) ⌝ }
+    requires { ⌜ checks (callOf call) (itemsOf (now items) (now entries) (now bytes)) ≡ none ⌝ }
+    requires { ⌜ isRewriteReplay (callOf call) ≡ false ⌝ }
+    ensures { λ r. ⌜ Stepped (callOf call) (itemAt (now (entries .entry)) (now (bytes .entry)) (drop (i * 9) (now (items .entry)))) last (now (xs .entry)) (now (bs .entry)) r (now (xs .exit)) (now (bs .exit)) ⌝ }
+{
+    let opened = open_item(items, entries, bytes, i);
+    let Opened::Item(item) = opened else {
+        return Outcome::Done;
+    };
+    carry_out(xs, bs, call, item, entries, bytes, last)
+}
+
+// Takes an area back to where a batch began, which had so many tombstones and cleaned numbers.
+fn go_back(xs: &mut [u64], bs: &mut [u8], counts: Counts)
+    requires { ⌜ Wf (now xs) (now bs) ⌝ }
+    requires { ⌜ Undoable (now xs) (now bs) ⌝ }
+    requires { ⌜ lists·rest.Wf (cutTo (counts .tombstones) (counts .cleaned) (drop 9376 (now xs))) (drop 16384 (now bs)) ⌝ }
+    ensures { λ _. ⌜ WentBack (counts .tombstones) (counts .cleaned) (now (xs .entry)) (now (bs .entry)) (now (xs .exit)) (now (bs .exit)) ⌝ }
+{
+    groups::undo(xs, bs);
+    let a = groups::NUMBERS;
+    lists::cut(&mut xs[a..], counts);
+}
+
+// Carries out the items of a batch that passed the checks, in order.
+fn run_items(
+    xs: &mut [u64],
+    bs: &mut [u8],
+    call: Call,
+    items: &[u64],
+    entries: &[u64],
+    bytes: &[u8],
+) -> Answer
+    requires { ⌜ Wf (now xs) (now bs) ⌝ }
+    requires { ⌜ checks (callOf call) (itemsOf (now items) (now entries) (now bytes)) ≡ none ⌝ }
+    requires { ⌜ isRewriteReplay (callOf call) ≡ false ⌝ }
+    ensures { λ r. ⌜ Called (run limited (callOf call) (placedFrom 0 (itemsOf (now (items .entry)) (now (entries .entry)) (now (bytes .entry))))) (now (xs .entry)) (now (bs .entry)) r (now (xs .exit)) (now (bs .exit)) ⌝ }
+{
+    let a = groups::NUMBERS;
+    let counts = lists::counts_in(&xs[a..]);
+    groups::begin(xs);
+    let n = row_count(items);
+    let mut i = 0;
+    while i < n {
+        let answer = turn(xs, bs, call, items, entries, bytes, i, i + 1 == n);
+        if let Outcome::Refused(number) = answer {
+            go_back(xs, bs, counts);
+            return Answer::Refused {
+                number,
+                place: Position::At(i),
+            };
+        }
+        i += 1;
+    }
+    Answer::Accepted
+}
+
+// A batch that is checked, and then carried out.
+pub fn write(
+    xs: &mut [u64],
+    bs: &mut [u8],
+    call: Call,
+    items: &[u64],
+    entries: &[u64],
+    bytes: &[u8],
+) -> Answer
+    requires { ⌜ Wf (now xs) (now bs) ⌝ }
+    requires { ⌜ isRewriteReplay (callOf call) ≡ false ⌝ }
+    ensures { λ r. ⌜ ((file : FileId) → Called (λ c. checked (callOf call) (batchOf file (now (items .entry)) (now (entries .entry)) (now (bytes .entry))) (runBatch (callOf call) (batchOf file (now (items .entry)) (now (entries .entry)) (now (bytes .entry))) c)) (now (xs .entry)) (now (bs .entry)) r (now (xs .exit)) (now (bs .exit))) ⌝ }
+{
+    let answer = check(call, items, entries, bytes);
+    match answer {
+        Checked::Refused { number, place } => Answer::Refused {
+            number,
+            place: Position::At(place),
+        },
+        Checked::Passed => run_items(xs, bs, call, items, entries, bytes),
+    }
+}
