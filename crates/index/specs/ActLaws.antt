@@ -46,7 +46,8 @@ secured-by last slot xs bs ys ds s =
       wf = s .wf;
     }
 
-done-not-refused : (n : ℕ) → Done ≡ Refused n → ⊥
+-- done is no refusal
+pub done-not-refused : (n : ℕ) → Done ≡ Refused n → ⊥
 done-not-refused n e = let z : _≡_ {A = ℕ} 0 1 = cc in omega arith
 
 pub skipped : (last : Bool) (xs bs : List ℕ) → Wf xs bs → Undoable xs bs → Acted (λ m. ok m) last xs bs Done xs bs

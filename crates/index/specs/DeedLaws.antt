@@ -10,7 +10,7 @@ use lib.ListN.{length, getD, drop}
 use borrow.Author.Tests.{ltb-false, not-false}
 use Rattle.cells.specs.Part.{part}
 use Rattle.cells.specs.PartLaws.{length-part, part-none}
-use Rattle.maps.specs.BoolLaws.{clash, neither-left, neither-right}
+use Rattle.maps.specs.BoolLaws.{clash, and-false, neither-left, neither-right}
 use Rattle.maps.specs.OrderLaws.{split}
 use Rattle.maps.specs.Lists.{every, findFrom, any, orElse}
 use Rattle.maps.specs.Maps.{sameBytes}
@@ -118,10 +118,6 @@ module _ (c : rules.Call) (es : List ℕ) (e : EntryIndexes) (w : (e .at + e .co
         rows-length
         first-of-none
 
-not-both : (b : Bool) → (b && false) ≡ false
-not-both true = refl
-not-both false = refl
-
 module _ (es : List ℕ) (e : EntryIndexes) (w : (e .at + e .count) * 8 ≤ length es) where
   abbrev list : rules.Content
   list = rules.entries (entriesOf (e .count) (rows rules.replayAppend es e w))
@@ -166,7 +162,7 @@ module _ (es : List ℕ) (e : EntryIndexes) (w : (e .at + e .count) * 8 ≤ leng
 compact-says : (c : rules.Call) (i : ℕ) → Changes c (rules.command (rules.compact i)) (change′.the-variants.Compact i) [] [] []
 unfolding ruleOf Ready change commandTo andThen rules.isReserved rules.isTombstone rules.isClean
 compact-says c i =
-    record { not-reserved = refl; rule = λ t. refl; ready = λ t o. tt; taken = λ f t. (_, refl); not-cleaned = not-both (rules.sameQueue (rules.writes c) rules.Append) }
+    record { not-reserved = refl; rule = λ t. refl; ready = λ t o. tt; taken = λ f t. (_, refl); not-cleaned = and-false (rules.sameQueue (rules.writes c) rules.Append) }
 
 clean-says : (c : call.Call) → DeedSays (cleanDeed c) (callOf c) (rules.command rules.clean) [] [] []
 unfolding DeedSays callOf ruleOf Ready change commandTo andThen rules.isReserved rules.isTombstone rules.isClean rules.isLiveRewrite rules.writes rules.sameQueue
@@ -187,13 +183,13 @@ module _ (key : List ℕ) (r : sameBytes key reservedKey ≡ false) where
   delete-says : (c : rules.Call) → Changes c (rules.kv key rules.del) change′.the-variants.Delete [] key []
   unfolding ruleOf Ready change changeTo andThen rules.isReserved rules.isTombstone rules.isClean
   delete-says c =
-      record { not-reserved = r; rule = λ t. refl; ready = λ t o. tt; taken = λ f t. (_, refl); not-cleaned = not-both (rules.sameQueue (rules.writes c) rules.Append) }
+      record { not-reserved = r; rule = λ t. refl; ready = λ t o. tt; taken = λ f t. (_, refl); not-cleaned = and-false (rules.sameQueue (rules.writes c) rules.Append) }
 
   -- a live rewrite reads neither value nor file
   move-says : (g : _) (s : ℕ) (v : Option (List ℕ)) (f : Option _) (value : List ℕ) → Changes (rules.liveRewrite (gateOf g) s) (rules.kv key (rules.put v f)) (change′.the-variants.RewriteKey g s) [] key value
   unfolding ruleOf Ready change changeTo putTo rules.isReserved rules.isTombstone rules.isClean
   move-says g s v f value =
-      record { not-reserved = r; rule = λ t. refl; ready = λ t o. tt; taken = λ f t. absurd (clash f); not-cleaned = not-both (rules.sameQueue (rules.writes (rules.liveRewrite (gateOf g) s)) rules.Append) }
+      record { not-reserved = r; rule = λ t. refl; ready = λ t o. tt; taken = λ f t. absurd (clash f); not-cleaned = and-false (rules.sameQueue (rules.writes (rules.liveRewrite (gateOf g) s)) rules.Append) }
 
   -- a Put that is read has a value and a file
   module _ (c : rules.Call) (l : rules.isLiveRewrite c ≡ false)
@@ -214,7 +210,7 @@ module _ (key : List ℕ) (r : sameBytes key reservedKey ≡ false) where
           rule = λ t. rw (puts (some (part a n bs)) (some f) (made t));
           ready = λ t o. (ltb-false maxBytes (length key) (neither-left x y (k .short)), ltb-false maxBytes (length (part a n bs)) (neither-right x y (k .short)));
           taken = λ f t. absurd (clash f);
-          not-cleaned = not-both (rules.sameQueue (rules.writes c) rules.Append);
+          not-cleaned = and-false (rules.sameQueue (rules.writes c) rules.Append);
         }
 
   put-by-call : (c : call.Call) (v : value.Value) (f : file.KeyFile) (bs : List ℕ) → Clear (callOf c) (rules.kv key (rules.put (valueOf v bs) (keyFileOf f))) → DeedSays (putDeed c f) (callOf c) (rules.kv key (rules.put (valueOf v bs) (keyFileOf f))) [] key (valuePart v bs)

@@ -29,6 +29,7 @@ use Rattle.lists.specs.Laws.{lengths, keeps-all, keeps-then}
 use Rattle.index.specs.declared.Deed as deed
 use Rattle.index.specs.Steps.{addsTombstone, addsCleaned, grown, listsHaveRoom}
 use Rattle.index.specs.Acts.{deedOn, UndoKept, BehindKept, Acted}
+use Rattle.index.specs.ActLaws.{done-not-refused}
 use Rattle.index.specs.DeedLaws.{DeedSays}
 use Rattle.index.specs.ItemLaws.{step-room, step-no-room}
 use Rattle.index.specs.Contexts.{contextOf, Wf}
@@ -51,9 +52,6 @@ lists-stay xs bs ys ds b = rw (b .numbers, b .bytes) (keeps-all (drop numbersInU
 
 rest-wf : (xs bs ys ds : List ℕ) → BehindKept xs bs ys ds → lists.Wf (drop numbersInUse xs) (drop bytesInUse bs) → lists.Wf (drop numbersInUse ys) (drop bytesInUse ds)
 rest-wf xs bs ys ds b w = rw (b .numbers, b .bytes) w
-
-done-not-refused : (n : ℕ) → Done ≡ Refused n → ⊥
-done-not-refused n e = let z : _≡_ {A = ℕ} 0 1 = cc in omega arith
 
 module _ (c : Call) (it : LogItem) (last : Bool) (rows key value : List ℕ) (d : deed.Deed) (xs bs : List ℕ) (w : Wf xs bs) (u : Undoable xs bs)
     (says : DeedSays d c (it .content) rows key value) where

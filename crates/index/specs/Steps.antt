@@ -9,7 +9,7 @@ use native.Mathlib.Omega.{arith}
 use lib.Dec.{leb, ltb}
 use lib.ListN.{length, length-append}
 use borrow.Author.Tests.{leb-true, le-leb, lt-leb, ltb-true, lt-ltb, le-ltb, leb-false, ltb-false}
-use Rattle.maps.specs.BoolLaws.{clash, both-left, both-right, both}
+use Rattle.maps.specs.BoolLaws.{clash, and-false, both-left, both-right, both}
 use Rattle.maps.specs.OrderLaws.{split, numbersLawful}
 use Rattle.maps.specs.Lists.{every}
 use Rattle.maps.specs.Maps.{Pair, Map, lookup, insert, remove, store, numbers}
@@ -154,11 +154,7 @@ fits-inserted g t m h =
     (λ n. rw n
     (split (every P (insert numbers g t m))
     (λ y. absurd (clash (sym n ∙ every-lookup numbers numbersLawful P g t (insert numbers g t m) y (lookup-insert-same numbers numbersLawful g t m))))
-    (λ f. rw f (and-false′ a))))
-  where
-    and-false′ : (a : Bool) → (a && false) ≡ false
-    and-false′ true = refl
-    and-false′ false = refl
+    (λ f. rw f (and-false a))))
 
 fits-removed : (g : ℕ) (m : Map ℕ Table) → groupsFit m ≡ true → groupsFit (remove numbers g m) ≡ true
 unfolding groupsFit
@@ -184,10 +180,6 @@ unfolding isReserved isClean
 reserved-not-clean (entries es) r = refl
 reserved-not-clean (command c) r = absurd (clash r)
 reserved-not-clean (kv k c) r = refl
-
-and-false : (a : Bool) → (a && false) ≡ false
-and-false true = refl
-and-false false = refl
 
 module _ (call : Call) (it : LogItem) (p : Option ℕ) (c : Context) (h : fits c ≡ true) where
   abbrev x : Placed

@@ -1,11 +1,8 @@
+-- `index::acts::act` meets its contract. Assumes nothing.
 use Rattle.index.specs.ActLaws.{skipped, act-skip, act-clean, act-change, change-ready}
 use borrow.Author.Needs.{needs}
 use Rattle.index.proofs.acts.act.Statement.{statement}
 use Rattle.index.proofs.acts.act.Tie as tie
-use Rattle.index.proofs.acts.act.Reads as reads
-use Rattle.index.proofs.acts.act.Lts as lts
-use Rattle.index.proofs.acts.change_group.Reads as change-group-reads
-use Rattle.index.proofs.acts.clean.Reads as clean-reads
 
 enum-told : tie.Need-enum-told
 enum-told c = search needs

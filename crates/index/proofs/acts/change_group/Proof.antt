@@ -1,13 +1,9 @@
+-- `index::acts::change_group` meets its contract. Assumes nothing.
 use Rattle.stretch.specs.Changes.{Ready}
 use Rattle.index.specs.ActLaws.{found-still, ready-still, acted-change}
 use borrow.Author.Needs.{needs}
 use Rattle.index.proofs.acts.change_group.Statement.{statement}
 use Rattle.index.proofs.acts.change_group.Tie as tie
-use Rattle.index.proofs.acts.change_group.Reads as reads
-use Rattle.index.proofs.acts.change_group.Lts as lts
-use Rattle.groups.proofs.apply.Reads as apply-reads
-use Rattle.groups.proofs.find.Reads as find-reads
-use Rattle.index.proofs.acts.secure_unless.Reads as secure-unless-reads
 
 find-requires : tie.Need-find-requires
 find-requires c κs = search needs

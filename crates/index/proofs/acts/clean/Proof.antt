@@ -1,12 +1,8 @@
+-- `index::acts::clean` meets its contract. Assumes nothing.
 use Rattle.index.specs.ActLaws.{found-still, acted-clean}
 use borrow.Author.Needs.{needs}
 use Rattle.index.proofs.acts.clean.Statement.{statement}
 use Rattle.index.proofs.acts.clean.Tie as tie
-use Rattle.index.proofs.acts.clean.Reads as reads
-use Rattle.index.proofs.acts.clean.Lts as lts
-use Rattle.groups.proofs.remove.Reads as remove-reads
-use Rattle.groups.proofs.find.Reads as find-reads
-use Rattle.index.proofs.acts.secure_unless.Reads as secure-unless-reads
 
 find-requires : tie.Need-find-requires
 find-requires c κs = search needs

@@ -1,10 +1,8 @@
+-- `index::acts::secure_unless` meets its contract. Assumes nothing.
 use Rattle.index.specs.ActLaws.{unsecured, secured-by}
 use borrow.Author.Needs.{needs}
 use Rattle.index.proofs.acts.secure_unless.Statement.{statement}
 use Rattle.index.proofs.acts.secure_unless.Tie as tie
-use Rattle.index.proofs.acts.secure_unless.Reads as reads
-use Rattle.index.proofs.acts.secure_unless.Lts as lts
-use Rattle.groups.proofs.secure.Reads as secure-reads
 
 returns : tie.Need-returns
 returns c =

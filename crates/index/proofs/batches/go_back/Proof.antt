@@ -1,12 +1,9 @@
+-- `index::batches::go_back` meets its contract. Assumes nothing.
 use borrow.Rule.Slice.PartAt.{part-to-end}
 use Rattle.index.proofs.BatchWays.{went-back}
 use borrow.Author.Needs.{needs}
 use Rattle.index.proofs.batches.go_back.Statement.{statement}
 use Rattle.index.proofs.batches.go_back.Tie as tie
-use Rattle.index.proofs.batches.go_back.Reads as reads
-use Rattle.index.proofs.batches.go_back.Lts as lts
-use Rattle.groups.proofs.undo.Reads as undo-reads
-use Rattle.lists.proofs.cut.Reads as cut-reads
 
 undo-requires : tie.Need-undo-requires
 undo-requires c κs = search needs

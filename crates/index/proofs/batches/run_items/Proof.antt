@@ -1,3 +1,4 @@
+-- `index::batches::run_items` meets its contract. Assumes nothing.
 use Prim.Native.Nat.{_-_}
 use borrow.Rule.Slice.PartAt.{part-to-end}
 use Rattle.log_batch.specs.Judged.{callOf}
@@ -7,13 +8,6 @@ use borrow.Author.Needs.{needs}
 use native.Mathlib.Omega.{arith}
 use Rattle.index.proofs.batches.run_items.Statement.{statement}
 use Rattle.index.proofs.batches.run_items.Tie as tie
-use Rattle.index.proofs.batches.run_items.Reads as reads
-use Rattle.index.proofs.batches.run_items.Lts as lts
-use Rattle.groups.proofs.begin.Reads as begin-reads
-use Rattle.index.proofs.batches.go_back.Reads as go-back-reads
-use Rattle.index.proofs.batches.turn.Reads as turn-reads
-use Rattle.lists.proofs.counts_in.Reads as counts-in-reads
-use Rattle.log_batch.proofs.open.row_count.Reads as row-count-reads
 
 abbrev Inv-loop : tie.InvT-loop
 Inv-loop xs₀ bs₀ call items entries bytes a counts n i₀ xs bs i =

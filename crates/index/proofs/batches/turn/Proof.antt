@@ -1,3 +1,4 @@
+-- `index::batches::turn` meets its contract. Assumes nothing.
 use mathlib.Core.Path.{sym, _∙_}
 use Rattle.log_batch.specs.OpenLaws.{item-opened}
 use Rattle.log_batch.specs.Judged.{callOf}
@@ -5,10 +6,6 @@ use Rattle.index.specs.BatchLaws.{opened-ready, opened-never}
 use borrow.Author.Needs.{needs}
 use Rattle.index.proofs.batches.turn.Statement.{statement}
 use Rattle.index.proofs.batches.turn.Tie as tie
-use Rattle.index.proofs.batches.turn.Reads as reads
-use Rattle.index.proofs.batches.turn.Lts as lts
-use Rattle.index.proofs.items.carry_out.Reads as carry-out-reads
-use Rattle.log_batch.proofs.open.open_item.Reads as open-item-reads
 
 open-item-requires : tie.Need-open-item-requires
 open-item-requires c κs = search needs

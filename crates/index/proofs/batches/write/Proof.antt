@@ -1,13 +1,10 @@
+-- `index::batches::write` meets its contract. Assumes nothing.
 use mathlib.Core.Path.{sym}
 use Rattle.log_batch.specs.Judged.{checkedAs}
 use Rattle.index.proofs.CallLaws.{checks-refuse, checks-pass}
 use borrow.Author.Needs.{needs}
 use Rattle.index.proofs.batches.write.Statement.{statement}
 use Rattle.index.proofs.batches.write.Tie as tie
-use Rattle.index.proofs.batches.write.Reads as reads
-use Rattle.index.proofs.batches.write.Lts as lts
-use Rattle.index.proofs.batches.run_items.Reads as run-items-reads
-use Rattle.log_batch.proofs.check.Reads as check-reads
 
 check-requires : tie.Need-check-requires
 check-requires c κs = search needs

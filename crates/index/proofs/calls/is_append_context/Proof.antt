@@ -1,11 +1,10 @@
+-- `index::calls::is_append_context` meets its contract. Assumes nothing.
 use Rattle.rules.specs.Items.{sameQueue}
 use Rattle.rules.specs.Context.{isContext}
 use Rattle.lists.specs.Calls.{kindAs}
 use borrow.Author.Needs.{needs}
 use Rattle.index.proofs.calls.is_append_context.Statement.{statement}
 use Rattle.index.proofs.calls.is_append_context.Tie as tie
-use Rattle.index.proofs.calls.is_append_context.Reads as reads
-use Rattle.index.proofs.calls.is_append_context.Lts as lts
 
 enum-known-kind : tie.Need-enum-known-kind
 enum-known-kind c = search needs

@@ -1,10 +1,9 @@
+-- `index::calls::is_index` meets its contract. Assumes nothing.
 use Rattle.rules.specs.Context.{isIndex}
 use Rattle.lists.specs.Calls.{kindAs}
 use borrow.Author.Needs.{needs}
 use Rattle.index.proofs.calls.is_index.Statement.{statement}
 use Rattle.index.proofs.calls.is_index.Tie as tie
-use Rattle.index.proofs.calls.is_index.Reads as reads
-use Rattle.index.proofs.calls.is_index.Lts as lts
 
 enum-known-kind : tie.Need-enum-known-kind
 enum-known-kind c = search needs

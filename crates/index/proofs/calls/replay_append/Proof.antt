@@ -1,3 +1,4 @@
+-- `index::calls::replay_append` meets its contract. Assumes nothing.
 use lib.ListN.{drop}
 use mathlib.Core.Path.{refl, sym, _∙_}
 use borrow.Author.Tests.{not-true, not-false}
@@ -9,12 +10,6 @@ use Rattle.index.proofs.CallLaws.{zero-below, replay-wrong, replay-righ
 use borrow.Author.Needs.{needs}
 use Rattle.index.proofs.calls.replay_append.Statement.{statement}
 use Rattle.index.proofs.calls.replay_append.Tie as tie
-use Rattle.index.proofs.calls.replay_append.Reads as reads
-use Rattle.index.proofs.calls.replay_append.Lts as lts
-use Rattle.index.proofs.batches.write.Reads as write-reads
-use Rattle.index.proofs.calls.is_append_context.Reads as is-append-context-reads
-use Rattle.index.proofs.calls.wrong_kind.Reads as wrong-kind-reads
-use Rattle.lists.proofs.kind_in.Reads as kind-in-reads
 
 mul-kind-in : tie.Need-mul-kind-in
 mul-kind-in c = search needs

@@ -1,3 +1,4 @@
+-- `index::calls::rewrite` meets its contract. Assumes nothing.
 use lib.ListN.{drop}
 use mathlib.Core.Path.{refl, sym, _∙_}
 use borrow.Author.Tests.{not-true, not-false}
@@ -8,12 +9,6 @@ use Rattle.index.proofs.CallLaws.{zero-below, rewrite-wrong, rewrite-ri
 use borrow.Author.Needs.{needs}
 use Rattle.index.proofs.calls.rewrite.Statement.{statement}
 use Rattle.index.proofs.calls.rewrite.Tie as tie
-use Rattle.index.proofs.calls.rewrite.Reads as reads
-use Rattle.index.proofs.calls.rewrite.Lts as lts
-use Rattle.index.proofs.batches.write.Reads as write-reads
-use Rattle.index.proofs.calls.takes.Reads as takes-reads
-use Rattle.index.proofs.calls.wrong_kind.Reads as wrong-kind-reads
-use Rattle.lists.proofs.kind_in.Reads as kind-in-reads
 
 mul-kind-in : tie.Need-mul-kind-in
 mul-kind-in c = search needs

@@ -1,11 +1,8 @@
+-- `index::calls::takes` meets its contract. Assumes nothing.
 use borrow.Author.Tests.{not-true, not-false}
 use borrow.Author.Needs.{needs}
 use Rattle.index.proofs.calls.takes.Statement.{statement}
 use Rattle.index.proofs.calls.takes.Tie as tie
-use Rattle.index.proofs.calls.takes.Reads as reads
-use Rattle.index.proofs.calls.takes.Lts as lts
-use Rattle.index.proofs.calls.is_index.Reads as is-index-reads
-use Rattle.log_batch.proofs.entries.same_queue.Reads as same-queue-reads
 
 is-index-requires : tie.Need-is-index-requires
 is-index-requires c κs = search needs

@@ -1,3 +1,4 @@
+-- `index::contexts::clear_groups` meets its contract. Assumes nothing.
 use Prim.Native.Nat.{_-_, _≤_}
 use native.Mathlib.Nat.{le-antisymm}
 use Rattle.index.specs.Contexts.{Cleared}
@@ -6,8 +7,6 @@ use borrow.Author.Needs.{needs}
 use native.Mathlib.Omega.{arith}
 use Rattle.index.proofs.contexts.clear_groups.Statement.{statement}
 use Rattle.index.proofs.contexts.clear_groups.Tie as tie
-use Rattle.index.proofs.contexts.clear_groups.Reads as reads
-use Rattle.index.proofs.contexts.clear_groups.Lts as lts
 
 abbrev Inv-loop : tie.InvT-loop
 Inv-loop xs₀ k₀ xs k = (k ≤ 8) × Cleared k xs₀ xs

@@ -1,11 +1,8 @@
+-- `index::contexts::fresh` meets its contract. Assumes nothing.
 use Rattle.index.proofs.ContextLaws.{fresh-area}
 use borrow.Author.Needs.{needs}
 use Rattle.index.proofs.contexts.fresh.Statement.{statement}
 use Rattle.index.proofs.contexts.fresh.Tie as tie
-use Rattle.index.proofs.contexts.fresh.Reads as reads
-use Rattle.index.proofs.contexts.fresh.Lts as lts
-use Rattle.index.proofs.contexts.clear_groups.Reads as clear-groups-reads
-use Rattle.lists.proofs.clear.Reads as clear-reads
 
 clear-groups-requires : tie.Need-clear-groups-requires
 clear-groups-requires c κs = search needs

@@ -1,8 +1,7 @@
+-- `index::deeds::command_deed` meets its contract. Assumes nothing.
 use borrow.Author.Needs.{needs}
 use Rattle.index.proofs.deeds.command_deed.Statement.{statement}
 use Rattle.index.proofs.deeds.command_deed.Tie as tie
-use Rattle.index.proofs.deeds.command_deed.Reads as reads
-use Rattle.index.proofs.deeds.command_deed.Lts as lts
 
 -- src/deeds.rt:80:28
 enum-known-command : tie.Need-enum-known-command

@@ -1,3 +1,4 @@
+-- `index::deeds::deed_of` meets its contract. Assumes nothing.
 use mathlib.Core.List.{List}
 use mathlib.Core.Path.{sym, ap, _∙_}
 use Prim.Native.Nat.{ℕ}
@@ -9,14 +10,6 @@ use Rattle.index.specs.Deeds.{entriesChange, deedOf}
 use borrow.Author.Needs.{needs}
 use Rattle.index.proofs.deeds.deed_of.Statement.{statement}
 use Rattle.index.proofs.deeds.deed_of.Tie as tie
-use Rattle.index.proofs.deeds.deed_of.Reads as reads
-use Rattle.index.proofs.deeds.deed_of.Lts as lts
-use Rattle.index.proofs.deeds.command_deed.Reads as command-deed-reads
-use Rattle.index.proofs.deeds.entries_change.Reads as entries-change-reads
-use Rattle.index.proofs.deeds.first_of.Reads as first-of-reads
-use Rattle.index.proofs.deeds.key_deed.Reads as key-deed-reads
-use Rattle.log_batch.proofs.item.entries_of.Reads as entries-of-reads
-use Rattle.log_batch.proofs.mark.is_reserved.Reads as is-reserved-reads
 
 -- src/deeds.rt:135:38
 enum-known-content : tie.Need-enum-known-content

@@ -1,8 +1,7 @@
+-- `index::deeds::entries_change` meets its contract. Assumes nothing.
 use borrow.Author.Needs.{needs}
 use Rattle.index.proofs.deeds.entries_change.Statement.{statement}
 use Rattle.index.proofs.deeds.entries_change.Tie as tie
-use Rattle.index.proofs.deeds.entries_change.Reads as reads
-use Rattle.index.proofs.deeds.entries_change.Lts as lts
 
 -- src/deeds.rt:68:31
 enum-told : tie.Need-enum-told

@@ -1,9 +1,8 @@
+-- `index::deeds::first_of` meets its contract. Assumes nothing.
 use Rattle.index.specs.DeedLaws.{none-first}
 use borrow.Author.Needs.{needs}
 use Rattle.index.proofs.deeds.first_of.Statement.{statement}
 use Rattle.index.proofs.deeds.first_of.Tie as tie
-use Rattle.index.proofs.deeds.first_of.Reads as reads
-use Rattle.index.proofs.deeds.first_of.Lts as lts
 
 -- src/deeds.rt:124:9
 returns : tie.Need-returns

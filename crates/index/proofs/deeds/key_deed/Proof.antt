@@ -1,9 +1,7 @@
+-- `index::deeds::key_deed` meets its contract. Assumes nothing.
 use borrow.Author.Needs.{needs}
 use Rattle.index.proofs.deeds.key_deed.Statement.{statement}
 use Rattle.index.proofs.deeds.key_deed.Tie as tie
-use Rattle.index.proofs.deeds.key_deed.Reads as reads
-use Rattle.index.proofs.deeds.key_deed.Lts as lts
-use Rattle.index.proofs.deeds.put_deed.Reads as put-deed-reads
 
 enum-told : tie.Need-enum-told
 enum-told c = search needs

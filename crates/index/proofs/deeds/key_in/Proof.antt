@@ -1,10 +1,7 @@
+-- `index::deeds::key_in` meets its contract. Assumes nothing.
 use borrow.Author.Needs.{needs}
 use Rattle.index.proofs.deeds.key_in.Statement.{statement}
 use Rattle.index.proofs.deeds.key_in.Tie as tie
-use Rattle.index.proofs.deeds.key_in.Reads as reads
-use Rattle.index.proofs.deeds.key_in.Lts as lts
-use Rattle.index.proofs.deeds.no_bytes.Reads as no-bytes-reads
-use Rattle.log_batch.proofs.item.bytes_of.Reads as bytes-of-reads
 
 -- src/deeds.rt:57:38
 enum-known-content : tie.Need-enum-known-content

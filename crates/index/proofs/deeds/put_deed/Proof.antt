@@ -1,9 +1,7 @@
+-- `index::deeds::put_deed` meets its contract. Assumes nothing.
 use borrow.Author.Needs.{needs}
 use Rattle.index.proofs.deeds.put_deed.Statement.{statement}
 use Rattle.index.proofs.deeds.put_deed.Tie as tie
-use Rattle.index.proofs.deeds.put_deed.Reads as reads
-use Rattle.index.proofs.deeds.put_deed.Lts as lts
-use Rattle.index.proofs.deeds.put_held_deed.Reads as put-held-deed-reads
 
 -- src/deeds.rt:109:31
 enum-told : tie.Need-enum-told

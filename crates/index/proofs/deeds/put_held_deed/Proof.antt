@@ -1,8 +1,7 @@
+-- `index::deeds::put_held_deed` meets its contract. Assumes nothing.
 use borrow.Author.Needs.{needs}
 use Rattle.index.proofs.deeds.put_held_deed.Statement.{statement}
 use Rattle.index.proofs.deeds.put_held_deed.Tie as tie
-use Rattle.index.proofs.deeds.put_held_deed.Reads as reads
-use Rattle.index.proofs.deeds.put_held_deed.Lts as lts
 
 -- src/deeds.rt:94:21
 enum-known-file-id : tie.Need-enum-known-file-id

@@ -1,10 +1,7 @@
+-- `index::deeds::rows_in` meets its contract. Assumes nothing.
 use borrow.Author.Needs.{needs}
 use Rattle.index.proofs.deeds.rows_in.Statement.{statement}
 use Rattle.index.proofs.deeds.rows_in.Tie as tie
-use Rattle.index.proofs.deeds.rows_in.Reads as reads
-use Rattle.index.proofs.deeds.rows_in.Lts as lts
-use Rattle.index.proofs.deeds.no_rows.Reads as no-rows-reads
-use Rattle.log_batch.proofs.item.entries_of.Reads as entries-of-reads
 
 -- src/deeds.rt:41:38
 enum-known-content : tie.Need-enum-known-content

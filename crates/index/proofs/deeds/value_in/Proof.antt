@@ -1,10 +1,7 @@
+-- `index::deeds::value_in` meets its contract. Assumes nothing.
 use borrow.Author.Needs.{needs}
 use Rattle.index.proofs.deeds.value_in.Statement.{statement}
 use Rattle.index.proofs.deeds.value_in.Tie as tie
-use Rattle.index.proofs.deeds.value_in.Reads as reads
-use Rattle.index.proofs.deeds.value_in.Lts as lts
-use Rattle.index.proofs.deeds.no_bytes.Reads as no-bytes-reads
-use Rattle.index.proofs.deeds.value_part.Reads as value-part-reads
 
 -- src/deeds.rt:83:38
 enum-known-content : tie.Need-enum-known-content

@@ -1,10 +1,7 @@
+-- `index::deeds::value_part` meets its contract. Assumes nothing.
 use borrow.Author.Needs.{needs}
 use Rattle.index.proofs.deeds.value_part.Statement.{statement}
 use Rattle.index.proofs.deeds.value_part.Tie as tie
-use Rattle.index.proofs.deeds.value_part.Reads as reads
-use Rattle.index.proofs.deeds.value_part.Lts as lts
-use Rattle.index.proofs.deeds.no_bytes.Reads as no-bytes-reads
-use Rattle.log_batch.proofs.item.bytes_of.Reads as bytes-of-reads
 
 -- src/deeds.rt:72:26
 enum-told : tie.Need-enum-told

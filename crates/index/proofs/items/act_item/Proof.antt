@@ -1,14 +1,8 @@
+-- `index::items::act_item` meets its contract. Assumes nothing.
 use Rattle.index.specs.CarryLaws.{does-ready}
 use borrow.Author.Needs.{needs}
 use Rattle.index.proofs.items.act_item.Statement.{statement}
 use Rattle.index.proofs.items.act_item.Tie as tie
-use Rattle.index.proofs.items.act_item.Reads as reads
-use Rattle.index.proofs.items.act_item.Lts as lts
-use Rattle.index.proofs.acts.act.Reads as act-reads
-use Rattle.index.proofs.deeds.deed_of.Reads as deed-of-reads
-use Rattle.index.proofs.deeds.key_in.Reads as key-in-reads
-use Rattle.index.proofs.deeds.rows_in.Reads as rows-in-reads
-use Rattle.index.proofs.deeds.value_in.Reads as value-in-reads
 
 deed-of-requires : tie.Need-deed-of-requires
 deed-of-requires c κs = search needs

@@ -1,16 +1,10 @@
+-- `index::items::carry_out` meets its contract. Assumes nothing.
 use borrow.Author.Tests.{not-true, not-false}
 use borrow.Rule.Slice.PartAt.{part-to-end}
 use Rattle.index.specs.CarryLaws.{carried-no-room, lists-wf, room-for, carried-refused, carried-done}
 use borrow.Author.Needs.{needs}
 use Rattle.index.proofs.items.carry_out.Statement.{statement}
 use Rattle.index.proofs.items.carry_out.Tie as tie
-use Rattle.index.proofs.items.carry_out.Reads as reads
-use Rattle.index.proofs.items.carry_out.Lts as lts
-use Rattle.index.proofs.growth.adds_cleaned.Reads as adds-cleaned-reads
-use Rattle.index.proofs.growth.adds_tombstone.Reads as adds-tombstone-reads
-use Rattle.index.proofs.growth.grow.Reads as grow-reads
-use Rattle.index.proofs.growth.have_room.Reads as have-room-reads
-use Rattle.index.proofs.items.act_item.Reads as act-item-reads
 
 adds-tombstone-requires : tie.Need-adds-tombstone-requires
 adds-tombstone-requires c κs = search needs
