@@ -15,7 +15,7 @@ use lib.ListN.{getD}
 use borrow.Author.Tests.{ne-eqb}
 use Rattle.rules.specs.Causes.{left}
 use Rattle.rules.specs.Items.{LogItem, Call, placedFrom}
-use Rattle.rules.specs.Context.{Context, limited, run}
+use Rattle.rules.specs.Context.{limited, run}
 use Rattle.log_batch.specs.Lent.{rowCount, itemAt, itemsOf}
 use Rattle.stretch.specs.declared.Outcome.the-variants.{Done, Refused}
 use Rattle.index.specs.declared.Answer.the-variants as answer

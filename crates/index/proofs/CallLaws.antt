@@ -1,5 +1,5 @@
 -- The calls of a batch: the wrong kind, a batch that is refused by the checks, and one that is carried out. Assumes nothing.
-use mathlib.Core.Bool.{Bool, true, false, cond, _&&_}
+use mathlib.Core.Bool.{true, false, _&&_}
 use mathlib.Core.List.{List}
 use mathlib.Core.Option.{none, some}
 use mathlib.Core.Path.{_≡_, refl, sym, ap, _∙_}
@@ -8,13 +8,13 @@ use native.Mathlib.Omega.{arith}
 use lib.ListN.{length, getD, take, drop}
 use borrow.Rule.Slice.PartAt.{part-to-end}
 use Rattle.maps.specs.Lists.{orElse}
-use Rattle.rules.specs.Causes.{Refusal, Result, ok, refused, refuse, left, wrongKind}
+use Rattle.rules.specs.Causes.{Refusal, Result, refused, left}
 use Rattle.rules.specs.Items.{FileId, Append, Rewrite, sameQueue, placedFrom, Batch, Call, replayAppend, liveAppend, liveRewrite}
 use Rattle.rules.specs.Checks.{checks}
 use Rattle.rules.specs.Context.{Context, Kind, isContext, isIndex, withGroups, limited, run}
 use Rattle.rules.specs.Calls.{checked, runBatch, replayBatch, replay, write, append, rewrite}
 use Rattle.log_batch.specs.Lent.{itemsOf, batchOf}
-use Rattle.lists.specs.Rest.{kindOf, restOf}
+use Rattle.lists.specs.Rest.{kindOf}
 use Rattle.lists.specs.Laws.{rest-kind}
 use Rattle.index.specs.declared.Answer.{Answer}
 use Rattle.index.specs.declared.Answer.the-variants as answer

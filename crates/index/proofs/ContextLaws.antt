@@ -4,15 +4,14 @@ use mathlib.Core.Path.{_≡_, refl, sym, ap, _∙_}
 use Prim.Native.Nat.{ℕ, _+_, _-_, _*_, _≤_, _<_}
 use native.Mathlib.Decide.{decLt}
 use native.Mathlib.Omega.{arith}
-use lib.ListN.{length, getD, set, take, drop, length-set, length-drop}
+use lib.ListN.{length, getD, set, drop, length-set, length-drop}
 use lib.Seq.{getD-set-same, getD-set-other, getD-take}
 use borrow.Rule.Slice.PartMut.{putMid}
 use Rattle.maps.specs.Maps.{Map}
 use Rattle.rules.specs.Items.{LogQueue}
 use Rattle.rules.specs.Table.{Table}
-use Rattle.rules.specs.Context.{Context, withGroups}
+use Rattle.rules.specs.Context.{withGroups}
 use Rattle.rules.specs.Context as rules
-use Rattle.groups.specs.Area.{groupsOf}
 use Rattle.groups.specs.AreaLaws.{front-fits}
 use Rattle.groups.specs.Laws.{fresh}
 use Rattle.lists.specs.Rest.{restOf}

@@ -2,20 +2,20 @@
 use mathlib.Core.Bool.{Bool, true, false}
 use mathlib.Core.List.{List}
 use mathlib.Core.Path.{_≡_, refl, sym, ap, _∙_}
-use Prim.Native.Nat.{ℕ, _≤_}
+use Prim.Native.Nat.{ℕ}
 use native.Mathlib.Omega.{arith}
 use Rattle.maps.specs.BoolLaws.{clash}
-use Rattle.maps.specs.Maps.{Map, lookup, remove, numbers}
+use Rattle.maps.specs.Maps.{lookup, remove, numbers}
 use Rattle.maps.specs.Cells.{mapOf}
 use Rattle.rules.specs.Causes.{Result, ok}
 use Rattle.rules.specs.Table.{Table, made}
 use Rattle.stretch.specs.declared.Outcome.{Outcome}
 use Rattle.stretch.specs.declared.Outcome.the-variants.{Done, Refused}
-use Rattle.stretch.specs.Changes.{outcomeAs, ruleOf, Ready}
+use Rattle.stretch.specs.Changes.{ruleOf, Ready}
 use Rattle.groups.specs.declared.Slot.{Slot}
-use Rattle.groups.specs.Area.{numbersInUse, bytesInUse, cells, groupsOf, Wf, Found, OnlySlot}
+use Rattle.groups.specs.Area.{cells, groupsOf, Wf, Found, OnlySlot}
 use Rattle.groups.specs.Calls.{onGroup, ChangedGroup, RemovedGroup}
-use Rattle.groups.specs.Undo.{undoneCells, Undoable, Secured, Securing}
+use Rattle.groups.specs.Undo.{Undoable, Securing}
 use Rattle.groups.specs.Laws.{live-found, slot-behind, left-undone, secured-undone}
 use Rattle.stretch.specs.declared.Change.{Change}
 use Rattle.index.specs.declared.Deed as deed

@@ -4,9 +4,9 @@ use mathlib.Core.List.{List}
 use mathlib.Core.Path.{_≡_}
 use Prim.Native.Nat.{ℕ}
 use lib.ListN.{take, drop}
-use Rattle.maps.specs.Maps.{Map, lookup, remove, numbers}
+use Rattle.maps.specs.Maps.{Map, remove, numbers}
 use Rattle.rules.specs.Causes.{Result, ok}
-use Rattle.rules.specs.Table.{Table, made}
+use Rattle.rules.specs.Table.{Table}
 use Rattle.stretch.specs.declared.Outcome.{Outcome}
 use Rattle.stretch.specs.declared.Outcome.the-variants.{Refused}
 use Rattle.stretch.specs.Changes.{outcomeAs, ruleOf, Ready}
@@ -14,7 +14,7 @@ use Rattle.groups.specs.declared.Slot.{Slot}
 use Rattle.groups.specs.Area.{numbersInUse, bytesInUse, cells, groupsOf}
 use Rattle.groups.specs.Area as groups
 use Rattle.groups.specs.Calls.{onGroup}
-use Rattle.groups.specs.Undo.{liveNumbers, liveBytes, undoneCells, Undoable, Secured}
+use Rattle.groups.specs.Undo.{liveNumbers, undoneCells, Undoable, Secured}
 use Rattle.index.specs.declared.Deed as deed
 
 -- what a deed does to the groups

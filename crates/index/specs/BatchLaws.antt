@@ -1,40 +1,35 @@
 -- A batch on an area: how it begins, goes on item by item, and goes back. Assumes nothing.
-use mathlib.Core.Bool.{Bool, true, false}
-use mathlib.Core.List.{List, [], _∷_}
-use mathlib.Core.Option.{Option, none, some}
+use mathlib.Core.List.{List}
+use mathlib.Core.Option.{none, some}
 use mathlib.Core.Path.{_≡_, refl, sym, ap, _∙_}
-use Prim.Native.Nat.{ℕ, suc, _+_, _-_, _*_, _/_, _≤_, _<_}
+use Prim.Native.Nat.{ℕ, _+_, _-_, _*_, _/_, _≤_, _<_}
 use native.Mathlib.Numerals.{add-one}
 use native.Mathlib.Omega.{arith}
 use lib.ListN.{length, getD, take, drop}
 use Rattle.maps.specs.Cells.{mapOf}
 use Rattle.maps.specs.Maps.{Map}
-use Rattle.rules.specs.Causes.{Result, ok, refused, andThen, inOrder, left}
+use Rattle.rules.specs.Causes.{Result, ok, refused, andThen, inOrder}
 use Rattle.rules.specs.Items.{LogItem, Call, Placed, placedFrom}
 use Rattle.rules.specs.Checks.{checks}
 use Rattle.rules.specs.Table.{Table}
 use Rattle.rules.specs.Context.{Context, withGroups, limited, step, run}
 use Rattle.log_batch.specs.declared.item.LogItem as lent
 use Rattle.log_batch.specs.declared.open.Opened.{Opened, the-variants.Item, the-variants.Refused as Refused′}
-use Rattle.log_batch.specs.Lent.{rowCount, openedRow, openedWithin, itemAt, itemsFrom, itemsOf, itemOf}
+use Rattle.log_batch.specs.Lent.{rowCount, openedRow, itemAt, itemsFrom, itemsOf, itemOf}
 use Rattle.log_batch.specs.OpenLaws.{opened-bare, refused-item}
 use Rattle.log_batch.specs.PassedLaws.{Passed, passed-opens}
 use Rattle.log_batch.proofs.ItemLaws.{items-start, items-end, items-more}
 use Rattle.stores.specs.CheckedLaws.{checked-opens}
-use Rattle.stretch.specs.declared.Outcome.{Outcome}
-use Rattle.stretch.specs.declared.Outcome.the-variants.{Done, Refused}
-use Rattle.groups.specs.Area.{numbersInUse, bytesInUse, cells, groupsOf}
+use Rattle.groups.specs.Area.{numbersInUse, bytesInUse, groupsOf}
 use Rattle.groups.specs.AreaLaws.{same-groups, same-stretch}
-use Rattle.groups.specs.Undo.{liveNumbers, undoneCells, Undoable, Begun, Undone}
+use Rattle.groups.specs.Undo.{liveNumbers, undoneCells, Begun, Undone}
 use Rattle.lists.specs.Rest.{restOf, cutTo}
 use Rattle.lists.specs.Rest as lists
 use Rattle.lists.specs.Laws.{back-now}
 use Rattle.groups.specs.Laws.{front-groups, front-wf}
-use Rattle.index.specs.declared.Answer.the-variants as answer
-use Rattle.index.specs.declared.Position.the-variants as position
-use Rattle.index.specs.DeedLaws.{Clear, passed-clear}
-use Rattle.index.specs.Contexts.{contextOf, Wf, answerAs, positionOf, Called}
-use Rattle.index.specs.Runs.{ItemReady, outcomeAt, backTo, BackKept, Stepped, Going, WentBack}
+use Rattle.index.specs.DeedLaws.{passed-clear}
+use Rattle.index.specs.Contexts.{contextOf, Wf}
+use Rattle.index.specs.Runs.{ItemReady, backTo, BackKept, Going, WentBack}
 
 -- ---- an item of a batch that passed the checks
 

@@ -1,7 +1,7 @@
 -- An item with places carried out on an area: each way through it, as the rules' step. Assumes nothing.
 use mathlib.Core.Bool.{Bool, true, false, _&&_}
 use mathlib.Core.List.{List}
-use mathlib.Core.Path.{_≡_, refl, sym, ap, _∙_}
+use mathlib.Core.Path.{_≡_, sym, _∙_}
 use Prim.Native.Nat.{ℕ, _-_}
 use lib.ListN.{length, getD, take, drop}
 use borrow.Rule.Slice.PartAt.{part-to-end}
@@ -22,7 +22,7 @@ use Rattle.index.specs.declared.Deed as deed
 use Rattle.index.specs.Steps.{addsTombstone, addsCleaned, roomIf, listsHaveRoom}
 use Rattle.index.specs.Deeds.{rowsIn, keyIn, valueIn, deedOf}
 use Rattle.index.specs.DeedLaws.{DeedSays, deed-says}
-use Rattle.index.specs.Acts.{deedOn, DeedReady, BehindKept, Acted}
+use Rattle.index.specs.Acts.{deedOn, DeedReady, Acted}
 use Rattle.index.specs.ItemLaws.{deed-ready}
 use Rattle.index.specs.Contexts.{contextOf, Wf}
 use Rattle.index.specs.Growth.{RoomFor, AreaGrown}

@@ -1,25 +1,25 @@
 -- What the checks 2 to 6 say of an item that passed them, and that a deed is what the rules say of its item. Assumes nothing.
-use mathlib.Core.Bool.{Bool, true, false, cond, not, _&&_, _||_}
+use mathlib.Core.Bool.{Bool, true, false, not, _&&_, _||_}
 use mathlib.Core.List.{List, [], _∷_}
 use mathlib.Core.Option.{Option, none, some}
 use mathlib.Core.Path.{_≡_, refl, sym, ap, _∙_}
-use Prim.Native.Nat.{ℕ, _+_, _*_, _/_, _≤_, _<_, _^_}
+use Prim.Native.Nat.{ℕ, _+_, _*_, _/_, _≤_, _^_}
 use native.Mathlib.Omega.{arith}
-use lib.Dec.{eqb, ltb}
-use lib.ListN.{length, getD, drop}
+use lib.Dec.{ltb}
+use lib.ListN.{length, getD}
 use borrow.Author.Tests.{ltb-false, not-false}
 use Rattle.cells.specs.Part.{part}
 use Rattle.cells.specs.PartLaws.{length-part, part-none}
 use Rattle.maps.specs.BoolLaws.{clash, and-false, neither-left, neither-right}
 use Rattle.maps.specs.OrderLaws.{split}
-use Rattle.maps.specs.Lists.{every, findFrom, any, orElse}
+use Rattle.maps.specs.Lists.{every, any, orElse}
 use Rattle.maps.specs.Maps.{sameBytes}
 use Rattle.pipe_log.specs.Numbers.{queueNumber, gateOf}
 use Rattle.pipe_log.specs.Rows.{entriesOf, window}
-use Rattle.rules.specs.Limits.{maxItems, maxBytes, reservedKey}
-use Rattle.rules.specs.Causes.{Cause, Refusal, Result, ok, andThen}
+use Rattle.rules.specs.Limits.{maxBytes, reservedKey}
+use Rattle.rules.specs.Causes.{ok, andThen}
 use Rattle.rules.specs.Items as rules
-use Rattle.rules.specs.Checks.{consecutive, long, longChange, lacksValue, lacksFile, isIncomplete, isOutOfRange, isOtherQueue, isNotRewritable, isRewriteReplay, meets3, orNext, unlessReserved, checks}
+use Rattle.rules.specs.Checks.{consecutive, long, longChange, lacksValue, lacksFile, isIncomplete, isOutOfRange, isOtherQueue, isNotRewritable, isRewriteReplay, meets3, unlessReserved, checks}
 use Rattle.rules.specs.Table.{Table, made, change, entriesTo, putTo, changeTo, commandTo, putHeld}
 use Rattle.memtable.specs.Appends.{Lent}
 use Rattle.memtable.specs.BatchLaws.{entriesOf-window, lent-checked}
@@ -28,17 +28,16 @@ use Rattle.log_batch.specs.declared.item.Command as command
 use Rattle.log_batch.specs.declared.item.OpType as op
 use Rattle.log_batch.specs.declared.item.Value as value
 use Rattle.log_batch.specs.declared.item.KeyFile as file
-use Rattle.log_batch.specs.declared.item.KeyValue.{KeyValue}
 use Rattle.log_batch.specs.declared.item.EntryIndexes.{EntryIndexes}
 use Rattle.log_batch.specs.declared.item.LogItemContent as content
-use Rattle.log_batch.specs.Lent.{rowCount, itemAt, itemsOf, contentOf, keyContent, keyChange, changeOf, valueOf, keyFileOf, commandOf, Within}
+use Rattle.log_batch.specs.Lent.{contentOf, keyContent, keyChange, changeOf, valueOf, keyFileOf, commandOf, Within}
 use Rattle.log_batch.specs.Judged.{callOf}
 use Rattle.log_batch.specs.OpenLaws.{bareOp, Bare}
 use Rattle.log_batch.specs.PassedLaws.{Passed}
 use Rattle.stretch.specs.declared.Change as change′
 use Rattle.stretch.specs.Changes.{ruleOf, Ready}
 use Rattle.index.specs.declared.Deed as deed
-use Rattle.index.specs.Deeds.{rowsIn, keyIn, valueIn, valuePart, entriesChange, cleanDeed, commandDeed, putHeldDeed, putDeed, opDeed, keyDeed, deedOf}
+use Rattle.index.specs.Deeds.{rowsIn, keyIn, valueIn, valuePart, entriesChange, cleanDeed, commandDeed, putHeldDeed, putDeed, opDeed, deedOf}
 
 -- ---- an item of a batch that passed the checks
 

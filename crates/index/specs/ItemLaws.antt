@@ -1,25 +1,23 @@
 -- One item of a batch by its deed: where the lists have room the deed decides, and otherwise it is refused by 18. Assumes nothing.
-use mathlib.Core.Bool.{Bool, true, false, cond, not, _&&_, _||_}
+use mathlib.Core.Bool.{Bool, true, false, _&&_}
 use mathlib.Core.List.{List}
 use mathlib.Core.Option.{Option}
-use mathlib.Core.Path.{_≡_, refl, sym, ap, _∙_}
+use mathlib.Core.Path.{_≡_, refl, sym, _∙_}
 use Prim.Native.Nat.{ℕ}
-use lib.Dec.{ltb}
 use lib.ListN.{length}
-use Rattle.maps.specs.BoolLaws.{clash, both-left, both-right}
+use Rattle.maps.specs.BoolLaws.{clash, both-right}
 use Rattle.maps.specs.OrderLaws.{split}
-use Rattle.maps.specs.Maps.{Map, lookup, remove, numbers}
+use Rattle.maps.specs.Maps.{lookup, numbers}
 use Rattle.rules.specs.Limits.{maxTombstones, maxCleaned}
-use Rattle.rules.specs.Causes.{Result, ok, refuseAt, andThen, placed, limitPassed}
+use Rattle.rules.specs.Causes.{ok, refuseAt, andThen, placed, limitPassed}
 use Rattle.rules.specs.Items.{LogItem, Call, isTombstone}
 use Rattle.rules.specs.Table.{Table, made}
 use Rattle.rules.specs.Context.{Context, withGroups, fits, limited, keeps, step}
-use Rattle.stretch.specs.Changes.{ruleOf, Ready}
-use Rattle.groups.specs.Calls.{onGroup}
+use Rattle.stretch.specs.Changes.{ruleOf}
 use Rattle.index.specs.declared.Deed as deed
 use Rattle.index.specs.Steps.{addsTombstone, addsCleaned, grown, roomIf, listsHaveRoom, step-skip, step-clean, step-change, step-full}
 use Rattle.index.specs.Acts.{deedOn, DeedReady}
-use Rattle.index.specs.DeedLaws.{OnlyRewrite, Changes, DeedSays}
+use Rattle.index.specs.DeedLaws.{OnlyRewrite, DeedSays}
 
 -- a list without room is one that the item adds to
 adds-to : (b : Bool) (n most : ℕ) → roomIf b n most ≡ false → b ≡ true

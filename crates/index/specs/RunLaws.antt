@@ -1,26 +1,21 @@
 -- One item on an area, put together from its deed and from what it adds to the lists; and the way back. Assumes nothing.
-use mathlib.Core.Bool.{Bool, true, false, _&&_}
+use mathlib.Core.Bool.{Bool, true, false}
 use mathlib.Core.List.{List}
-use mathlib.Core.Option.{Option}
 use mathlib.Core.Path.{_≡_, refl, sym, ap, _∙_}
 use Prim.Native.Nat.{ℕ, _≤_}
 use native.Mathlib.Omega.{arith}
-use lib.Dec.{leb}
-use lib.ListN.{length, getD, take, drop}
+use lib.ListN.{length, drop}
 use borrow.Author.Tests.{le-leb}
 use Rattle.maps.specs.BoolLaws.{both}
-use Rattle.maps.specs.Lists.{every, sum}
+use Rattle.maps.specs.Lists.{sum}
 use Rattle.maps.specs.Maps.{Map}
-use Rattle.rules.specs.Causes.{Result, ok, refused, andThen, placed, limitPassed}
+use Rattle.rules.specs.Causes.{ok, andThen, placed}
 use Rattle.rules.specs.Items.{LogItem, Call}
 use Rattle.rules.specs.Table.{Table}
-use Rattle.rules.specs.Context.{Context, withGroups, fits, limited, step, tableFits, waitingFits}
-use Rattle.stretch.specs.declared.Outcome.{Outcome}
+use Rattle.rules.specs.Context.{withGroups, fits, waitingFits}
 use Rattle.stretch.specs.declared.Outcome.the-variants.{Done, Refused}
-use Rattle.stretch.specs.Changes.{outcomeAs}
 use Rattle.groups.specs.Area.{numbersInUse, bytesInUse, groupsOf}
-use Rattle.groups.specs.Area as groups
-use Rattle.groups.specs.Undo.{undoneCells, Undoable}
+use Rattle.groups.specs.Undo.{Undoable}
 use Rattle.groups.specs.Laws.{groups-fit, front-groups, front-wf, front-undone, front-undoable}
 use Rattle.lists.specs.Rest.{tombstonesIn, cleanedIn, restOf}
 use Rattle.lists.specs.Rest as lists
@@ -28,13 +23,13 @@ use Rattle.lists.specs.Calls.{Keeps}
 use Rattle.lists.specs.Laws.{lengths, keeps-all, keeps-then}
 use Rattle.index.specs.declared.Deed as deed
 use Rattle.index.specs.Steps.{addsTombstone, addsCleaned, grown, listsHaveRoom}
-use Rattle.index.specs.Acts.{deedOn, UndoKept, BehindKept, Acted}
+use Rattle.index.specs.Acts.{deedOn, BehindKept, Acted}
 use Rattle.index.specs.ActLaws.{done-not-refused}
 use Rattle.index.specs.DeedLaws.{DeedSays}
 use Rattle.index.specs.ItemLaws.{step-room, step-no-room}
 use Rattle.index.specs.Contexts.{contextOf, Wf}
-use Rattle.index.specs.Growth.{listsWith, ListsGrown, AreaGrown}
-use Rattle.index.specs.Runs.{outcomeAt, BackKept, Stepped}
+use Rattle.index.specs.Growth.{listsWith, AreaGrown}
+use Rattle.index.specs.Runs.{BackKept, Stepped}
 
 -- an area that is well formed passes no limit
 pub context-fits : (xs bs : List ℕ) → Wf xs bs → fits (contextOf xs bs) ≡ true

@@ -1,5 +1,5 @@
 -- A batch on an area, item by item: what one item does, and the context that a refused batch goes back to.
-use mathlib.Core.Bool.{Bool, true, false}
+use mathlib.Core.Bool.{Bool, false}
 use mathlib.Core.List.{List}
 use mathlib.Core.Option.{Option}
 use mathlib.Core.Path.{_≡_}

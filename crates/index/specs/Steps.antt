@@ -2,21 +2,21 @@
 -- Assumes nothing.
 use mathlib.Core.Bool.{Bool, true, false, cond, not, _&&_, _||_}
 use mathlib.Core.List.{List, [], _∷_, _++_}
-use mathlib.Core.Option.{Option, none, some}
+use mathlib.Core.Option.{Option, some}
 use mathlib.Core.Path.{_≡_, refl, sym, ap, _∙_}
-use Prim.Native.Nat.{ℕ, _+_, _≤_, _<_}
+use Prim.Native.Nat.{ℕ, _+_}
 use native.Mathlib.Omega.{arith}
 use lib.Dec.{leb, ltb}
 use lib.ListN.{length, length-append}
-use borrow.Author.Tests.{leb-true, le-leb, lt-leb, ltb-true, lt-ltb, le-ltb, leb-false, ltb-false}
+use borrow.Author.Tests.{leb-true, le-leb, lt-leb, ltb-true, ltb-false}
 use Rattle.maps.specs.BoolLaws.{clash, and-false, both-left, both-right, both}
 use Rattle.maps.specs.OrderLaws.{split, numbersLawful}
 use Rattle.maps.specs.Lists.{every}
 use Rattle.maps.specs.Maps.{Pair, Map, lookup, insert, remove, store, numbers}
-use Rattle.maps.specs.MapLaws.{pair, lookup-insert-same, every-lookup, every-insert, every-remove, length-remove-le}
+use Rattle.maps.specs.MapLaws.{lookup-insert-same, every-lookup, every-insert, every-remove, length-remove-le}
 use Rattle.rules.specs.Limits.{maxGroups, maxTombstones, maxCleaned}
 use Rattle.rules.specs.Causes.{Refusal, Result, ok, refused, refuse, refuseAt, andThen, placed, limitPassed}
-use Rattle.rules.specs.Items.{LogQueue, Append, sameQueue, Content, entries, command, kv, clean, LogItem, Placed, isReserved, isClean, isTombstone, writes, isLiveRewrite, Call}
+use Rattle.rules.specs.Items.{Append, sameQueue, Content, entries, command, kv, clean, LogItem, Placed, isReserved, isClean, isTombstone, writes, isLiveRewrite, Call}
 use Rattle.rules.specs.Table.{Table, made, change, commandTo}
 use Rattle.rules.specs.Context.{Context, withGroups, withCleaned, withTombstones, tableFits, waitingFits, fits, limited, keeps, addCleaned, addTombstone, act, step}
 use Rattle.groups.specs.Calls.{onGroup}

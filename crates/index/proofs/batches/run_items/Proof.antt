@@ -5,7 +5,6 @@ use Rattle.log_batch.specs.Judged.{callOf}
 use Rattle.index.specs.BatchLaws.{begun-context}
 use Rattle.index.proofs.BatchWays.{Under, under-start, under-more, under-back, under-refused, under-all, area-length, area-bytes, same-lengths}
 use borrow.Author.Needs.{needs}
-use native.Mathlib.Omega.{arith}
 use Rattle.index.proofs.batches.run_items.Statement.{statement}
 use Rattle.index.proofs.batches.run_items.Tie as tie
 
