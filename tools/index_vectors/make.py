@@ -3,7 +3,8 @@
 
 They are made from oracle/vectors/index.txt, the Rust's answers to scripts of calls on contexts and the index. Of each Append
 context that a script makes, the replays of batches of the Append queue are taken, in order and with their answers, up to the
-first other call that changes that context. Merges and joins only read their other context, and queries change nothing.
+first other call that changes that context. Merges and joins only read their other context, and queries change nothing. Where
+the vectors have a dump of the context behind a replay, the counts of what it holds are taken from there.
 Nothing is decided here but how a batch is laid out.
 """
 import pathlib
@@ -11,6 +12,7 @@ import sys
 
 VECTORS = pathlib.Path(__file__).resolve().parents[2] / 'oracle' / 'vectors' / 'index.txt'
 READING = ['live', 'groups', 'is_empty', 'dump']
+NOT_TOLD = [0] * 6
 NO_FILE = 2
 
 
@@ -96,20 +98,29 @@ def answer(line):
     return int(number), 0 if place == '-' else int(place) + 1
 
 
+def counts(dump):
+    """That there is a dump, then how many groups, entries, keys, tombstones and cleaned numbers it has."""
+    words = [line.split() for line in dump]
+    said = lambda name: [w for w in words if w[0] == name]
+    listed = lambda name: sum(int(w[1]) for w in said(name))
+    return [1, len(said('group')), listed('entries'), listed('keys'), len(said('tombstone')), listed('cleaned')]
+
+
 def calls():
-    """The calls of the vectors, each with its first answer line."""
-    call = None
+    """The calls of the vectors, each with its answer lines."""
+    call, said = None, []
     for line in VECTORS.read_text().splitlines():
         if line.startswith('= '):
-            if call:
-                yield call, line[2:]
-            call = None
+            said.append(line[2:])
         elif line and not line.startswith('#'):
-            call = line
+            if call:
+                yield call, said
+            call, said = line, []
+    yield call, said
 
 
 def replays():
-    """For each Append context, a name and its replays with answers."""
+    """For each Append context, a name and its replays with answers and counts."""
     contexts, taken = {}, {}
     for call, said in calls():
         tokens = Tokens(call.split())
@@ -125,8 +136,10 @@ def replays():
             if tokens.number() == 0:
                 taken[c] = contexts.setdefault((script, c, len(contexts)), [])
         elif what == 'replay' and c in taken and tokens.file()[0] == 0:
-            taken[c].append((Batch(tokens), answer(said)))
+            taken[c].append([Batch(tokens), answer(said[0]), NOT_TOLD])
             assert tokens.at == len(tokens.words)
+        elif what == 'dump' and taken.get(c):
+            taken[c][-1][2] = counts(said)
         elif what not in READING:
             taken.pop(c, None)
     return contexts
@@ -139,16 +152,17 @@ def lines(numbers, width):
 
 
 def main():
-    count = 0
+    count = dumps = 0
     for (script, c, _), batches in replays().items():
-        for i, (b, (number, place)) in enumerate(batches):
+        for i, (b, (number, place), told) in enumerate(batches):
             print('# script %s, context %s, replay %d' % (script, c, i + 1))
-            print(int(i == 0), number, place, len(b.items), len(b.entries), len(b.bytes))
+            print(int(i == 0), number, place, len(b.items), len(b.entries), len(b.bytes), *told)
             lines(b.items, 9)
             lines(b.entries, 8)
             lines(b.bytes, 32)
             count += 1
-    print('%d calls' % count, file=sys.stderr)
+            dumps += told[0]
+    print('%d calls, behind %d of them counts' % (count, dumps), file=sys.stderr)
 
 
 main()

@@ -1,11 +1,13 @@
-// A call of the file: a line that names it, a line of six numbers, and the numbers of the three slices.
+// A call of the file: a line that names it, a line of twelve numbers, and the numbers of the three slices.
 ghost use Prim.Native.Nat.{_≤_, _<_};
 ghost use lib.ListN.{length};
 ghost use Rattle.index.specs.Contexts.{Wf};
 ghost use Rattle.index_vectors.specs.Reading.{movesOn, movesTo, outcomeMovesOn, outcomeMovesTo};
+use groups::SLOTS;
 use index::Answer;
 use index::Position;
 use pipe_log::LogQueue;
+use stretch::STRETCH;
 use text::Number;
 use text::number_at;
 
@@ -90,7 +92,7 @@ fn read_bytes(text: &[u8], at: usize, count: usize, out: &mut [u8]) -> Read
 fn read_slices(
     text: &[u8],
     at: usize,
-    head: [u64; 6],
+    head: [u64; 12],
     items: &mut [u64],
     entries: &mut [u64],
     bytes: &mut [u8],
@@ -171,9 +173,71 @@ fn front_bytes(bytes: &[u8], n: usize) -> &[u8] {
     &bytes[..n]
 }
 
-// Makes a call with the given first line, and compares the answer.
+// A number of an area.
+fn number_in(xs: &[u64], at: usize) -> u64 {
+    if xs.len() <= at {
+        return 0;
+    }
+    xs[at]
+}
+
+// The sum, or the largest number.
+fn plus(a: u64, b: u64) -> u64 {
+    if u64::MAX - a < b {
+        return u64::MAX;
+    }
+    a + b
+}
+
+// The sum of the numbers at place j of the headers of all groups (stretch/specs/Stretch.antt).
+fn total(xs: &[u64], j: usize) -> u64
+    requires { ⌜ j < 10 ⌝ }
+{
+    let mut sum = 0;
+    let mut k = 0;
+    while k < SLOTS {
+        if number_in(xs, k * STRETCH) == 1 {
+            sum = plus(sum, number_in(xs, k * STRETCH + j));
+        }
+        k += 1;
+    }
+    sum
+}
+
+// Whether an area has so many groups, entries and keys.
+fn groups_hold(xs: &[u64], groups: u64, entries: u64, keys: u64) -> bool {
+    if total(xs, 0) != groups {
+        return false;
+    }
+    if total(xs, 3) != entries {
+        return false;
+    }
+    total(xs, 8) == keys
+}
+
+// Whether an area has so many tombstones and cleaned numbers (lists/specs/Rest.antt).
+fn lists_hold(xs: &[u64], tombstones: u64, cleaned: u64) -> bool {
+    let a = groups::NUMBERS;
+    if number_in(xs, a + 1) != tombstones {
+        return false;
+    }
+    number_in(xs, a + 2) == cleaned
+}
+
+// Whether an area holds as much as the first line of a call says, if it says so.
+fn holds_as(head: [u64; 12], xs: &[u64]) -> bool {
+    if head[6] == 0 {
+        return true;
+    }
+    if !groups_hold(xs, head[7], head[8], head[9]) {
+        return false;
+    }
+    lists_hold(xs, head[10], head[11])
+}
+
+// Makes a call with the given first line, and compares the answer and what the context then holds.
 fn answers_as(
-    head: [u64; 6],
+    head: [u64; 12],
     xs: &mut [u64],
     bs: &mut [u8],
     items: &[u64],
@@ -185,12 +249,15 @@ fn answers_as(
 {
     fresh_if(head[0] == 1, xs, bs);
     let answer = index::replay_append(xs, bs, items, entries, bytes);
-    is_expected(answer, head[1], head[2])
+    if !is_expected(answer, head[1], head[2]) {
+        return false;
+    }
+    holds_as(head, xs)
 }
 
 // The same with the first numbers of the three slices.
 fn run(
-    head: [u64; 6],
+    head: [u64; 12],
     xs: &mut [u64],
     bs: &mut [u8],
     items: &[u64],
@@ -207,7 +274,7 @@ fn run(
 }
 
 // Runs the call of a given first line whose slices are at a place.
-fn run_from(text: &[u8], at: usize, head: [u64; 6], xs: &mut [u64], bs: &mut [u8]) -> Outcome
+fn run_from(text: &[u8], at: usize, head: [u64; 12], xs: &mut [u64], bs: &mut [u8]) -> Outcome
     requires { ⌜ at ≤ length (now text) ⌝ }
     requires { ⌜ Wf (now xs) (now bs) ⌝ }
     ensures { λ r. ⌜ outcomeMovesTo r at (length (now (text .entry))) ⌝ }
@@ -235,8 +302,8 @@ pub fn run_at(text: &[u8], at: usize, xs: &mut [u64], bs: &mut [u8]) -> Outcome
     let Read::UpTo(named) = skip_line(text, at) else {
         return Outcome::Malformed;
     };
-    let mut head = [0u64; 6];
-    let Read::UpTo(headed) = read_numbers(text, named, 6, 6, &mut head) else {
+    let mut head = [0u64; 12];
+    let Read::UpTo(headed) = read_numbers(text, named, 12, 12, &mut head) else {
         return Outcome::Malformed;
     };
     run_from(text, headed, head, xs, bs)

@@ -29,7 +29,21 @@ same-length-2 c = search needs
 
 returns : tie.Need-returns
 returns c =
-    let replay-append = c .before .before .before .before .before .replay-append in
+    let replay-append = c .before .before .before .before .before .before .replay-append in
+    replay-append .ensures 0 .wf
+
+holds-as-requires : tie.Need-holds-as-requires
+holds-as-requires c κs = search needs
+
+same-length-3 : tie.Need-same-length-3
+same-length-3 c = search needs
+
+same-length-4 : tie.Need-same-length-4
+same-length-4 c = search needs
+
+returns-2 : tie.Need-returns-2
+returns-2 c =
+    let replay-append = c .before .before .before .before .before .before .before .before .replay-append in
     replay-append .ensures 0 .wf
 
 pub answers-as-spec : {M : Type 1} → statement M
@@ -44,4 +58,8 @@ answers-as-spec =
     is-expected-requires
     same-length
     same-length-2
-    returns)
+    returns
+    holds-as-requires
+    same-length-3
+    same-length-4
+    returns-2)
