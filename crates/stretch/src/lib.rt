@@ -6,7 +6,9 @@ mod header;
 mod keys;
 
 pub use changes::apply;
+pub use header::head_in;
 pub use header::make;
+pub use header::write_head;
 use pipe_log::Gate;
 use pipe_log::LogQueue;
 
