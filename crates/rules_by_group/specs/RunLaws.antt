@@ -123,7 +123,8 @@ module _ (k : Kind) (call : Call) (keep : KindKept k call) where
         };
       }
 
-  step-keeps : (x : Placed) (c d : Context) → eachEntry (entryBy k) (x .item .content) ≡ true → KeptAt k c → step limited call x c ≡ ok d → KeptAt k d
+  -- an item of the call, judged by the limits
+  pub step-keeps : (x : Placed) (c d : Context) → eachEntry (entryBy k) (x .item .content) ≡ true → KeptAt k c → step limited call x c ≡ ok d → KeptAt k d
   step-keeps x c d o h e =
       let s = step-taken call x c d (h .kept .groups-ascend) e in
       rw (s .2) (after-keeps (x .item) (s .0) c h (changed-meets (entryBy k) call (x .item .content) (lookup numbers (x .item .group) (c .groups)) (s .0) o (own-made c k (h .kept) (h .is-kind) (x .item .group)) (s .1)))
