@@ -18,7 +18,7 @@ use Rattle.memtable.specs.Queries.{foundOf, FirstAnswer, LastAnswer, RewriteCou
 use Rattle.memtable.specs.WindowLaws.{length-window}
 use Rattle.stretch.specs.Stretch.{headIn, entryRows, keyCount, keyRows, isCounted, tableIn}
 use Rattle.groups.specs.Area.{stretchAt, bytesAt}
-use Rattle.index.specs.Contexts.{contextOf, Wf}
+use Rattle.contexts.specs.Contexts.{contextOf, Wf}
 use Rattle.queries.specs.Places.{StandsAt}
 use Rattle.queries.specs.PlaceLaws.{asked-at}
 

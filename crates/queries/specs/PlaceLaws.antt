@@ -14,7 +14,7 @@ use Rattle.groups.specs.declared.Slot.{Slot}
 use Rattle.groups.specs.declared.Slot.the-variants as slot
 use Rattle.groups.specs.Area.{stretchAt, bytesAt, groupsOf, Found}
 use Rattle.groups.specs.Laws.{found-at, found-free, found-full, lookup-found, lookup-free, lookup-full}
-use Rattle.index.specs.Contexts.{contextOf, Wf}
+use Rattle.contexts.specs.Contexts.{contextOf, Wf}
 use Rattle.queries.specs.declared.Place.{Place}
 use Rattle.queries.specs.declared.Place.the-variants.{At, Absent}
 use Rattle.queries.specs.Places.{StandsAt, Stands}

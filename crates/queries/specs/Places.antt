@@ -7,7 +7,7 @@ use Rattle.maps.specs.Maps.{lookup, numbers}
 use Rattle.stretch.specs.Stretch.{tableIn}
 use Rattle.stretch.specs.Stretch as stretch
 use Rattle.groups.specs.Area.{slots, stretchAt, bytesAt}
-use Rattle.index.specs.Contexts.{contextOf}
+use Rattle.contexts.specs.Contexts.{contextOf}
 use Rattle.queries.specs.declared.Place.{Place}
 use Rattle.queries.specs.declared.Place.the-variants.{At, Absent}
 

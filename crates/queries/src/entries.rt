@@ -5,7 +5,7 @@ ghost use Rattle.rules.specs.Causes.{ok};
 ghost use Rattle.rules.specs.Table.{firstIndex, lastIndex};
 ghost use Rattle.rules.specs.TableQueries.{getEntry, rewriteCount, hasAtLeastSomeEntriesBefore};
 ghost use Rattle.rules.specs.Queries.{inGroup};
-ghost use Rattle.index.specs.Contexts.{contextOf, Wf};
+ghost use Rattle.contexts.specs.Contexts.{contextOf, Wf};
 ghost use Rattle.queries.specs.Answers.{numberAs, countAs, entryAs, someBeforeAs};
 use crate::Counted;
 use crate::FoundEntry;

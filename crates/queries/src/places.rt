@@ -5,7 +5,7 @@ ghost use Prim.Native.Nat.{ℕ, _≤_, _<_};
 ghost use lib.ListN.{length};
 ghost use Rattle.stretch.specs.Stretch.{headIn, entryRows, keyCount, keyRows};
 ghost use Rattle.groups.specs.Area.{stretchAt, bytesAt};
-ghost use Rattle.index.specs.Contexts.{Wf};
+ghost use Rattle.contexts.specs.Contexts.{Wf};
 ghost use Rattle.queries.specs.Places.{Stands};
 use crate::Place;
 use groups::Slot;
