@@ -3,3 +3,4 @@ pub mod Parts
 pub mod RowLists
 pub mod Ways
 pub mod AllWays
+pub mod Cleanings

@@ -2,13 +2,14 @@
 use mathlib.Core.Bool.{Bool}
 use mathlib.Core.Option.{Option, none, some}
 use Prim.Native.Nat.{ℕ}
-use Rattle.rules.specs.Causes.{Result, ok, refuse, groupAbsent, badRange, entryCompacted, entryNotFound, listTooShort}
+use Rattle.rules.specs.Causes.{Result, ok, refuse, wrongKind, groupAbsent, badRange, entryCompacted, entryNotFound, listTooShort}
 use Rattle.rules.specs.Items.{EntryIndex}
 use Rattle.queries.specs.declared.FoundNumber as number
 use Rattle.queries.specs.declared.Counted as count
 use Rattle.queries.specs.declared.FoundEntry as entry
 use Rattle.queries.specs.declared.SomeBefore as before
 use Rattle.queries.specs.declared.Fetched as fetch
+use Rattle.queries.specs.declared.Taken as take
 
 abbrev pub numberAs : number.FoundNumber → Result (Option ℕ)
 numberAs number.the-variants.GroupAbsent = refuse groupAbsent
@@ -37,3 +38,9 @@ fetchedAs fetch.the-variants.BadRange = refuse badRange
 fetchedAs fetch.the-variants.EntryCompacted = refuse entryCompacted
 fetchedAs fetch.the-variants.EntryNotFound = refuse entryNotFound
 fetchedAs fetch.the-variants.ListTooShort = refuse listTooShort
+
+-- the number of cleaned numbers that were handed out
+abbrev pub takenAs : take.Taken → Result ℕ
+takenAs (take.the-variants.Done n) = ok n
+takenAs take.the-variants.WrongKind = refuse wrongKind
+takenAs take.the-variants.ListTooShort = refuse listTooShort

@@ -5,3 +5,4 @@ pub mod Places
 pub mod PlaceLaws
 pub mod All
 pub mod AllLaws
+pub mod Cleaned

@@ -2,6 +2,7 @@
 // number, of all groups, and the cleaned numbers of the index.
 mod all;
 mod answers;
+mod cleaned;
 mod entries;
 mod fetch;
 mod files;
@@ -11,6 +12,7 @@ mod places;
 pub use all::group_numbers;
 pub use all::is_empty;
 pub use all::live_entries;
+pub use cleaned::take_cleaned_region_logs;
 pub use entries::entry_count;
 pub use entries::first_index;
 pub use entries::get_entry;
@@ -75,5 +77,12 @@ pub enum Fetched {
     BadRange,
     EntryCompacted,
     EntryNotFound,
+    ListTooShort,
+}
+
+// What `take_cleaned_region_logs` answers: how many numbers it handed out, or document 01's 1 or 19.
+pub enum Taken {
+    Done(usize),
+    WrongKind,
     ListTooShort,
 }
