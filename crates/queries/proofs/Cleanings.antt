@@ -1,21 +1,18 @@
 -- Each way through `take_cleaned_region_logs`: a context, a list that is too short, and the numbers handed out. Assumes nothing.
-use mathlib.Core.Bool.{Bool, true, false, cond}
 use mathlib.Core.List.{List, []}
 use mathlib.Core.Path.{_≡_, refl, sym, ap, _∙_}
-use Prim.Native.Nat.{ℕ, _+_, _-_, _≤_, _<_}
+use Prim.Native.Nat.{ℕ, _-_, _≤_, _<_}
 use native.Mathlib.Nat.{zero-add}
 use native.Mathlib.Omega.{arith}
 use lib.Dec.{leb}
 use lib.ListN.{length, getD, take, drop}
 use borrow.Author.Tests.{le-leb, lt-leb}
 use borrow.Rule.Slice.PartMut.{putMid}
-use Rattle.cells.specs.Part.{part, put}
+use Rattle.cells.specs.Part.{put}
 use Rattle.cells.specs.PartLaws.{length-part, same-around}
-use Rattle.maps.specs.Maps.{Map}
 use Rattle.maps.specs.OrderLaws.{split}
-use Rattle.rules.specs.Causes.{Result, Refusal, ok, refused, refuse, andThen, wrongKind, listTooShort}
+use Rattle.rules.specs.Causes.{Refusal, ok, refused, refuse, andThen, wrongKind}
 use Rattle.rules.specs.Items.{LogQueue}
-use Rattle.rules.specs.Table.{Table}
 use Rattle.rules.specs.Context.{Context, isIndex, withGroups, withWaiting, withCleaned}
 use Rattle.rules.specs.Queries.{answered, lentAfter, takeCleaned, afterTaking}
 use Rattle.rules_by_group.specs.KeptLaws.{taking-kept}

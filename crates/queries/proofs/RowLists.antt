@@ -1,9 +1,9 @@
 -- The rows of a lent list of keys at exit are those that the rules leave there: keys and values of at most 32 bytes, laid in row by
 -- row, are read back, and the rows behind them are as they were. Assumes nothing.
-use mathlib.Core.Bool.{Bool, true, false, cond, _&&_, _||_}
-use mathlib.Core.List.{List, [], _∷_, _++_, map, reverse, reverseAux}
+use mathlib.Core.Bool.{Bool, true, false, _&&_, _||_}
+use mathlib.Core.List.{List, [], _∷_, _++_, map, reverseAux}
 use mathlib.Core.Option.{Option}
-use mathlib.Core.Path.{_≡_, refl, sym, ap, _∙_}
+use mathlib.Core.Path.{_≡_, refl, ap, _∙_}
 use Prim.Native.Nat.{ℕ, zero, suc, _+_, _-_, _*_, _/_, _≤_, _<_, min}
 use native.Mathlib.Nat.{add-zero, add-suc, suc-add}
 use native.Mathlib.Omega.{arith}
@@ -13,11 +13,11 @@ use borrow.Author.Tests.{leb-true, le-leb}
 use Rattle.cells.specs.Part.{part, put}
 use Rattle.cells.specs.PartLaws.{length-put, take-part, getD-put-in, getD-put-before, getD-put-after, part-put-same, part-put-before, part-put-after}
 use Rattle.maps.specs.BoolLaws.{both-left, both-right, both}
-use Rattle.maps.specs.Lists.{every, select}
+use Rattle.maps.specs.Lists.{every}
 use Rattle.maps.specs.ListLaws.{every-head, every-tail, every-cons, every-selected}
 use Rattle.maps.specs.Maps.{Pair, Map}
 use Rattle.maps.specs.OrderLaws.{split}
-use Rattle.rules.specs.Causes.{Result, ok, refused, refuse, andThen, badRange, listTooShort}
+use Rattle.rules.specs.Causes.{Result, ok, refused, andThen}
 use Rattle.rules.specs.Items.{Append, Rewrite, LogQueue, sameQueue}
 use Rattle.rules.specs.Table.{Held, Table}
 use Rattle.rules.specs.TableQueries.{KeyValue, rowOf, inBounds, startAboveEnd, inDirection, scan, keysOf, fetchKvsBefore, fetchRewrittenKvs}

@@ -17,7 +17,7 @@ use Rattle.kvs.specs.Rows.{keysIn}
 use Rattle.kvs.specs.Rows as kvs
 use Rattle.kvs.specs.RowLaws.{length-keys}
 use Rattle.kvs.specs.Calls.{given, GetKey}
-use Rattle.kvs.specs.Lists.{lentList, lensAfter, bytesAfter, Fetches}
+use Rattle.kvs.specs.Lists.{lensAfter, bytesAfter, Fetches}
 use Rattle.kvs.specs.Lists as keys
 use Rattle.memtable.specs.declared.Fetched as memtable·fetched
 use Rattle.memtable.specs.declared.Head.{Head}

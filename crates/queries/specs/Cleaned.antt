@@ -4,7 +4,7 @@ use mathlib.Core.Path.{_≡_}
 use Prim.Native.Nat.{ℕ}
 use lib.ListN.{length}
 use Rattle.rules.specs.Causes.{ok, andThen}
-use Rattle.rules.specs.Context.{Context, withCleaned}
+use Rattle.rules.specs.Context.{withCleaned}
 use Rattle.rules.specs.Queries.{takeCleaned, afterTaking, answered, lentAfter}
 use Rattle.lists.specs.Rest.{cleanedIn, restOf}
 use Rattle.lists.specs.Rest as lists

@@ -1,10 +1,8 @@
 -- A query of one group goes by the table of the stretch where the group stands. Assumes nothing.
 use mathlib.Core.List.{List}
-use mathlib.Core.Option.{none}
 use mathlib.Core.Path.{_≡_, refl}
 use Prim.Native.Nat.{ℕ}
 use Rattle.maps.specs.Lists.{orElse}
-use Rattle.maps.specs.Maps.{lookup, numbers}
 use Rattle.rules.specs.Causes.{Result, refuse, groupAbsent}
 use Rattle.rules.specs.Table.{Table}
 use Rattle.rules.specs.Context.{withGroups}

@@ -1,6 +1,5 @@
 -- `queries::cleaned::take_cleaned_region_logs` meets its contract. Assumes nothing.
 use native.Mathlib.Omega.{arith}
-use lib.ListN.{drop, length}
 use borrow.Rule.Slice.PartAt.{part-to-end}
 use Rattle.queries.proofs.Cleanings.{wrong-taken, taken}
 use borrow.Author.Needs.{needs}

@@ -1,5 +1,5 @@
 -- `queries::entries::has_at_least_some_entries_before` meets its contract. Assumes nothing.
-use mathlib.Core.Path.{sym, _∙_}
+use mathlib.Core.Path.{_∙_}
 use Rattle.queries.specs.PlaceLaws.{stands-at, asked-absent}
 use Rattle.queries.proofs.Ways.{numbers-there, entries-wf, by-entries}
 use Rattle.rules.specs.TableQueries.{hasAtLeastSomeEntriesBefore}

@@ -1,5 +1,5 @@
 -- `queries::entries::last_index` meets its contract. Assumes nothing.
-use mathlib.Core.Path.{sym, _∙_}
+use mathlib.Core.Path.{_∙_}
 use Rattle.queries.specs.PlaceLaws.{stands-at, asked-absent}
 use Rattle.queries.proofs.Ways.{numbers-there, own-wf, last-there}
 use borrow.Author.Needs.{needs}

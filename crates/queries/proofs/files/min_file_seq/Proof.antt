@@ -1,8 +1,7 @@
 -- `queries::files::min_file_seq` meets its contract. Assumes nothing.
-use mathlib.Core.Path.{_∙_}
+use mathlib.Core.Path.{_∙_, sym, ap}
 use Rattle.queries.specs.PlaceLaws.{stands-at, asked-absent, asked-at}
 use Rattle.queries.proofs.Ways.{numbers-there}
-use mathlib.Core.Path.{sym, ap}
 use Rattle.rules.specs.Causes.{ok}
 use borrow.Author.Needs.{needs}
 use Rattle.queries.proofs.files.min_file_seq.Statement.{statement}

@@ -1,6 +1,6 @@
 -- `queries::keys::get` meets its contract. Assumes nothing.
 use Rattle.queries.specs.PlaceLaws.{stands-at, asked-absent, asked-at}
-use Rattle.queries.proofs.Ways.{numbers-there, got-absent}
+use Rattle.queries.proofs.Ways.{got-absent}
 use borrow.Author.Needs.{needs}
 use Rattle.queries.proofs.keys.get.Statement.{statement}
 use Rattle.queries.proofs.keys.get.Tie as tie
