@@ -14,6 +14,7 @@ mod spans;
 pub mod table;
 
 use pipe_log::EntryIndex;
+pub use rows::entry_at;
 
 // The files of a finished atomic group: document 01's span.
 pub enum AtomicGroup {
