@@ -70,6 +70,13 @@ pub enum SomeBefore {
     Is(bool),
 }
 
+// The entries that a fetch answers, by their place and number; or document 01's 11 or 12.
+pub enum Range {
+    Rows(usize, usize),
+    EntryCompacted,
+    EntryNotFound,
+}
+
 // What fetching records into lent slices answers: their number, or document 01's 11, 12 or 19.
 pub enum Fetched {
     Done(usize),
