@@ -11,6 +11,9 @@ pub use entries::has_at_least_some_entries_before;
 pub use entries::last_index;
 pub use entries::rewrite_count;
 use pipe_log::EntryIndex;
+pub use places::entry_rows;
+pub use places::head_at;
+pub use places::place_of;
 
 // Where a group stands: at a stretch of the area, or nowhere.
 pub enum Place {

@@ -17,7 +17,7 @@ fn record_at(xs: &[u64], at: usize, first: u64, i: usize) -> EntryIndex
 }
 
 // Stores the records of `count` rows from place `at` on, from the first place of the list.
-fn fill_records(xs: &[u64], at: usize, first: u64, count: usize, out: &mut [EntryIndex])
+pub fn fill_records(xs: &[u64], at: usize, first: u64, count: usize, out: &mut [EntryIndex])
     requires { ⌜ Fillable at first count (now xs) (length (now out)) ⌝ }
     ensures { λ _. ⌜ now (out .exit) ≡ put (now (out .entry)) 0 (window first count (drop at (now (xs .entry)))) ⌝ }
 {
