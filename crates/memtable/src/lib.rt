@@ -3,9 +3,9 @@
 mod append;
 mod columns;
 mod compact;
+mod entries;
 mod fetch;
 mod numbers;
-mod queries;
 mod rewrite;
 mod rows;
 mod scans;
