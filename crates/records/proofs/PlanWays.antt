@@ -148,7 +148,7 @@ module _ {g : ℕ} {xs bs : List ℕ} {k : ℕ} (w : Wf xs bs) (s : StandsAt g x
           inside = omega (arith, b, t .0, t .1);
           index = omega (arith, i, l);
           rows = λ j _ u. row-at j u;
-          fits = m;
+          fits = omega (arith, m);
         }
 
   -- what the rows of the stretch answer, the group answers
