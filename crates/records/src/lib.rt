@@ -1,10 +1,13 @@
 // The thin fetch: a group's entry records of a context or the index, fetched into a lent list of records.
 mod fetching;
 mod fill;
+mod listing;
 mod planning;
 
 pub use fetching::fetch_records;
+pub use listing::fetch_listed;
 use pipe_log::Bound;
+use pipe_log::EntryIndex;
 use queries::Fetched;
 
 // A fetch of entry records, with document 01's arguments.
@@ -27,4 +30,13 @@ pub struct Plan {
     pub first: u64,
     pub count: usize,
     pub answer: Fetched,
+}
+
+// How many records a list by value has: as many as a group can have entries.
+pub const LISTED: usize = 64;
+
+// What a fetch into a list by value answers, with the list.
+pub struct Listed {
+    pub answer: Fetched,
+    pub list: [EntryIndex; LISTED],
 }
