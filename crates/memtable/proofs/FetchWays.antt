@@ -15,8 +15,7 @@ use Rattle.pipe_log.specs.Numbers.{boundOf}
 use Rattle.pipe_log.specs.Rows.{withIndex, window}
 use Rattle.rules.specs.Causes.{Result, ok, refuse, andThen, entryCompacted, entryNotFound}
 use Rattle.rules.specs.Items.{EntryIndex}
-use Rattle.maps.specs.Maps.{Map}
-use Rattle.rules.specs.Table.{Held, firstIndex}
+use Rattle.rules.specs.Table.{firstIndex}
 use Rattle.rules.specs.TableQueries.{within, sized, fetchEntriesTo, fetchEntryIndexesBefore, fetchRewrittenEntryIndexes}
 use Rattle.maps.specs.BoolLaws.{and-false}
 use Rattle.memtable.specs.declared.Head.{Head}

@@ -1,20 +1,17 @@
 -- A plan carried out gives the rules' answer: each way through `plan`. Assumes nothing.
-use mathlib.Core.Bool.{Bool, true, false}
 use mathlib.Core.List.{List}
 use mathlib.Core.Path.{_≡_, refl, sym, _∙_}
 use Prim.Native.Nat.{ℕ, _+_, _*_, _≤_, _<_}
 use native.Mathlib.Nat.{zero-add, not-suc-le-zero}
 use native.Mathlib.Decide.{decLe}
 use native.Mathlib.Omega.{arith}
-use lib.Dec.{leb}
 use lib.ListN.{length, getD, drop}
 use lib.Seq.{getD-drop}
 use borrow.Author.Tests.{le-leb, lt-leb}
 use Rattle.cells.specs.Part.{part, put}
 use Rattle.cells.specs.PartLaws.{length-part, getD-part}
-use Rattle.maps.specs.Maps.{Map}
 use Rattle.pipe_log.specs.Rows.{window}
-use Rattle.rules.specs.Causes.{Cause, Result, ok, refuse, andThen, groupAbsent, entryCompacted, entryNotFound, listTooShort}
+use Rattle.rules.specs.Causes.{Cause, Result, ok, refuse, andThen, groupAbsent, entryCompacted, entryNotFound}
 use Rattle.rules.specs.Items.{EntryIndex}
 use Rattle.rules.specs.Table.{Table}
 use Rattle.rules.specs.Queries.{answered, lentAfter, inGroup}

@@ -1,7 +1,6 @@
 -- What a fetch asks of a group's table, and what it answers in a lent list of records.
 use mathlib.Core.List.{List}
 use mathlib.Core.Path.{_≡_}
-use Prim.Native.Nat.{ℕ}
 use lib.ListN.{length}
 use Rattle.pipe_log.specs.Numbers.{boundOf}
 use Rattle.rules.specs.Causes.{Result, ok, andThen}

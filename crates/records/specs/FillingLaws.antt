@@ -4,12 +4,12 @@ use mathlib.Core.Path.{_≡_, refl, sym, ap, _∙_}
 use Prim.Native.Nat.{ℕ, suc, _+_, _-_, _*_, _≤_, _<_}
 use native.Mathlib.Numerals.{add-one}
 use native.Mathlib.Omega.{arith}
-use lib.ListN.{length, take, drop, set, length-drop}
+use lib.ListN.{length, take, drop, set}
 use Rattle.cells.specs.Part.{put}
 use Rattle.cells.specs.PartLaws.{part-is, part-back, length-put, put-nil, put-snoc}
 use Rattle.pipe_log.specs.Rows.{entryOf, withIndex, window}
 use Rattle.rules.specs.Items.{EntryIndex}
-use Rattle.memtable.specs.Views.{rowAt, AnyRow}
+use Rattle.memtable.specs.Views.{rowAt}
 use Rattle.memtable.specs.WindowLaws.{length-window, window-append}
 use Rattle.records.specs.Filling.{Readable, Fillable}
 
