@@ -1,3 +1,5 @@
 -- The laws that the proofs of `queries` cite.
 pub mod Parts
+pub mod RowLists
 pub mod Ways
+pub mod AllWays
