@@ -29,6 +29,9 @@ pub use keys::get;
 pub use keys::key_count;
 pub use keys::scan;
 use pipe_log::EntryIndex;
+pub use places::entry_rows;
+pub use places::head_at;
+pub use places::place_of;
 
 // What `get` tells beside the value: document 01's 9, that the key is absent, or that the value is the part handed back.
 pub const GROUP_ABSENT: u64 = 9;
