@@ -14,16 +14,10 @@ use Rattle.memtable.specs.Appends.{fitting}
 use Rattle.kvs.specs.Rows.{fits}
 use Rattle.stretch.specs.declared.Outcome.the-variants.{Done, Refused}
 use Rattle.stretch.specs.Stretch.{entryRowsAt, keyRowsAt, tableAt, WfAt}
-use Rattle.stretch.specs.Laws.{room-same, room-own}
+use Rattle.stretch.specs.Laws.{limited-same, room-same, room-own}
 use Rattle.stretch.specs.Changes.{roomAt, limitedAt, ChangedAt}
 
 -- ---- limits
-
--- what is accepted within the limits is not refused by them
-pub limited-same : (w : ℕ) (p b : List ℕ) (x : Result Table) → ((u : Table) → x ≡ ok u → roomAt w p b u ≡ true) → limitedAt w p b x ≡ x
-unfolding limitedAt andThen
-limited-same w p b (ok u) f = rw (f u refl)
-limited-same w p b (refused r) f = refl
 
 -- where there is room for the keys, the room for entries is the limit
 pub limited-fitting : (w : ℕ) (p b : List ℕ) (x : Result Table) → ((u : Table) → fitting (length (entryRowsAt w p) / 8) x ≡ ok u → roomAt w p b u ≡ true)
