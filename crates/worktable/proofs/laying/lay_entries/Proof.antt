@@ -1,6 +1,6 @@
 -- `worktable::laying::lay_entries` meets its contract. Assumes nothing.
 use Rattle.worktable.specs.Calls.{newerQueue, HeadFor, entriesOver}
-use Rattle.worktable.specs.LayLaws.{held-count, lent-held, lent-window}
+use Rattle.worktable.specs.LayLaws.{held-few, lent-held, lent-window}
 use borrow.Author.Needs.{needs}
 use Rattle.worktable.proofs.laying.lay_entries.Statement.{statement}
 use Rattle.worktable.proofs.laying.lay_entries.Tie as tie
@@ -12,7 +12,7 @@ rows-of-requires : tie.Need-rows-of-requires
 rows-of-requires c κs =
     let start = c .before .before .before in
     let head-in = c .head-in in
-    (start .pre .1 .0 .numbers-are, rw (head-in .ensures) (held-count _ (start .pre .1 .0)))
+    (start .pre .1 .0 .numbers-are, rw (head-in .ensures) (held-few _ (start .pre .1 .0)))
 
 enum-told : tie.Need-enum-told
 enum-told c = search needs
