@@ -8,8 +8,8 @@ use Rattle.rules.specs.Items.{FileId}
 use Rattle.rules.specs.Context.{Context}
 use Rattle.rules.specs.Calls.{append, rewrite}
 use Rattle.log_batch.specs.Lent.{batchOf}
-use Rattle.index.specs.declared.Answer.{Answer}
-use Rattle.index.specs.Contexts.{contextOf, answerAs, Called}
+use Rattle.contexts.specs.declared.Answer.{Answer}
+use Rattle.contexts.specs.Contexts.{contextOf, answerAs, Called}
 use Rattle.galdnyrr.specs.Told.{numberOf, placeOf, Told}
 
 module _ (xs bs : List ℕ) (r : Answer) (n p : ℕ) (ys fs : List ℕ) (tells : (c : Context) → (n ≡ numberOf (answerAs r c)) × (p ≡ placeOf (answerAs r c))) where

@@ -9,7 +9,7 @@ use Rattle.rules.specs.Causes.{Refusal, Result, ok, refused, left}
 use Rattle.rules.specs.Items.{FileId}
 use Rattle.rules.specs.Context.{Context}
 use Rattle.pipe_log.specs.Rows.{queueAt}
-use Rattle.index.specs.Contexts.{contextOf, Wf}
+use Rattle.contexts.specs.Contexts.{contextOf, Wf}
 
 -- the place of a refusal that was met at no item
 abbrev pub noPlace : ℕ

@@ -6,7 +6,7 @@ ghost use Rattle.rules.specs.Items.{Append};
 ghost use Rattle.rules.specs.Calls as rules·calls;
 ghost use Rattle.pipe_log.specs.Rows.{queueAt};
 ghost use Rattle.log_batch.specs.Lent.{batchOf};
-ghost use Rattle.index.specs.Contexts.{Wf, FreshArea};
+ghost use Rattle.contexts.specs.Contexts.{Wf, FreshArea};
 ghost use Rattle.galdnyrr.specs.Told.{fileOf, gateOr, Told};
 use crate::numbers::file_of;
 use crate::numbers::gate_of;
@@ -16,10 +16,10 @@ use crate::numbers::tell;
 // Makes a fresh context of a queue, whatever the area held.
 #[no_mangle]
 pub extern "C" fn galdnyrr_fresh(xs: &mut [u64], bs: &mut [u8], queue: u64)
-    requires { ⌜ (length (now xs) ≡ 17152) × (length (now bs) ≡ 38912) ⌝ }
+    requires { ⌜ (length (now xs) ≡ 18977) × (length (now bs) ≡ 43008) ⌝ }
     ensures { λ _. ⌜ FreshArea (queueAt queue) (now (xs .exit)) (now (bs .exit)) ⌝ }
 {
-    index::fresh(xs, bs, queue_of(queue));
+    contexts::fresh(xs, bs, queue_of(queue));
 }
 
 // Replays a batch of the Append queue into an Append context.

@@ -1,6 +1,6 @@
 -- `galdnyrr::numbers::place_of` meets its contract. Assumes nothing.
 use Rattle.maps.specs.Lists.{orElse}
-use Rattle.index.specs.Contexts.{positionOf}
+use Rattle.contexts.specs.Contexts.{positionOf}
 use borrow.Author.Needs.{needs}
 use Rattle.galdnyrr.proofs.numbers.place_of.Statement.{statement}
 use Rattle.galdnyrr.proofs.numbers.place_of.Tie as tie

@@ -1,6 +1,6 @@
 -- `galdnyrr::numbers::tell` meets its contract. Assumes nothing.
 use mathlib.Core.Path.{refl}
-use Rattle.index.specs.Contexts.{answerAs}
+use Rattle.contexts.specs.Contexts.{answerAs}
 use Rattle.galdnyrr.specs.Told.{numberOf, placeOf}
 use borrow.Author.Needs.{needs}
 use Rattle.galdnyrr.proofs.numbers.tell.Statement.{statement}

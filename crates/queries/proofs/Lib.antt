@@ -1,0 +1,3 @@
+-- The laws that the proofs of `queries` cite.
+pub mod Parts
+pub mod Ways

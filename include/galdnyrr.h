@@ -1,0 +1,134 @@
+/* The take index of the plate rig: the in-memory index of raft-engine 0.4.2, proved, for C programs.
+ *
+ * A context gathers the batches of one queue during recovery; the index takes live writes. Either lies in an AREA of two
+ * arrays that the program owns: GALDNYRR_NUMBERS numbers and GALDNYRR_BYTES bytes. galdnyrr_fresh makes a context of
+ * an area, whatever the arrays held; from then on only calls of this header may write it. Nothing is kept outside of an area, and a
+ * call allocates nothing, so that areas may be used by several threads, each by one at a time.
+ *
+ * What is proved of each call (crates/galdnyrr/src) is proved for an area of these lengths that the calls made. NOT TESTED,
+ * and for the program to ensure: that the lengths are these, that no one else wrote the area, that pointers are neither null nor
+ * misaligned (even for a length of 0), and that what a call writes overlaps nothing else that it is lent. Everything else,
+ * every content of a batch included, is answered as document 01 says: a call is accepted, or it is refused by one of the
+ * numbers below and leaves everything as it was.
+ *
+ * Build: rt staticlib galdnyrr, then link target/staticlib/libgaldnyrr.a. */
+#ifndef GALDNYRR_H
+#define GALDNYRR_H
+
+#include <stdbool.h>
+#include <stddef.h>
+#include <stdint.h>
+
+#ifdef __cplusplus
+extern "C" {
+#endif
+
+/* The lengths of an area. */
+#define GALDNYRR_NUMBERS 18977
+#define GALDNYRR_BYTES 43008
+
+/* Queues. Any number but 0 stands for the Rewrite queue. */
+#define GALDNYRR_APPEND 0
+#define GALDNYRR_REWRITE 1
+
+/* ---- Answers: 0, or the number of the cause for which the call is refused. */
+enum {
+    GALDNYRR_OK = 0,
+    /* The wrong kind: a call of the index on a context or the reverse, or a batch file of the other queue. */
+    GALDNYRR_WRONG_KIND = 1,
+    /* A batch over 32 items, a list over 32 entries, a key or value over 32 bytes. */
+    GALDNYRR_TOO_LONG = 2,
+    /* A Put without value or file, an entry without a file, indexes that are not consecutive, a row that is no item. */
+    GALDNYRR_INCOMPLETE = 3,
+    /* An index or compaction target above 2^63-1, an entry length above 2^25. */
+    GALDNYRR_OUT_OF_RANGE = 4,
+    /* A file that the call reads is not of the queue that it writes. */
+    GALDNYRR_WRONG_QUEUE = 5,
+    /* A Del or Compact in a live rewrite. */
+    GALDNYRR_NOT_REWRITABLE = 6,
+    /* Rewrite replay: two marks, a status above 2, an item of another group in a marked batch. */
+    GALDNYRR_BAD_MARK = 7,
+    /* The files of an atomic group go back. */
+    GALDNYRR_FILES_GO_BACK = 8,
+    /* The group of a query is absent. */
+    GALDNYRR_GROUP_ABSENT = 9,
+    /* A scan's start above its end, or a count of 0. */
+    GALDNYRR_BAD_RANGE = 10,
+    /* A fetch below the first entry. */
+    GALDNYRR_ENTRY_COMPACTED = 11,
+    /* A fetch of entries that are not held. */
+    GALDNYRR_ENTRY_NOT_FOUND = 12,
+    /* A live append below the first entry. */
+    GALDNYRR_BELOW_FIRST = 13,
+    /* An append, live or replayed, above last + 1. */
+    GALDNYRR_ABOVE_LAST = 14,
+    /* A live rewrite would leave an Append entry before it. */
+    GALDNYRR_APPEND_LEFT = 15,
+    /* A gated rewrite meets a Rewrite entry. */
+    GALDNYRR_ALREADY_REWRITTEN = 16,
+    /* A key rewrite to a lower sequence number. */
+    GALDNYRR_KEY_GOES_BACK = 17,
+    /* A limit is passed: 8 groups; 64 entries and 16 keys a group; 64 tombstones; 64 cleaned numbers; what waits. */
+    GALDNYRR_LIMIT_PASSED = 18,
+    /* An answer is longer than the lent list. */
+    GALDNYRR_LIST_TOO_SHORT = 19
+};
+
+/* The place of a refusal that was met at no item, and of an accepted call. */
+#define GALDNYRR_NO_PLACE UINT64_MAX
+
+/* ---- A batch as it is lent: three arrays, whose lengths are counted in numbers and bytes.
+ *
+ * items: rows of 9 numbers, group, tag, a, b, c, d, e, f, g. Numbers that a tag does not name are not read.
+ *   GALDNYRR_ENTRIES  the b rows of `entries` from row a
+ *   GALDNYRR_CLEAN    the group goes
+ *   GALDNYRR_COMPACT  entries below index a go
+ *   GALDNYRR_PUT      the key is the b bytes from place a; c is 0 for no value and 1 for the e bytes from place d as value; f is
+ *                     0 for a file of the Append queue, 1 for one of the Rewrite queue, with sequence number g, and above 1
+ *                     for no file
+ *   GALDNYRR_DEL      the key is the b bytes from place a
+ * entries: rows of 8 numbers, index, queue, sequence number, block offset, block length, compression type (0 none, 1 LZ4), entry
+ *   offset, entry length. A queue or compression type above 1, or an entry offset of 2^32 or more, is an entry without a file.
+ * bytes: keys and values.
+ *
+ * A row that is none of these (another tag, c above 1, places past the end of their array, a last row that is cut short) is refused
+ * by 3 at its position. */
+#define GALDNYRR_ITEM_WIDTH 9
+#define GALDNYRR_ENTRY_WIDTH 8
+#define GALDNYRR_ENTRIES 0
+#define GALDNYRR_CLEAN 1
+#define GALDNYRR_COMPACT 2
+#define GALDNYRR_PUT 3
+#define GALDNYRR_DEL 4
+#define GALDNYRR_NO_FILE 2
+
+/* ---- Contexts */
+
+/* Makes a fresh context of a queue, whatever the area held. Never refused. */
+void galdnyrr_fresh(uint64_t *numbers, size_t numbers_len, uint8_t *bytes, size_t bytes_len, uint64_t queue);
+
+/* Replays a batch of the Append queue into an Append context. `place` gets the position of the item that is refused, or
+ * GALDNYRR_NO_PLACE. Refused: 1, 2 to 5, 14, 18. */
+uint64_t galdnyrr_replay_append(uint64_t *numbers, size_t numbers_len, uint8_t *bytes, size_t bytes_len,
+                                const uint64_t *items, size_t items_len, const uint64_t *entries, size_t entries_len,
+                                const uint8_t *batch_bytes, size_t batch_bytes_len, uint64_t *place);
+
+/* ---- The index */
+
+/* Appends a batch, whose file is of the Append queue, to the index. Refused: 1, 2 to 5, 13, 14, 18. */
+uint64_t galdnyrr_append(uint64_t *numbers, size_t numbers_len, uint8_t *bytes, size_t bytes_len, uint64_t queue,
+                         uint64_t seq, const uint64_t *items, size_t items_len, const uint64_t *entries,
+                         size_t entries_len, const uint8_t *batch_bytes, size_t batch_bytes_len, uint64_t *place);
+
+/* Rewrites a batch, whose file is of the Rewrite queue, in the index. Gated, an Append entry or key is rewritten only if its
+ * file is at most the gate; a key's new sequence number is the batch's. Refused: 1, 2 to 6, 15 to 18. */
+uint64_t galdnyrr_rewrite(uint64_t *numbers, size_t numbers_len, uint8_t *bytes, size_t bytes_len, bool gated,
+                          uint64_t gate, uint64_t queue, uint64_t seq, const uint64_t *items, size_t items_len,
+                          const uint64_t *entries, size_t entries_len, const uint8_t *batch_bytes,
+                          size_t batch_bytes_len, uint64_t *place);
+
+#ifdef __cplusplus
+}
+#endif
+
+#endif
