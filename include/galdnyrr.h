@@ -127,6 +127,38 @@ uint64_t galdnyrr_rewrite(uint64_t *numbers, size_t numbers_len, uint8_t *bytes,
                           const uint64_t *entries, size_t entries_len, const uint8_t *batch_bytes,
                           size_t batch_bytes_len, uint64_t *place);
 
+/* ---- Queries of a group of a context or the index
+ *
+ * They write nothing but `value`, `row` or a lent list, and these only if 0 is returned. Each is refused by 9 for an absent group. */
+
+/* What is returned for an answer that is absent. */
+#define GALDNYRR_ABSENT UINT64_MAX
+
+/* The index of the first entry; GALDNYRR_ABSENT if there is none. Refused: 9. */
+uint64_t galdnyrr_first_index(const uint64_t *numbers, size_t numbers_len, const uint8_t *bytes, size_t bytes_len,
+                              uint64_t group, uint64_t *value);
+
+/* The index of the last entry; GALDNYRR_ABSENT if there is none. Refused: 9. */
+uint64_t galdnyrr_last_index(const uint64_t *numbers, size_t numbers_len, const uint8_t *bytes, size_t bytes_len,
+                             uint64_t group, uint64_t *value);
+
+/* The number of Rewrite entries. Refused: 9. */
+uint64_t galdnyrr_rewrite_count(const uint64_t *numbers, size_t numbers_len, const uint8_t *bytes, size_t bytes_len,
+                                uint64_t group, uint64_t *value);
+
+/* The number of entries. Refused: 9. */
+uint64_t galdnyrr_entry_count(const uint64_t *numbers, size_t numbers_len, const uint8_t *bytes, size_t bytes_len,
+                              uint64_t group, uint64_t *value);
+
+/* The record at an index, as a row of 8 numbers; GALDNYRR_ABSENT if it is not held. Refused: 9, 19 (a row of less than 8). */
+uint64_t galdnyrr_get_entry(const uint64_t *numbers, size_t numbers_len, const uint8_t *bytes, size_t bytes_len,
+                            uint64_t group, uint64_t index, uint64_t *row, size_t row_len);
+
+/* 1 if the entry at place count - 1 has a sequence number up to the gate's, else 0. Refused: 9, 10 (a count of 0). */
+uint64_t galdnyrr_has_at_least_some_entries_before(const uint64_t *numbers, size_t numbers_len, const uint8_t *bytes,
+                                                   size_t bytes_len, uint64_t group, uint64_t gate, size_t count,
+                                                   uint64_t *value);
+
 #ifdef __cplusplus
 }
 #endif

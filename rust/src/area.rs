@@ -1,6 +1,6 @@
 //! The area of a context or index, and the calls on it whatever its kind.
 
-use crate::{ffi, FileId, Queue, Refusal, Rows};
+use crate::{ffi, Entry, FileId, Queue, Refusal, Rows};
 
 /// The length of an area's numbers.
 pub const NUMBERS: usize = 18_977;
@@ -9,6 +9,7 @@ pub const NUMBERS: usize = 18_977;
 pub const BYTES: usize = 43_008;
 
 const NO_PLACE: u64 = u64::MAX;
+const ABSENT: u64 = u64::MAX;
 
 /// The two slices that hold a context or index.
 ///
@@ -128,9 +129,140 @@ impl Area {
     }
 }
 
+/// Queries of one group. An absent group is refused with 9.
+impl Area {
+    /// The index of a group's first entry.
+    pub fn first_index(&self, group: u64) -> Result<Option<u64>, Refusal> {
+        let mut value = 0;
+        // SAFETY: the area is one that the calls made, and is only read.
+        let number = unsafe {
+            ffi::galdnyrr_first_index(
+                self.numbers.as_ptr(),
+                NUMBERS,
+                self.bytes.as_ptr(),
+                BYTES,
+                group,
+                &mut value,
+            )
+        };
+        found(number, value)
+    }
+
+    /// The index of a group's last entry.
+    pub fn last_index(&self, group: u64) -> Result<Option<u64>, Refusal> {
+        let mut value = 0;
+        // SAFETY: as above.
+        let number = unsafe {
+            ffi::galdnyrr_last_index(
+                self.numbers.as_ptr(),
+                NUMBERS,
+                self.bytes.as_ptr(),
+                BYTES,
+                group,
+                &mut value,
+            )
+        };
+        found(number, value)
+    }
+
+    /// The number of a group's Rewrite entries.
+    pub fn rewrite_count(&self, group: u64) -> Result<u64, Refusal> {
+        let mut value = 0;
+        // SAFETY: as above.
+        let number = unsafe {
+            ffi::galdnyrr_rewrite_count(
+                self.numbers.as_ptr(),
+                NUMBERS,
+                self.bytes.as_ptr(),
+                BYTES,
+                group,
+                &mut value,
+            )
+        };
+        given(number, value)
+    }
+
+    /// The number of a group's entries.
+    pub fn entry_count(&self, group: u64) -> Result<u64, Refusal> {
+        let mut value = 0;
+        // SAFETY: as above.
+        let number = unsafe {
+            ffi::galdnyrr_entry_count(
+                self.numbers.as_ptr(),
+                NUMBERS,
+                self.bytes.as_ptr(),
+                BYTES,
+                group,
+                &mut value,
+            )
+        };
+        given(number, value)
+    }
+
+    /// The record at an index of a group, if it is held.
+    pub fn get_entry(&self, group: u64, index: u64) -> Result<Option<Entry>, Refusal> {
+        let mut row = [0; 8];
+        // SAFETY: as above.
+        let number = unsafe {
+            ffi::galdnyrr_get_entry(
+                self.numbers.as_ptr(),
+                NUMBERS,
+                self.bytes.as_ptr(),
+                BYTES,
+                group,
+                index,
+                row.as_mut_ptr(),
+                row.len(),
+            )
+        };
+        found(number, Entry::of_row(row))
+    }
+
+    /// Whether a group's entry at place `count` − 1 has a sequence number up to the gate's. A count of 0 is refused with 10.
+    pub fn has_at_least_some_entries_before(
+        &self,
+        group: u64,
+        gate: u64,
+        count: usize,
+    ) -> Result<bool, Refusal> {
+        let mut value = 0;
+        // SAFETY: as above.
+        let number = unsafe {
+            ffi::galdnyrr_has_at_least_some_entries_before(
+                self.numbers.as_ptr(),
+                NUMBERS,
+                self.bytes.as_ptr(),
+                BYTES,
+                group,
+                gate,
+                count,
+                &mut value,
+            )
+        };
+        given(number, value == 1)
+    }
+}
+
 impl Clone for Area {
     fn clone(&self) -> Area {
         Area { numbers: self.numbers.clone(), bytes: self.bytes.clone() }
+    }
+}
+
+/// An answer that may be absent.
+fn found<T>(number: u64, value: T) -> Result<Option<T>, Refusal> {
+    match number {
+        0 => Ok(Some(value)),
+        ABSENT => Ok(None),
+        _ => Err(Refusal::new(number, None)),
+    }
+}
+
+/// An answer that is always there.
+fn given<T>(number: u64, value: T) -> Result<T, Refusal> {
+    match number {
+        0 => Ok(value),
+        _ => Err(Refusal::new(number, None)),
     }
 }
 

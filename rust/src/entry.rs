@@ -14,6 +14,14 @@ impl Queue {
             Queue::Rewrite => 1,
         }
     }
+
+    pub(crate) fn of(number: u64) -> Queue {
+        if number == 0 {
+            Queue::Append
+        } else {
+            Queue::Rewrite
+        }
+    }
 }
 
 /// A log file: a sequence number within a queue.
@@ -67,5 +75,18 @@ impl Entry {
             u64::from(self.offset),
             u64::from(self.len),
         ]
+    }
+
+    /// The entry of a row that a call has given: its numbers are in range.
+    pub(crate) fn of_row(row: [u64; 8]) -> Entry {
+        Entry {
+            index: row[0],
+            file: FileId { queue: Queue::of(row[1]), seq: row[2] },
+            block_offset: row[3],
+            block_len: row[4],
+            compression: if row[5] == 0 { Compression::None } else { Compression::Lz4 },
+            offset: row[6] as u32,
+            len: row[7] as u32,
+        }
     }
 }

@@ -56,4 +56,62 @@ extern "C" {
         batch_bytes_len: usize,
         place: *mut u64,
     ) -> u64;
+
+    pub fn galdnyrr_first_index(
+        numbers: *const u64,
+        numbers_len: usize,
+        bytes: *const u8,
+        bytes_len: usize,
+        group: u64,
+        value: *mut u64,
+    ) -> u64;
+
+    pub fn galdnyrr_last_index(
+        numbers: *const u64,
+        numbers_len: usize,
+        bytes: *const u8,
+        bytes_len: usize,
+        group: u64,
+        value: *mut u64,
+    ) -> u64;
+
+    pub fn galdnyrr_rewrite_count(
+        numbers: *const u64,
+        numbers_len: usize,
+        bytes: *const u8,
+        bytes_len: usize,
+        group: u64,
+        value: *mut u64,
+    ) -> u64;
+
+    pub fn galdnyrr_entry_count(
+        numbers: *const u64,
+        numbers_len: usize,
+        bytes: *const u8,
+        bytes_len: usize,
+        group: u64,
+        value: *mut u64,
+    ) -> u64;
+
+    pub fn galdnyrr_get_entry(
+        numbers: *const u64,
+        numbers_len: usize,
+        bytes: *const u8,
+        bytes_len: usize,
+        group: u64,
+        index: u64,
+        row: *mut u64,
+        row_len: usize,
+    ) -> u64;
+
+    pub fn galdnyrr_has_at_least_some_entries_before(
+        numbers: *const u64,
+        numbers_len: usize,
+        bytes: *const u8,
+        bytes_len: usize,
+        group: u64,
+        gate: u64,
+        count: usize,
+        value: *mut u64,
+    ) -> u64;
 }
