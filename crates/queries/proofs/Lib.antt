@@ -1,3 +1,4 @@
 -- The laws that the proofs of `queries` cite.
 pub mod Parts
+pub mod RowLists
 pub mod Ways

@@ -2,6 +2,9 @@
 // number, of all groups, and the cleaned numbers of the index.
 mod answers;
 mod entries;
+mod fetch;
+mod files;
+mod keys;
 mod places;
 
 pub use entries::entry_count;
@@ -10,7 +13,23 @@ pub use entries::get_entry;
 pub use entries::has_at_least_some_entries_before;
 pub use entries::last_index;
 pub use entries::rewrite_count;
+pub use fetch::fetch_entries_to;
+pub use fetch::fetch_entry_indexes_before;
+pub use fetch::fetch_rewritten_entry_indexes;
+pub use files::min_file_seq;
+pub use keys::fetch_kvs_before;
+pub use keys::fetch_rewritten_kvs;
+pub use keys::get;
+pub use keys::key_count;
+pub use keys::scan;
 use pipe_log::EntryIndex;
+
+// What `get` tells beside the value: document 01's 9, that the key is absent, or that the value is the part handed back.
+pub const GROUP_ABSENT: u64 = 9;
+
+pub const KEY_ABSENT: u64 = 0;
+
+pub const VALUE_FOUND: u64 = 1;
 
 // Where a group stands: at a stretch of the area, or nowhere.
 pub enum Place {
