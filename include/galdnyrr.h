@@ -159,6 +159,73 @@ uint64_t galdnyrr_has_at_least_some_entries_before(const uint64_t *numbers, size
                                                    size_t bytes_len, uint64_t group, uint64_t gate, size_t count,
                                                    uint64_t *value);
 
+/* The number of keys. Refused: 9. */
+uint64_t galdnyrr_key_count(const uint64_t *numbers, size_t numbers_len, const uint8_t *bytes, size_t bytes_len,
+                            uint64_t group, uint64_t *value);
+
+/* The least file of a queue among the entries and keys, with the group's span; GALDNYRR_ABSENT if there is none. Refused: 9. */
+uint64_t galdnyrr_min_file_seq(const uint64_t *numbers, size_t numbers_len, const uint8_t *bytes, size_t bytes_len,
+                               uint64_t group, uint64_t queue, uint64_t *value);
+
+/* The value of a key of any length, copied to the front of `out`, and its length, at most 32; GALDNYRR_ABSENT if the key is
+ * absent. Refused: 9, 19. */
+uint64_t galdnyrr_get(const uint64_t *numbers, size_t numbers_len, const uint8_t *bytes, size_t bytes_len,
+                      uint64_t group, const uint8_t *key, size_t key_len, uint8_t *out, size_t out_len, uint64_t *len);
+
+/* ---- Lent lists. `count` gets the number of rows that were filled; what lies behind them stays as it was. */
+
+/* A list of keys: rows of two numbers in `lens`, key length and value length, and of 64 bytes in `out`, 32 for the key and 32 for the
+ * value. A group has at most 16 keys. */
+#define GALDNYRR_KEY_NUMBERS 2
+#define GALDNYRR_KEY_BYTES 64
+
+/* The keys from `start` on and below `end`, in byte order or backwards, up to `most` of them; a bound that is not there is open.
+ * Refused: 9, 10 (start above end, or most = 0), 19. */
+uint64_t galdnyrr_scan(const uint64_t *numbers, size_t numbers_len, const uint8_t *bytes, size_t bytes_len,
+                       uint64_t group, bool started, const uint8_t *start, size_t start_len, bool ended,
+                       const uint8_t *end, size_t end_len, bool backwards, size_t most, uint64_t *lens, size_t lens_len,
+                       uint8_t *out, size_t out_len, uint64_t *count);
+
+/* The Append keys whose file is at most the gate. Refused: 9, 19. */
+uint64_t galdnyrr_fetch_kvs_before(const uint64_t *numbers, size_t numbers_len, const uint8_t *bytes, size_t bytes_len,
+                                   uint64_t group, uint64_t gate, uint64_t *lens, size_t lens_len, uint8_t *out,
+                                   size_t out_len, uint64_t *count);
+
+/* All Rewrite keys. Refused: 9, 19. */
+uint64_t galdnyrr_fetch_rewritten_kvs(const uint64_t *numbers, size_t numbers_len, const uint8_t *bytes,
+                                      size_t bytes_len, uint64_t group, uint64_t *lens, size_t lens_len, uint8_t *out,
+                                      size_t out_len, uint64_t *count);
+
+/* A list of records: eight arrays, one for each field of a row of entries, ALL OF ONE LENGTH; that is not tested. A group has at
+ * most 64 entries. */
+
+/* The entries with indexes in [begin, end); with a size, up to the record with which their lengths would sum above it. Refused: 9,
+ * 11, 12, 19. */
+uint64_t galdnyrr_fetch_entries_to(const uint64_t *numbers, size_t numbers_len, const uint8_t *bytes, size_t bytes_len,
+                                   uint64_t group, uint64_t begin, uint64_t end, bool sized, uint64_t max_size,
+                                   uint64_t *index, size_t index_len, uint64_t *queue, size_t queue_len, uint64_t *seq,
+                                   size_t seq_len, uint64_t *offset, size_t offset_len, uint64_t *len, size_t len_len,
+                                   uint64_t *compression, size_t compression_len, uint64_t *entry_offset,
+                                   size_t entry_offset_len, uint64_t *entry_len, size_t entry_len_len, uint64_t *count);
+
+/* The Append entries from the front while their file is at most the gate. Refused: 9, 19. */
+uint64_t galdnyrr_fetch_entry_indexes_before(const uint64_t *numbers, size_t numbers_len, const uint8_t *bytes,
+                                             size_t bytes_len, uint64_t group, uint64_t gate, uint64_t *index,
+                                             size_t index_len, uint64_t *queue, size_t queue_len, uint64_t *seq,
+                                             size_t seq_len, uint64_t *offset, size_t offset_len, uint64_t *len,
+                                             size_t len_len, uint64_t *compression, size_t compression_len,
+                                             uint64_t *entry_offset, size_t entry_offset_len, uint64_t *entry_len,
+                                             size_t entry_len_len, uint64_t *count);
+
+/* All Rewrite entries. Refused: 9, 19. */
+uint64_t galdnyrr_fetch_rewritten_entry_indexes(const uint64_t *numbers, size_t numbers_len, const uint8_t *bytes,
+                                                size_t bytes_len, uint64_t group, uint64_t *index, size_t index_len,
+                                                uint64_t *queue, size_t queue_len, uint64_t *seq, size_t seq_len,
+                                                uint64_t *offset, size_t offset_len, uint64_t *len, size_t len_len,
+                                                uint64_t *compression, size_t compression_len, uint64_t *entry_offset,
+                                                size_t entry_offset_len, uint64_t *entry_len, size_t entry_len_len,
+                                                uint64_t *count);
+
 #ifdef __cplusplus
 }
 #endif

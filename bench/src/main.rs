@@ -21,9 +21,11 @@ pub struct Row {
     port: Side,
 }
 
-fn turn(side: &mut Side, calls: u32) -> f64 {
-    let total: Duration = (0..REPEATS).map(|_| side()).sum();
-    total.as_nanos() as f64 / f64::from(REPEATS * calls)
+/// The times of a turn, in nanoseconds a call. Each piece of work is short, so that few of them are interrupted.
+fn turn(side: &mut Side, calls: u32, times: &mut Vec<f64>) {
+    for _ in 0..REPEATS {
+        times.push(side().as_nanos() as f64 / f64::from(calls));
+    }
 }
 
 fn median(mut times: Vec<f64>) -> f64 {
@@ -31,14 +33,14 @@ fn median(mut times: Vec<f64>) -> f64 {
     times[times.len() / 2]
 }
 
-/// The medians of all turns, Rust and port, in nanoseconds a call.
+/// The medians over all turns but the first, Rust and port.
 fn measure(row: &mut Row, rounds: usize) -> (f64, f64) {
     let (mut rust, mut port) = (Vec::new(), Vec::new());
-    turn(&mut row.rust, row.calls);
-    turn(&mut row.port, row.calls);
+    turn(&mut row.rust, row.calls, &mut Vec::new());
+    turn(&mut row.port, row.calls, &mut Vec::new());
     for _ in 0..rounds {
-        rust.push(turn(&mut row.rust, row.calls));
-        port.push(turn(&mut row.port, row.calls));
+        turn(&mut row.rust, row.calls, &mut rust);
+        turn(&mut row.port, row.calls, &mut port);
     }
     (median(rust), median(port))
 }

@@ -1,8 +1,8 @@
 //! The port's side.
 
-use crate::work::{Item, Query, Work, ASKED, GROUPS};
+use crate::work::{key, Item, Query, Work, ASKED, GROUPS};
 use crate::Side;
-use galdnyrr::{Batch, Compression, Context, Entry, FileId, Queue};
+use galdnyrr::{Batch, Compression, Context, Entry, FileId, Pairs, Queue, Records};
 use std::hint::black_box;
 use std::time::Instant;
 
@@ -65,6 +65,10 @@ pub fn replay(before: &Work, work: &Work) -> Side {
 pub fn query(before: &Work, query: Query) -> Side {
     let mut c = Context::new(Queue::Append);
     replay_all(&mut c, &batches(before));
+    let keys: Vec<Vec<u8>> = (0..16).map(key).collect();
+    let mut list = Records::with_room(64);
+    let mut pairs = Pairs::with_room(16);
+    let mut out = [0; 32];
     Box::new(move || {
         let area = c.area();
         let start = Instant::now();
@@ -74,6 +78,19 @@ pub fn query(before: &Work, query: Query) -> Side {
                 Query::FirstIndex => drop(black_box(area.first_index(group))),
                 Query::LastIndex => drop(black_box(area.last_index(group))),
                 Query::GetEntry => drop(black_box(area.get_entry(group, i % 32 + 1))),
+                Query::Get => {
+                    let _ = black_box(area.get(group, &keys[i as usize % 16], &mut out));
+                }
+                Query::Fetch(n) => {
+                    let begin = i % (33 - n) + 1;
+                    area.fetch_entries_to(group, begin, begin + n, None, &mut list).unwrap();
+                    black_box(&list);
+                }
+                Query::Scan => {
+                    area.scan(group, None, None, false, 16, &mut pairs).unwrap();
+                    black_box(&pairs);
+                }
+                Query::MinFileSeq => drop(black_box(area.min_file_seq(group, Queue::Append))),
                 Query::SomeBefore => {
                     let count = i as usize % 32 + 1;
                     let _ = black_box(area.has_at_least_some_entries_before(group, 1, count));

@@ -1,6 +1,6 @@
 //! The Rust's side.
 
-use crate::work::{Item, Query, Work, ASKED, GROUPS};
+use crate::work::{key, Item, Query, Work, ASKED, GROUPS};
 use crate::Side;
 use raft_engine::env::probe::{self, Context};
 use raft_engine::env::{
@@ -74,6 +74,9 @@ pub fn replay(before: &Work, work: &Work) -> Side {
 
 pub fn query(before: &Work, query: Query) -> Side {
     let c = context(before);
+    let keys: Vec<Vec<u8>> = (0..16).map(key).collect();
+    let mut list = Vec::with_capacity(64);
+    let mut pairs = Vec::with_capacity(16);
     Box::new(move || {
         let tables = probe::context_tables(&c);
         let start = Instant::now();
@@ -84,6 +87,23 @@ pub fn query(before: &Work, query: Query) -> Side {
                 Query::FirstIndex => drop(black_box(table.first_index())),
                 Query::LastIndex => drop(black_box(table.last_index())),
                 Query::GetEntry => drop(black_box(table.get_entry(i % 32 + 1))),
+                Query::Get => drop(black_box(table.get(&keys[i as usize % 16]))),
+                Query::Fetch(n) => {
+                    list.clear();
+                    let begin = i % (33 - n) + 1;
+                    table.fetch_entries_to(begin, begin + n, None, &mut list).unwrap();
+                    black_box(&list);
+                }
+                Query::Scan => {
+                    pairs.clear();
+                    let push = |k: &[u8], v: &[u8]| {
+                        pairs.push((k.to_vec(), v.to_vec()));
+                        true
+                    };
+                    table.scan(None, None, false, push).unwrap();
+                    black_box(&pairs);
+                }
+                Query::MinFileSeq => drop(black_box(table.min_file_seq(APPEND))),
                 Query::SomeBefore => {
                     let gate = FileId::new(APPEND, 1);
                     black_box(table.has_at_least_some_entries_before(gate, i as usize % 32 + 1));

@@ -30,6 +30,10 @@ pub enum Query {
     LastIndex,
     GetEntry,
     SomeBefore,
+    Get,
+    Fetch(u64),
+    Scan,
+    MinFileSeq,
 }
 
 /// A key of 16 bytes, of which the last four tell keys apart.
@@ -106,5 +110,10 @@ pub fn queries() -> Vec<(&'static str, Query)> {
         ("last_index", Query::LastIndex),
         ("get_entry", Query::GetEntry),
         ("has_at_least_some_entries_before", Query::SomeBefore),
+        ("get of one of 16 keys", Query::Get),
+        ("fetch of 1 entry, parallel slices", Query::Fetch(1)),
+        ("fetch of 32 entries, parallel slices", Query::Fetch(32)),
+        ("scan of 16 keys", Query::Scan),
+        ("min_file_seq, 32 entries and 16 keys", Query::MinFileSeq),
     ]
 }

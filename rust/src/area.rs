@@ -1,6 +1,6 @@
 //! The area of a context or index, and the calls on it whatever its kind.
 
-use crate::{ffi, Entry, FileId, Queue, Refusal, Rows};
+use crate::{ffi, Entry, FileId, Pairs, Queue, Records, Refusal, Rows};
 
 /// The length of an area's numbers.
 pub const NUMBERS: usize = 18_977;
@@ -240,6 +240,196 @@ impl Area {
             )
         };
         given(number, value == 1)
+    }
+}
+
+/// A query that fills a lent list of records: the call, with the area, the group, what it asks, and the list.
+macro_rules! fill_records {
+    ($area:ident, $call:ident, $group:expr, [$($asked:expr),*], $list:ident) => {{
+        let mut count = 0;
+        let room = $list.room();
+        let [index, queue, seq, offset, len, compression, entry_offset, entry_len] =
+            &mut $list.columns;
+        // SAFETY: the area is one that the calls made, and the eight slices have one length.
+        let number = unsafe {
+            ffi::$call(
+                $area.numbers.as_ptr(),
+                NUMBERS,
+                $area.bytes.as_ptr(),
+                BYTES,
+                $group,
+                $($asked,)*
+                index.as_mut_ptr(),
+                room,
+                queue.as_mut_ptr(),
+                room,
+                seq.as_mut_ptr(),
+                room,
+                offset.as_mut_ptr(),
+                room,
+                len.as_mut_ptr(),
+                room,
+                compression.as_mut_ptr(),
+                room,
+                entry_offset.as_mut_ptr(),
+                room,
+                entry_len.as_mut_ptr(),
+                room,
+                &mut count,
+            )
+        };
+        given(number, count).map(|n| $list.filled = n as usize)
+    }};
+}
+
+/// The same for a lent list of keys.
+macro_rules! fill_pairs {
+    ($area:ident, $call:ident, $group:expr, [$($asked:expr),*], $list:ident) => {{
+        let mut count = 0;
+        // SAFETY: the area is one that the calls made, and what is lent overlaps nothing that is written.
+        let number = unsafe {
+            ffi::$call(
+                $area.numbers.as_ptr(),
+                NUMBERS,
+                $area.bytes.as_ptr(),
+                BYTES,
+                $group,
+                $($asked,)*
+                $list.lens.as_mut_ptr(),
+                $list.lens.len(),
+                $list.bytes.as_mut_ptr(),
+                $list.bytes.len(),
+                &mut count,
+            )
+        };
+        given(number, count).map(|n| $list.filled = n as usize)
+    }};
+}
+
+/// Queries of one group's files, keys and records. A lent list is as it was after a refusal; one that is too short is 19.
+impl Area {
+    /// The least file of a queue in a group, with the group's span.
+    pub fn min_file_seq(&self, group: u64, queue: Queue) -> Result<Option<u64>, Refusal> {
+        let mut value = 0;
+        // SAFETY: as above.
+        let number = unsafe {
+            ffi::galdnyrr_min_file_seq(
+                self.numbers.as_ptr(),
+                NUMBERS,
+                self.bytes.as_ptr(),
+                BYTES,
+                group,
+                queue.number(),
+                &mut value,
+            )
+        };
+        found(number, value)
+    }
+
+    /// The number of a group's keys.
+    pub fn key_count(&self, group: u64) -> Result<u64, Refusal> {
+        let mut value = 0;
+        // SAFETY: as above.
+        let number = unsafe {
+            ffi::galdnyrr_key_count(
+                self.numbers.as_ptr(),
+                NUMBERS,
+                self.bytes.as_ptr(),
+                BYTES,
+                group,
+                &mut value,
+            )
+        };
+        given(number, value)
+    }
+
+    /// The value of a key, copied to the front of `out`, with its length. No value is longer than 32 bytes.
+    pub fn get<'a>(
+        &self,
+        group: u64,
+        key: &[u8],
+        out: &'a mut [u8],
+    ) -> Result<Option<&'a [u8]>, Refusal> {
+        let mut len = 0;
+        // SAFETY: as above.
+        let number = unsafe {
+            ffi::galdnyrr_get(
+                self.numbers.as_ptr(),
+                NUMBERS,
+                self.bytes.as_ptr(),
+                BYTES,
+                group,
+                key.as_ptr(),
+                key.len(),
+                out.as_mut_ptr(),
+                out.len(),
+                &mut len,
+            )
+        };
+        Ok(found(number, len)?.map(|len| &out[..len as usize]))
+    }
+
+    /// The keys from `start` on and below `end`, up to `most` of them; a bound that is absent is open. A start above the end
+    /// or a count of 0 is refused with 10.
+    pub fn scan(
+        &self,
+        group: u64,
+        start: Option<&[u8]>,
+        end: Option<&[u8]>,
+        backwards: bool,
+        most: usize,
+        list: &mut Pairs,
+    ) -> Result<(), Refusal> {
+        let (from, to) = (start.unwrap_or(&[]), end.unwrap_or(&[]));
+        fill_pairs!(
+            self,
+            galdnyrr_scan,
+            group,
+            [start.is_some(), from.as_ptr(), from.len(), end.is_some(), to.as_ptr(), to.len(), backwards, most],
+            list
+        )
+    }
+
+    /// The Append keys with a file up to the gate.
+    pub fn fetch_kvs_before(&self, group: u64, gate: u64, list: &mut Pairs) -> Result<(), Refusal> {
+        fill_pairs!(self, galdnyrr_fetch_kvs_before, group, [gate], list)
+    }
+
+    /// All Rewrite keys.
+    pub fn fetch_rewritten_kvs(&self, group: u64, list: &mut Pairs) -> Result<(), Refusal> {
+        fill_pairs!(self, galdnyrr_fetch_rewritten_kvs, group, [], list)
+    }
+
+    /// The entries with indexes in [begin, end), up to a size. Refused: 9, 11, 12, 19.
+    pub fn fetch_entries_to(
+        &self,
+        group: u64,
+        begin: u64,
+        end: u64,
+        max_size: Option<u64>,
+        list: &mut Records,
+    ) -> Result<(), Refusal> {
+        let (sized, size) = (max_size.is_some(), max_size.unwrap_or(0));
+        fill_records!(self, galdnyrr_fetch_entries_to, group, [begin, end, sized, size], list)
+    }
+
+    /// The Append entries from the front while their file is at most the gate.
+    pub fn fetch_entry_indexes_before(
+        &self,
+        group: u64,
+        gate: u64,
+        list: &mut Records,
+    ) -> Result<(), Refusal> {
+        fill_records!(self, galdnyrr_fetch_entry_indexes_before, group, [gate], list)
+    }
+
+    /// All Rewrite entries.
+    pub fn fetch_rewritten_entry_indexes(
+        &self,
+        group: u64,
+        list: &mut Records,
+    ) -> Result<(), Refusal> {
+        fill_records!(self, galdnyrr_fetch_rewritten_entry_indexes, group, [], list)
     }
 }
 

@@ -26,10 +26,12 @@ mod batch;
 mod context;
 mod entry;
 mod ffi;
+mod lists;
 mod refusal;
 
 pub use area::{Area, BYTES, NUMBERS};
 pub use batch::{Batch, Rows};
 pub use context::Context;
 pub use entry::{Compression, Entry, FileId, Queue};
+pub use lists::{Pairs, Records};
 pub use refusal::{Cause, Refusal};

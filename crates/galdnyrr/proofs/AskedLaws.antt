@@ -8,9 +8,16 @@ use lib.ListN.{length}
 use borrow.Author.Tests.{le-leb, lt-leb}
 use Rattle.cells.specs.Part.{put}
 use Rattle.rules.specs.Causes.{Cause, Result, ok, refuse, numberOf, andThen}
-use Rattle.rules.specs.Items.{EntryIndex}
+use Rattle.rules.specs.Items.{EntryIndex, LogQueue}
+use Rattle.rules.specs.Context.{Context}
+use Rattle.rules.specs.TableQueries.{KeyValue, minFileSeq, fetchEntriesTo}
+use Rattle.rules.specs.Queries.{inGroup}
+use Rattle.memtable.specs.Columns.{Columns}
+use Rattle.queries.specs.declared.Fetched.{Fetched}
+use Rattle.queries.specs.Answers.{fetchedAs}
+use Rattle.queries.specs.Fetches.{EntriesFetched, KeysFetched}
 use Rattle.galdnyrr.specs.Told as told
-use Rattle.galdnyrr.specs.Asked.{absent, numberOrAbsent, valueAfter, foundAfter, flagOf, flagged, rowOf, inRow, rowAfter, ValueTold, FoundTold, EntryTold}
+use Rattle.galdnyrr.specs.Asked.{absent, numberOrAbsent, valueAfter, foundAfter, flagOf, flagged, rowOf, inRow, rowAfter, ValueTold, FoundTold, EntryTold, EntriesTold, KeysTold}
 
 -- ---- a number
 
@@ -76,3 +83,22 @@ flag-same e = value-same (ap flagged e)
 
 pub entry-same : {a b : Result (Option EntryIndex)} {row : List ℕ} {n : ℕ} {row′ : List ℕ} → a ≡ b → EntryTold a row n row′ → EntryTold b row n row′
 entry-same {row = row} {n = n} {row′ = row′} e = subst (λ r. EntryTold r row n row′) e
+
+-- ---- lent lists
+
+pub entries-told : {answer : Result (List EntryIndex)} {out : Columns} {r : Fetched} {exits : Columns} {k n k′ : ℕ} → EntriesFetched answer out r exits → ValueTold (fetchedAs r) k n k′ → EntriesTold answer out k n k′ exits
+entries-told f t = record { told = value-same (f .number) t; slices = f .slices }
+
+pub keys-told : {answer : Result (List KeyValue)} {lens out : List ℕ} {r : Fetched} {lens′ out′ : List ℕ} {k n k′ : ℕ} → KeysFetched answer lens out r lens′ out′ → ValueTold (fetchedAs r) k n k′ → KeysTold answer lens out k n k′ lens′ out′
+keys-told f t = record { told = value-same (f .number) t; lens-are = f .lens-are; bytes-are = f .bytes-are }
+
+-- ---- what is lent as numbers
+
+module _ (g : ℕ) (c : Context) where
+  pub file-told : {q p : LogQueue} {a : Result (Option ℕ)} {v n w : ℕ} → q ≡ p → a ≡ inGroup g (λ t. ok (minFileSeq q t)) c → FoundTold a v n w → FoundTold (inGroup g (λ t. ok (minFileSeq p t)) c) v n w
+  file-told {v = v} {n = n} {w = w} e f t =
+      subst (λ q. FoundTold (inGroup g (λ t. ok (minFileSeq q t)) c) v n w) e (found-same f t)
+
+  pub fetch-told : (begin end : ℕ) {x y : Option ℕ} {out : Columns} {r : Fetched} {exits : Columns} {k n k′ : ℕ} → x ≡ y → EntriesFetched (inGroup g (fetchEntriesTo begin end x) c) out r exits → ValueTold (fetchedAs r) k n k′ → EntriesTold (inGroup g (fetchEntriesTo begin end y) c) out k n k′ exits
+  fetch-told begin end {out = out} {exits = exits} {k = k} {n = n} {k′ = k′} e f t =
+      subst (λ x. EntriesTold (inGroup g (fetchEntriesTo begin end x) c) out k n k′ exits) e (entries-told f t)

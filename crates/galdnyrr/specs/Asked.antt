@@ -10,7 +10,10 @@ use Rattle.cells.specs.Part.{put}
 use Rattle.pipe_log.specs.Numbers.{queueNumber, compressionNumber}
 use Rattle.rules.specs.Causes.{Result, ok, refused, refuse, listTooShort, andThen}
 use Rattle.rules.specs.Items.{EntryIndex, fileOf}
-use Rattle.memtable.specs.Columns.{blockOffset, blockLen}
+use Rattle.rules.specs.TableQueries.{KeyValue}
+use Rattle.rules.specs.Queries.{answered}
+use Rattle.kvs.specs.Lists.{lentList, lensAfter, bytesAfter}
+use Rattle.memtable.specs.Columns.{Columns, blockOffset, blockLen, judged, columnsAfter}
 use Rattle.galdnyrr.specs.Told.{numberOf}
 
 -- what is returned for an answer that is absent; no cause has this number
@@ -77,3 +80,37 @@ rowAfter row (refused r) = row
 pub record EntryTold (answer : Result (Option EntryIndex)) (row : List ℕ) (number : ℕ) (row′ : List ℕ) : Type 0 where
   pub number-is : number ≡ numberOrAbsent (inRow row answer)
   pub row-is : row′ ≡ rowAfter row (inRow row answer)
+
+-- ---- lent lists: the number of rows that were filled is lent too
+
+pub record EntriesTold (answer : Result (List EntryIndex)) (out : Columns) (count number count′ : ℕ) (exits : Columns) : Type 0 where
+  pub told : ValueTold (andThen (judged (length (out .index)) answer) (λ es. ok (length es))) count number count′
+  pub slices : exits ≡ columnsAfter out (judged (length (out .index)) answer)
+
+pub record KeysTold (answer : Result (List KeyValue)) (lens out : List ℕ) (count number count′ : ℕ) (lens′ out′ : List ℕ) : Type 0 where
+  pub told : ValueTold (andThen (answered (lentList lens out) answer) (λ rows. ok (length rows))) count number count′
+  pub lens-are : lens′ ≡ lensAfter (answered (lentList lens out) answer) lens
+  pub bytes-are : out′ ≡ bytesAfter (answered (lentList lens out) answer) out
+
+-- ---- a value, copied to the front of lent bytes
+
+-- a value that finds no room in them
+unfoldable pub inBytes : List ℕ → Result (Option (List ℕ)) → Result (Option (List ℕ))
+inBytes out (ok none) = ok none
+inBytes out (ok (some v)) = cond (leb (length v) (length out)) (ok (some v)) (refuse listTooShort)
+inBytes out (refused r) = refused r
+
+unfoldable pub copyAfter : List ℕ → Result (Option (List ℕ)) → List ℕ
+copyAfter out (ok none) = out
+copyAfter out (ok (some v)) = put out 0 v
+copyAfter out (refused r) = out
+
+unfoldable pub lengthAfter : ℕ → Result (Option (List ℕ)) → ℕ
+lengthAfter n (ok none) = n
+lengthAfter n (ok (some v)) = length v
+lengthAfter n (refused r) = n
+
+pub record GotTold (answer : Result (Option (List ℕ))) (out : List ℕ) (len number : ℕ) (out′ : List ℕ) (len′ : ℕ) : Type 0 where
+  pub number-is : number ≡ numberOrAbsent (inBytes out answer)
+  pub copy-is : out′ ≡ copyAfter out (inBytes out answer)
+  pub length-is : len′ ≡ lengthAfter len (inBytes out answer)

@@ -3,12 +3,13 @@ ghost use mathlib.Core.Path.{_≡_};
 ghost use Prim.Native.Nat.{_≤_};
 ghost use lib.ListN.{length};
 ghost use Rattle.cells.specs.Part.{put};
-ghost use Rattle.queries.specs.Answers.{numberAs, countAs, entryAs, someBeforeAs};
+ghost use Rattle.queries.specs.Answers.{numberAs, countAs, entryAs, someBeforeAs, fetchedAs};
 ghost use Rattle.galdnyrr.specs.Asked.{flagged, flagOf, rowOf, FoundTold, ValueTold, EntryTold};
 use cells::copy_in_u64;
 use pipe_log::EntryBlock;
 use pipe_log::EntryIndex;
 use queries::Counted;
+use queries::Fetched;
 use queries::FoundEntry;
 use queries::FoundNumber;
 use queries::SomeBefore;
@@ -20,6 +21,10 @@ pub const ABSENT: u64 = 0xffff_ffff_ffff_ffff;
 pub const GROUP_ABSENT: u64 = 9;
 
 pub const BAD_RANGE: u64 = 10;
+
+pub const ENTRY_COMPACTED: u64 = 11;
+
+pub const ENTRY_NOT_FOUND: u64 = 12;
 
 pub const LIST_TOO_SHORT: u64 = 19;
 
@@ -47,6 +52,23 @@ pub fn tell_count(counted: Counted, value: &mut u64) -> u64
             *value = count as u64;
             0
         }
+    }
+}
+
+// Tells how many rows of a lent list were filled.
+pub fn tell_fetched(fetched: Fetched, count: &mut u64) -> u64
+    ensures { λ r. ⌜ ValueTold (fetchedAs fetched) (now (count .entry)) r (now (count .exit)) ⌝ }
+{
+    match fetched {
+        Fetched::Done(rows) => {
+            *count = rows as u64;
+            0
+        }
+        Fetched::GroupAbsent => GROUP_ABSENT,
+        Fetched::BadRange => BAD_RANGE,
+        Fetched::EntryCompacted => ENTRY_COMPACTED,
+        Fetched::EntryNotFound => ENTRY_NOT_FOUND,
+        Fetched::ListTooShort => LIST_TOO_SHORT,
     }
 }
 

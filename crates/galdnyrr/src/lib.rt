@@ -3,4 +3,6 @@
 mod answers;
 mod asked;
 mod calls;
+mod fetches;
+mod keys;
 mod numbers;

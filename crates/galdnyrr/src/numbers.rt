@@ -1,6 +1,6 @@
 // Numbers that stand for enums and structs.
 ghost use mathlib.Core.Path.{_≡_};
-ghost use Rattle.pipe_log.specs.Numbers.{gateOf};
+ghost use Rattle.pipe_log.specs.Numbers.{gateOf, boundOf};
 ghost use Rattle.pipe_log.specs.Rows.{queueAt};
 ghost use Rattle.rules.specs.Context.{Context};
 ghost use Rattle.contexts.specs.Contexts.{positionOf, answerAs};
@@ -8,6 +8,7 @@ ghost use Rattle.maps.specs.Lists.{orElse};
 ghost use Rattle.galdnyrr.specs.Told.{noPlace, fileOf, gateOr, numberOf, placeOf};
 use contexts::Answer;
 use contexts::Position;
+use pipe_log::Bound;
 use pipe_log::FileId;
 use pipe_log::Gate;
 use pipe_log::LogQueue;
@@ -43,6 +44,16 @@ pub fn gate_of(gated: bool, gate: u64) -> Gate
         return Gate::Seq(gate);
     }
     Gate::None
+}
+
+// The bound of an answer: none, or a number.
+pub fn bound_of(bounded: bool, bound: u64) -> Bound
+    ensures { λ r. ⌜ boundOf r ≡ gateOr bounded bound ⌝ }
+{
+    if bounded {
+        return Bound::At(bound);
+    }
+    Bound::None
 }
 
 // The number of a position.

@@ -1,9 +1,10 @@
 //! Runs a script on the port, line by line, and gives the answers.
 
 use super::dump::dump;
+use super::query::{ask, queue};
 use super::rows::Lent;
 use crate::text::{Line, Read, Tokens};
-use galdnyrr::{Area, Queue, Refusal};
+use galdnyrr::{Area, Refusal};
 use raft_engine::env::{FileId, LogQueue};
 use std::collections::BTreeMap;
 
@@ -16,12 +17,15 @@ pub struct Port {
     objects: BTreeMap<u64, Option<Area>>,
     /// Whether the last call was refused, and left an area that stands for something else than before it.
     pub changed_by_refusal: bool,
+    /// Whether the last call wrote more of a lent list than its answer.
+    pub spilt: bool,
 }
 
 impl Port {
     /// The answer lines to one line of a script; None for a call that the library does not have.
     pub fn line(&mut self, line: &str) -> Read<Option<Answer>> {
         self.changed_by_refusal = false;
+        self.spilt = false;
         if line.is_empty() || line.starts_with('#') {
             return Ok(Some(Vec::new()));
         }
@@ -32,6 +36,7 @@ impl Port {
                 Ok(ok())
             }
             "c" => self.object_line(&mut t),
+            "q" => self.query_line(&mut t, None),
             _ => Ok(None),
         }
     }
@@ -42,6 +47,26 @@ impl Port {
 
     fn object(&self, n: u64) -> Read<Option<&Area>> {
         self.objects.get(&n).map(Option::as_ref).ok_or_else(|| format!("no context {}", n))
+    }
+
+    /// A query; its lent lists have room for all, or for so many rows.
+    fn query_line(&mut self, t: &mut Tokens, room: Option<usize>) -> Read<Option<Answer>> {
+        let (n, group, word) = (t.number()?, t.number()?, t.word()?);
+        let area = match self.object(n)? {
+            Some(area) => area,
+            None => return Ok(None),
+        };
+        let asked = ask(area, group, word, t, room)?;
+        self.spilt = asked.spilt;
+        Ok(asked.line.map(|l| vec![l.0]))
+    }
+
+    /// The same query with lists that have room for so many rows.
+    pub fn short(&mut self, line: &str, room: usize) -> Read<Option<Answer>> {
+        self.changed_by_refusal = false;
+        let mut t = Tokens::new(line);
+        t.word()?;
+        self.query_line(&mut t, Some(room))
     }
 
     fn object_line(&mut self, t: &mut Tokens) -> Read<Option<Answer>> {
@@ -113,13 +138,6 @@ fn ok() -> Option<Answer> {
 /// A refused call of a context or index, with the position.
 fn refused(r: Refusal) -> String {
     Line::of("refused").number(r.number()).maybe_number(r.place().map(|p| p as u64)).0
-}
-
-fn queue(q: LogQueue) -> Queue {
-    match q {
-        LogQueue::Append => Queue::Append,
-        LogQueue::Rewrite => Queue::Rewrite,
-    }
 }
 
 fn file_id(f: FileId) -> galdnyrr::FileId {

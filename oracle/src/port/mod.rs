@@ -2,6 +2,7 @@
 
 mod drive;
 mod dump;
+mod query;
 mod rows;
 pub mod run;
 

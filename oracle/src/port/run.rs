@@ -59,6 +59,9 @@ fn one(script: &[String], seed: u64, f: &mut Figures) {
             Some(got) => {
                 f.count(kind, &got);
                 f.judge(seed, at, line, &got, [&first, &second], &port);
+                if let Some(rows) = rows_in(line, &got) {
+                    short(line, rows, seed, at, &mut r, &mut port, f);
+                }
             }
         }
     }
@@ -103,7 +106,7 @@ impl Figures {
         if got.first().map_or(false, |l| l.starts_with("refused ")) && !port.changed_by_refusal {
             self.unchanged += 1;
         }
-        if !port.changed_by_refusal && rust.iter().any(|a| same(got, a)) {
+        if !port.changed_by_refusal && !port.spilt && rust.iter().any(|a| same(got, a)) {
             return;
         }
         self.differences += 1;
@@ -112,6 +115,9 @@ impl Figures {
             println!("  port {:?}\n  Rust {:?}\n       {:?}", got, rust[0], rust[1]);
             if port.changed_by_refusal {
                 println!("  the refused call changed what the area stands for");
+            }
+            if port.spilt {
+                println!("  the call wrote more of a lent list than its answer");
             }
         }
     }
@@ -161,6 +167,45 @@ fn spoiled(
         f.no_items += 1;
         f.count("rows that are no items".to_string(), &got);
         f.judge(seed, at, &text, &got, [&rust, &rust], port);
+    }
+}
+
+/// How many rows an accepted query with a lent list gave; a value counts by its bytes.
+fn rows_in(line: &str, got: &[String]) -> Option<usize> {
+    let word = line.split(' ').nth(3)?;
+    if !line.starts_with("q ") || got[0].starts_with("refused") {
+        return None;
+    }
+    match word {
+        "get" if got[0] == "-" || got[0] == "." => None,
+        "get" => Some(got[0].len() / 2),
+        "scan" | "fetch_entries_to" | "fetch_entry_indexes_before"
+        | "fetch_rewritten_entry_indexes" | "fetch_kvs_before" | "fetch_rewritten_kvs" => {
+            got[0].split(' ').next()?.parse().ok()
+        }
+        _ => None,
+    }
+}
+
+/// Asks a query once more with a list that is just long enough, or too short: 19.
+fn short(
+    line: &str,
+    rows: usize,
+    seed: u64,
+    at: usize,
+    r: &mut Random,
+    port: &mut Port,
+    f: &mut Figures,
+) {
+    let whole = port.short(line, rows).unwrap().unwrap();
+    f.count("just enough room".to_string(), &whole);
+    let asked = port.line(line).unwrap().unwrap();
+    f.judge(seed, at, line, &whole, [&asked, &asked], port);
+    if rows > 0 {
+        let got = port.short(line, r.below(rows as u64) as usize).unwrap().unwrap();
+        f.count("too little room".to_string(), &got);
+        let refused = vec!["law 19".to_string()];
+        f.judge(seed, at, line, &got, [&refused, &refused], port);
     }
 }
 
