@@ -2,3 +2,4 @@
 pub mod Parts
 pub mod RowLists
 pub mod Ways
+pub mod AllWays

@@ -26,6 +26,11 @@ pub record KeysFetched (answer : Result (List KeyValue)) (lens out : List ℕ) (
   -- the rows of the list at exit are those that the rules leave there
   pub rows-are : lentList lens′ out′ ≡ lentAfter (lentList lens out) (answered (lentList lens out) answer)
 
+-- numbers, given in a lent list: r is returned, and lent′ is the list at exit
+pub record NumbersFetched (answer : Result (List ℕ)) (lent : List ℕ) (r : Fetched) (lent′ : List ℕ) : Type 0 where
+  pub number : fetchedAs r ≡ andThen answer (λ rows. ok (length rows))
+  pub list-is : lent′ ≡ lentAfter lent answer
+
 -- ---- `get`
 
 -- what is told: 01's number, 0 for an absent key, 1 for a value

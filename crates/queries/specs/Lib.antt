@@ -3,3 +3,5 @@ pub mod Answers
 pub mod Fetches
 pub mod Places
 pub mod PlaceLaws
+pub mod All
+pub mod AllLaws

@@ -1,5 +1,6 @@
 // The queries of a context or the index over a lent area (src/memtable.rs, `MemTableAccessor` and `MemTable`): of one group by its
 // number, of all groups, and the cleaned numbers of the index.
+mod all;
 mod answers;
 mod entries;
 mod fetch;
@@ -7,6 +8,9 @@ mod files;
 mod keys;
 mod places;
 
+pub use all::group_numbers;
+pub use all::is_empty;
+pub use all::live_entries;
 pub use entries::entry_count;
 pub use entries::first_index;
 pub use entries::get_entry;
