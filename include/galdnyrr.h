@@ -226,6 +226,19 @@ uint64_t galdnyrr_fetch_rewritten_entry_indexes(const uint64_t *numbers, size_t 
                                                 size_t entry_offset_len, uint64_t *entry_len, size_t entry_len_len,
                                                 uint64_t *count);
 
+/* ---- Queries of all groups */
+
+/* Whether there are no groups. Never refused. */
+bool galdnyrr_is_empty(const uint64_t *numbers, size_t numbers_len, const uint8_t *bytes, size_t bytes_len);
+
+/* The numbers of all groups, ascending, at most 8; `count` gets how many. Refused: 19. */
+uint64_t galdnyrr_group_numbers(const uint64_t *numbers, size_t numbers_len, const uint8_t *bytes, size_t bytes_len,
+                                uint64_t *list, size_t list_len, uint64_t *count);
+
+/* The live count of a queue: the entries and keys of all groups but those that a join adopted. Never refused. */
+size_t galdnyrr_live_entries(const uint64_t *numbers, size_t numbers_len, const uint8_t *bytes, size_t bytes_len,
+                             uint64_t queue);
+
 #ifdef __cplusplus
 }
 #endif

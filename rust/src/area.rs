@@ -433,6 +433,47 @@ impl Area {
     }
 }
 
+/// Queries of all groups.
+impl Area {
+    /// Whether there are no groups.
+    pub fn is_empty(&self) -> bool {
+        // SAFETY: the area is one that the calls made, and is only read.
+        unsafe { ffi::galdnyrr_is_empty(self.numbers.as_ptr(), NUMBERS, self.bytes.as_ptr(), BYTES) }
+    }
+
+    /// The numbers of all groups, ascending, at the front of a lent list. There are at most 8.
+    pub fn group_numbers<'a>(&self, list: &'a mut [u64]) -> Result<&'a [u64], Refusal> {
+        let mut count = 0;
+        // SAFETY: as above.
+        let number = unsafe {
+            ffi::galdnyrr_group_numbers(
+                self.numbers.as_ptr(),
+                NUMBERS,
+                self.bytes.as_ptr(),
+                BYTES,
+                list.as_mut_ptr(),
+                list.len(),
+                &mut count,
+            )
+        };
+        given(number, count).map(|n| &list[..n as usize])
+    }
+
+    /// The live count of a queue: the entries and keys of all groups but adopted ones.
+    pub fn live_entries(&self, queue: Queue) -> usize {
+        // SAFETY: as above.
+        unsafe {
+            ffi::galdnyrr_live_entries(
+                self.numbers.as_ptr(),
+                NUMBERS,
+                self.bytes.as_ptr(),
+                BYTES,
+                queue.number(),
+            )
+        }
+    }
+}
+
 impl Clone for Area {
     fn clone(&self) -> Area {
         Area { numbers: self.numbers.clone(), bytes: self.bytes.clone() }

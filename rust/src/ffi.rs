@@ -274,4 +274,29 @@ extern "C" {
         entry_len_len: usize,
         count: *mut u64,
     ) -> u64;
+
+    pub fn galdnyrr_is_empty(
+        numbers: *const u64,
+        numbers_len: usize,
+        bytes: *const u8,
+        bytes_len: usize,
+    ) -> bool;
+
+    pub fn galdnyrr_group_numbers(
+        numbers: *const u64,
+        numbers_len: usize,
+        bytes: *const u8,
+        bytes_len: usize,
+        list: *mut u64,
+        list_len: usize,
+        count: *mut u64,
+    ) -> u64;
+
+    pub fn galdnyrr_live_entries(
+        numbers: *const u64,
+        numbers_len: usize,
+        bytes: *const u8,
+        bytes_len: usize,
+        queue: u64,
+    ) -> usize;
 }

@@ -95,3 +95,16 @@ fn any_content_of_a_batch_is_answered() {
     assert_eq!((refusal.number(), refusal.place()), (3, Some(0)));
     assert_eq!(area.append(file(1), batch().rows()).unwrap_err().cause(), Some(Cause::WrongKind));
 }
+
+#[test]
+fn groups_and_live_counts() {
+    let mut b = batch();
+    b.entries(9, &entries(1, 3, 1)).put(7, b"k", b"v").clean(8);
+    let run = replayed(&[b]);
+    let mut list = [0; 8];
+    assert_eq!(run.area().group_numbers(&mut list), Ok(&[7, 9][..]));
+    assert_eq!(run.area().group_numbers(&mut list[..1]).unwrap_err().number(), 19);
+    assert_eq!(run.area().live_entries(Queue::Append), 4);
+    assert_eq!(run.area().live_entries(Queue::Rewrite), 0);
+    assert!(!run.area().is_empty() && Context::new(Queue::Rewrite).area().is_empty());
+}

@@ -15,9 +15,9 @@ use Rattle.rules.specs.Queries.{inGroup}
 use Rattle.memtable.specs.Columns.{Columns}
 use Rattle.queries.specs.declared.Fetched.{Fetched}
 use Rattle.queries.specs.Answers.{fetchedAs}
-use Rattle.queries.specs.Fetches.{EntriesFetched, KeysFetched}
+use Rattle.queries.specs.Fetches.{EntriesFetched, KeysFetched, NumbersFetched}
 use Rattle.galdnyrr.specs.Told as told
-use Rattle.galdnyrr.specs.Asked.{absent, numberOrAbsent, valueAfter, foundAfter, flagOf, flagged, rowOf, inRow, rowAfter, ValueTold, FoundTold, EntryTold, EntriesTold, KeysTold}
+use Rattle.galdnyrr.specs.Asked.{absent, numberOrAbsent, valueAfter, foundAfter, flagOf, flagged, rowOf, inRow, rowAfter, ValueTold, FoundTold, EntryTold, EntriesTold, KeysTold, NumbersTold}
 
 -- ---- a number
 
@@ -91,6 +91,9 @@ entries-told f t = record { told = value-same (f .number) t; slices = f .slices 
 
 pub keys-told : {answer : Result (List KeyValue)} {lens out : List ℕ} {r : Fetched} {lens′ out′ : List ℕ} {k n k′ : ℕ} → KeysFetched answer lens out r lens′ out′ → ValueTold (fetchedAs r) k n k′ → KeysTold answer lens out k n k′ lens′ out′
 keys-told f t = record { told = value-same (f .number) t; lens-are = f .lens-are; bytes-are = f .bytes-are }
+
+pub numbers-told : {answer : Result (List ℕ)} {lent : List ℕ} {r : Fetched} {lent′ : List ℕ} {k n k′ : ℕ} → NumbersFetched answer lent r lent′ → ValueTold (fetchedAs r) k n k′ → NumbersTold answer lent k n k′ lent′
+numbers-told f t = record { told = value-same (f .number) t; list-is = f .list-is }
 
 -- ---- what is lent as numbers
 

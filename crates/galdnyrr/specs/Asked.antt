@@ -11,7 +11,7 @@ use Rattle.pipe_log.specs.Numbers.{queueNumber, compressionNumber}
 use Rattle.rules.specs.Causes.{Result, ok, refused, refuse, listTooShort, andThen}
 use Rattle.rules.specs.Items.{EntryIndex, fileOf}
 use Rattle.rules.specs.TableQueries.{KeyValue}
-use Rattle.rules.specs.Queries.{answered}
+use Rattle.rules.specs.Queries.{answered, lentAfter}
 use Rattle.kvs.specs.Lists.{lentList, lensAfter, bytesAfter}
 use Rattle.memtable.specs.Columns.{Columns, blockOffset, blockLen, judged, columnsAfter}
 use Rattle.galdnyrr.specs.Told.{numberOf}
@@ -91,6 +91,10 @@ pub record KeysTold (answer : Result (List KeyValue)) (lens out : List ℕ) (cou
   pub told : ValueTold (andThen (answered (lentList lens out) answer) (λ rows. ok (length rows))) count number count′
   pub lens-are : lens′ ≡ lensAfter (answered (lentList lens out) answer) lens
   pub bytes-are : out′ ≡ bytesAfter (answered (lentList lens out) answer) out
+
+pub record NumbersTold (answer : Result (List ℕ)) (lent : List ℕ) (count number count′ : ℕ) (lent′ : List ℕ) : Type 0 where
+  pub told : ValueTold (andThen answer (λ rows. ok (length rows))) count number count′
+  pub list-is : lent′ ≡ lentAfter lent answer
 
 -- ---- a value, copied to the front of lent bytes
 

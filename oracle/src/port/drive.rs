@@ -4,7 +4,7 @@ use super::dump::dump;
 use super::query::{ask, queue};
 use super::rows::Lent;
 use crate::text::{Line, Read, Tokens};
-use galdnyrr::{Area, Refusal};
+use galdnyrr::{Area, Queue, Refusal};
 use raft_engine::env::{FileId, LogQueue};
 use std::collections::BTreeMap;
 
@@ -94,6 +94,10 @@ impl Port {
                 t.end()?;
                 Ok(self.object(n)?.map(dump))
             }
+            "live" | "groups" | "is_empty" => {
+                t.end()?;
+                Ok(self.object(n)?.map(|area| vec![all_groups(area, word).0]))
+            }
             _ => Ok(None),
         }
     }
@@ -128,6 +132,20 @@ impl Port {
             Ok(()) => ok(),
             Err(r) => Some(vec![refused(r)]),
         })
+    }
+}
+
+/// A query of all groups.
+fn all_groups(area: &Area, word: &str) -> Line {
+    match word {
+        "live" => [Queue::Append, Queue::Rewrite]
+            .iter()
+            .fold(Line::default(), |l, q| l.number(area.live_entries(*q) as u64)),
+        "is_empty" => Line::default().number(area.is_empty() as u64),
+        _ => match area.group_numbers(&mut [0; 8]) {
+            Ok(list) => Line::default().numbers(list),
+            Err(r) => Line::of("refused").number(r.number()),
+        },
     }
 }
 
