@@ -1,4 +1,4 @@
-/* Recovers a run of the Append queue: batches are replayed into a context, and one of them is refused. */
+/* Recovers a run of the Append queue: batches are replayed into a context, one of them is refused, and what is held is read. */
 #include "galdnyrr.h"
 
 #include <inttypes.h>
@@ -76,6 +76,43 @@ static void replay(const struct batch *b) {
     }
 }
 
+/* A list of records for a fetch: eight arrays of one length. */
+#define ROOM 64
+static uint64_t record_index[ROOM], record_queue[ROOM], record_seq[ROOM], block_offset[ROOM], block_length[ROOM];
+static uint64_t compression[ROOM], entry_offset[ROOM], entry_length[ROOM];
+
+static void fetch(uint64_t group, uint64_t begin, uint64_t end) {
+    uint64_t count;
+    uint64_t number = galdnyrr_fetch_entries_to(
+        numbers, GALDNYRR_NUMBERS, bytes, GALDNYRR_BYTES, group, begin, end, false, 0, record_index, ROOM, record_queue,
+        ROOM, record_seq, ROOM, block_offset, ROOM, block_length, ROOM, compression, ROOM, entry_offset, ROOM,
+        entry_length, ROOM, &count);
+    if (number != GALDNYRR_OK) {
+        printf("fetch [%" PRIu64 ", %" PRIu64 ") refused: %" PRIu64 "\n", begin, end, number);
+        return;
+    }
+    for (uint64_t i = 0; i < count; i++) {
+        printf("entry %" PRIu64 ": file %" PRIu64 ", %" PRIu64 " bytes at %" PRIu64 "\n", record_index[i],
+               record_seq[i], entry_length[i], entry_offset[i]);
+    }
+}
+
+static void get(uint64_t group, const char *key, size_t key_len) {
+    uint8_t value[32];
+    uint64_t len;
+    switch (galdnyrr_get(numbers, GALDNYRR_NUMBERS, bytes, GALDNYRR_BYTES, group, (const uint8_t *)key, key_len, value,
+                         sizeof value, &len)) {
+    case GALDNYRR_OK:
+        printf("%.*s = %.*s\n", (int)key_len, key, (int)len, (const char *)value);
+        break;
+    case GALDNYRR_ABSENT:
+        printf("%.*s is absent\n", (int)key_len, key);
+        break;
+    default:
+        printf("group %" PRIu64 " is absent\n", group);
+    }
+}
+
 int main(void) {
     galdnyrr_fresh(numbers, GALDNYRR_NUMBERS, bytes, GALDNYRR_BYTES, GALDNYRR_APPEND);
 
@@ -89,5 +126,13 @@ int main(void) {
     add_put(&gap, 8, "key", 3, "", 0, 2);
     add_entries(&gap, 7, 12, 1, 2, 100);
     replay(&gap);
+
+    fetch(7, 9, 11);
+    fetch(7, 9, 12);
+    get(7, "key", 3);
+    get(7, "other", 5);
+    get(8, "key", 3);
+    printf("live entries: %zu\n",
+           galdnyrr_live_entries(numbers, GALDNYRR_NUMBERS, bytes, GALDNYRR_BYTES, GALDNYRR_APPEND));
     return 0;
 }
