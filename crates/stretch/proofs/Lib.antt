@@ -1,4 +1,5 @@
 -- The ways through the changes of a stretch.
 pub mod Outcomes
+pub mod Reaches
 pub mod EntryWays
 pub mod KeyWays

@@ -4,6 +4,7 @@ mod changes;
 mod entries;
 mod header;
 mod keys;
+mod reach;
 
 pub use changes::apply;
 pub use header::head_in;
@@ -11,6 +12,8 @@ pub use header::make;
 pub use header::write_head;
 use pipe_log::Gate;
 use pipe_log::LogQueue;
+pub use reach::row_from;
+pub use reach::writes_keys;
 
 // The layout of a stretch.
 pub const ENTRIES_AT: usize = 10;
