@@ -3,7 +3,7 @@ use mathlib.Core.Bool.{false}
 use mathlib.Core.List.{List, [], _∷_}
 use mathlib.Core.Option.{Option, none, some}
 use mathlib.Core.Path.{_≡_, refl, sym, ap, _∙_}
-use Prim.Native.Nat.{ℕ, _-_, _*_, _/_, _≤_}
+use Prim.Native.Nat.{ℕ, _-_, _/_, _≤_}
 use native.Mathlib.Omega.{arith}
 use lib.Dec.{leb, ltb}
 use lib.ListN.{length, take, set}
@@ -13,22 +13,24 @@ use borrow.Rule.Slice.PartMut.{putMid}
 use Rattle.cells.specs.PartLaws.{length-put, put-part, loan-put, set-put}
 use Rattle.maps.specs.BoolLaws.{and-false}
 use Rattle.maps.specs.Lists.{orElse}
-use Rattle.maps.specs.Maps.{insert, bytes}
+use Rattle.maps.specs.Maps.{Map, insert, remove, bytes}
 use Rattle.maps.specs.OrderLaws.{split}
 use Rattle.rules.specs.Causes.{Refusal, ok, refused, andThen}
 use Rattle.rules.specs.Items.{LogQueue, Append, Rewrite, sameQueue}
-use Rattle.rules.specs.Table.{Held, Table, withKeys, putKey, deleteKey, rewriteFile, rewrittenKey}
+use Rattle.rules.specs.Table.{Held, Table, withKeys, putKey, deleteKey, overKeys, rewriteFile, rewrittenKey}
 use Rattle.kvs.specs.declared.Outcome.the-variants as kvs
 use Rattle.kvs.specs.declared.Rewritten.the-variants.{Accepted, GoesBack}
 use Rattle.kvs.specs.Rows.{keysIn, fits}
 use Rattle.kvs.specs.Rows as rows
-use Rattle.kvs.specs.Calls.{roomFor, Stands, putRows, putBytes, PutKey, DeleteKey, rewrittenAs, moves, rewrittenRows, RewriteKey}
+use Rattle.kvs.specs.Merge.{mergedParts, MergeKeys}
+use Rattle.kvs.specs.Calls as calls
+use Rattle.kvs.specs.Calls.{roomFor, putRows, putBytes, PutKey, DeleteKey, rewrittenAs, moves, rewrittenRows, RewriteKey}
 use Rattle.kvs.specs.declared.Place.{Place}
 use Rattle.memtable.specs.Views.{tableOf}
 use Rattle.stretch.specs.declared.Outcome.the-variants.{Done, Refused}
 use Rattle.stretch.specs.Stretch.{headIn, keyCount, isCounted, entryRowsAt, keyRowsAt, tableAt, WfAt}
 use Rattle.stretch.specs.StretchLaws.{Holds, own, length-keys, with-keys, with-count, table-of, wf-of, front-put}
-use Rattle.stretch.specs.Changes.{roomAt, limitedAt, ChangedAt}
+use Rattle.stretch.specs.Changes.{roomAt, limitedAt, keysLaid, ChangedAt}
 use Rattle.stretch.proofs.Outcomes.{Kept, never, done-by, is-refused, refused-by}
 
 -- rows that came back as they were
@@ -92,43 +94,62 @@ module _ (w : ℕ) (p b rows′ b′ : List ℕ) (o : WfAt w p b) (l : length ro
         let t = o .numbers .to in
         record { numbers = length-put (put p w rows′) 8 (m ∷ []) (omega arith) ∙ k; bytes = n }
 
--- ---- `put`
+-- ---- keys changed by a function of the map
 
--- a key for which there is no row is one too many
-too-many : (k : List ℕ) (h : Held) (w n : ℕ) (p b : List ℕ) (t : Table) → t .keys ≡ keysIn n (keyRowsAt w p) b
-    → kvs.Full ≡ roomFor (length (insert bytes k h (keysIn n (keyRowsAt w p) b))) (keyRowsAt w p) b → roomAt w p b (putKey k h t) ≡ false
-unfolding roomAt putKey withKeys roomFor
-too-many k h w n p b t e f =
-    let c = length (insert bytes k h (keysIn n (keyRowsAt w p) b)) in
-    rw e
-    (split (fits c (keyRowsAt w p) b)
-    (λ y. let z : _≡_ {A = ℕ} 0 1 = (let g : kvs.Full ≡ kvs.Done c = rw y at f in cc) in absurd (omega arith))
-    (λ y. rw y (and-false (leb (length (t .entries)) (length (entryRowsAt w p) / 8)))))
+module _ (w : ℕ) (p b rows′ b′ : List ℕ) (o : WfAt w p b) (l : length rows′ ≡ length (keyRowsAt w p)) (by : Map (List ℕ) Held → Map (List ℕ) Held) where
+  keys-done : (m : ℕ) → length b′ ≡ length b → calls.Holds m rows′ b′ (by (keysIn (keyCount p) (keyRowsAt w p) b))
+      → ChangedAt w (λ t. ok (withKeys (by (t .keys)) t)) p b Done (set (putMid w (length p - w) p rows′) 8 m) b′
+  unfolding tableAt tableOf
+  keys-done m n t =
+      rw (after-count w p b rows′ o l m)
+      (done-by w (λ t. ok (withKeys (by (t .keys)) t)) p b o (put (put p w rows′) 8 (m ∷ [])) b′ (kept-keys w p b rows′ b′ o l m n) (wf-keys w p b rows′ b′ o l m (t .wf)) (front-keys w p b rows′ b′ o l m)
+      (ap ok (table-keys w p b rows′ b′ o l m ∙ ap (λ x. withKeys x (tableAt w p b)) (t .is))))
+
+  -- keys for which there are no rows
+  too-many : kvs.Full ≡ roomFor (length (by (keysIn (keyCount p) (keyRowsAt w p) b))) (keyRowsAt w p) b → roomAt w p b (withKeys (by (tableAt w p b .keys)) (tableAt w p b)) ≡ false
+  unfolding roomAt withKeys roomFor tableAt tableOf
+  too-many f =
+      let c = length (by (keysIn (keyCount p) (keyRowsAt w p) b)) in
+      split (fits c (keyRowsAt w p) b)
+      (λ y. let z : _≡_ {A = ℕ} 0 1 = (let g : kvs.Full ≡ kvs.Done c = rw y at f in cc) in absurd (omega arith))
+      (λ y. rw y (and-false (leb (length (tableAt w p b .entries)) (length (entryRowsAt w p) / 8))))
+
+  keys-full : kvs.Full ≡ roomFor (length (by (keysIn (keyCount p) (keyRowsAt w p) b))) (keyRowsAt w p) b → rows′ ≡ keyRowsAt w p → b′ ≡ b
+      → ChangedAt w (λ t. ok (withKeys (by (t .keys)) t)) p b (Refused 18) (putMid w (length p - w) p rows′) b′
+  unfolding limitedAt andThen
+  keys-full f r e =
+      rw (as-before w p b rows′ o l r, e) (is-refused w (λ t. ok (withKeys (by (t .keys)) t)) p b o 18 (rw (too-many f)))
+
+-- ---- `put`
 
 module _ (w : ℕ) (p b rows′ b′ : List ℕ) (o : WfAt w p b) (l : length rows′ ≡ length (keyRowsAt w p)) (k : List ℕ) (h : Held) where
   pub put-done : (m : ℕ) → length b′ ≡ length b → PutKey (keyCount p) (keyRowsAt w p) b k h (kvs.Done m) rows′ b′
       → ChangedAt w (λ t. ok (putKey k h t)) p b Done (set (putMid w (length p - w) p rows′) 8 m) b′
-  unfolding Stands putKey tableAt tableOf
-  put-done m n t =
-      rw (after-count w p b rows′ o l m)
-      (done-by w (λ t. ok (putKey k h t)) p b o (put (put p w rows′) 8 (m ∷ [])) b′ (kept-keys w p b rows′ b′ o l m n) (wf-keys w p b rows′ b′ o l m (t .stands .wf)) (front-keys w p b rows′ b′ o l m)
-      (ap ok (table-keys w p b rows′ b′ o l m ∙ ap (λ x. withKeys x (tableAt w p b)) (t .stands .is))))
+  unfolding calls.Stands putKey
+  put-done m n t = keys-done w p b rows′ b′ o l (insert bytes k h) m n (t .stands)
 
   pub put-full : PutKey (keyCount p) (keyRowsAt w p) b k h kvs.Full rows′ b′ → ChangedAt w (λ t. ok (putKey k h t)) p b (Refused 18) (putMid w (length p - w) p rows′) b′
-  unfolding putRows putBytes limitedAt andThen tableAt tableOf
-  put-full t =
-      rw (as-before w p b rows′ o l (t .rows-are), t .bytes-are)
-      (is-refused w (λ t. ok (putKey k h t)) p b o 18 (rw (too-many k h w (keyCount p) p b (tableAt w p b) refl (t .answer))))
+  unfolding putRows putBytes putKey
+  put-full t = keys-full w p b rows′ b′ o l (insert bytes k h) (t .answer) (t .rows-are) (t .bytes-are)
 
 -- ---- `delete`
 
 pub deleting : (w : ℕ) (p b rows′ b′ : List ℕ) → WfAt w p b → length rows′ ≡ length (keyRowsAt w p) → length b′ ≡ length b → (k : List ℕ) (m : ℕ) → DeleteKey (keyCount p) (keyRowsAt w p) b k m rows′ b′
     → ChangedAt w (λ t. ok (deleteKey k t)) p b Done (set (putMid w (length p - w) p rows′) 8 m) b′
-unfolding deleteKey tableAt tableOf
-deleting w p b rows′ b′ o l n k m t =
-    rw (after-count w p b rows′ o l m)
-    (done-by w (λ t. ok (deleteKey k t)) p b o (put (put p w rows′) 8 (m ∷ [])) b′ (kept-keys w p b rows′ b′ o l m n) (wf-keys w p b rows′ b′ o l m (t .holds .wf)) (front-keys w p b rows′ b′ o l m)
-    (ap ok (table-keys w p b rows′ b′ o l m ∙ ap (λ x. withKeys x (tableAt w p b)) (t .holds .is))))
+unfolding deleteKey
+deleting w p b rows′ b′ o l n k m t = keys-done w p b rows′ b′ o l (remove bytes k) m n (t .holds)
+
+-- ---- `lay_keys`
+
+module _ (w : ℕ) (p b rows′ b′ : List ℕ) (o : WfAt w p b) (l : length rows′ ≡ length (keyRowsAt w p)) (newer : Map (List ℕ) Held) where
+  pub merge-done : (m : ℕ) → length b′ ≡ length b → MergeKeys (keyCount p) (keyRowsAt w p) b newer (kvs.Done m) rows′ b′
+      → ChangedAt w (keysLaid newer) p b Done (set (putMid w (length p - w) p rows′) 8 m) b′
+  unfolding calls.Stands keysLaid
+  merge-done m n t = keys-done w p b rows′ b′ o l (λ x. overKeys x newer) m n (t .stands)
+
+  pub merge-full : MergeKeys (keyCount p) (keyRowsAt w p) b newer kvs.Full rows′ b′ → ChangedAt w (keysLaid newer) p b (Refused 18) (putMid w (length p - w) p rows′) b′
+  unfolding mergedParts keysLaid
+  merge-full t = keys-full w p b rows′ b′ o l (λ x. overKeys x newer) (t .answer) (t .rows-are) (t .bytes-are)
 
 -- ---- `rewrite_key`
 

@@ -3,3 +3,4 @@ pub mod Outcomes
 pub mod Reaches
 pub mod EntryWays
 pub mod KeyWays
+pub mod SpanWays

@@ -1,5 +1,5 @@
 -- What a change of a stretch comes to: done, or refused with all as it was; and when a result passes a limit. Assumes nothing.
-use mathlib.Core.Bool.{Bool, true, cond, _&&_}
+use mathlib.Core.Bool.{true, _&&_}
 use mathlib.Core.List.{List}
 use mathlib.Core.Option.{none}
 use mathlib.Core.Path.{_≡_, refl, sym, _∙_}
@@ -14,16 +14,10 @@ use Rattle.memtable.specs.Appends.{fitting}
 use Rattle.kvs.specs.Rows.{fits}
 use Rattle.stretch.specs.declared.Outcome.the-variants.{Done, Refused}
 use Rattle.stretch.specs.Stretch.{entryRowsAt, keyRowsAt, tableAt, WfAt}
-use Rattle.stretch.specs.Laws.{room-same, room-own}
+use Rattle.stretch.specs.Laws.{limited-same, room-same, room-own}
 use Rattle.stretch.specs.Changes.{roomAt, limitedAt, ChangedAt}
 
 -- ---- limits
-
--- what is accepted within the limits is not refused by them
-pub limited-same : (w : ℕ) (p b : List ℕ) (x : Result Table) → ((u : Table) → x ≡ ok u → roomAt w p b u ≡ true) → limitedAt w p b x ≡ x
-unfolding limitedAt andThen
-limited-same w p b (ok u) f = rw (f u refl)
-limited-same w p b (refused r) f = refl
 
 -- where there is room for the keys, the room for entries is the limit
 pub limited-fitting : (w : ℕ) (p b : List ℕ) (x : Result Table) → ((u : Table) → fitting (length (entryRowsAt w p) / 8) x ≡ ok u → roomAt w p b u ≡ true)
@@ -82,7 +76,3 @@ module _ (w : ℕ) (by : Table → Result Table) (p b : List ℕ) (o : WfAt w p 
     refused-fitting e =
         is-refused
         (e ∙ sym (limited-fitting w p b (by (tableAt w p b)) (λ u d. (let s : refused (record { number = n; place = none }) ≡ ok u = e ∙ d in absurd (never s)))))
-
--- a group that is there already is made by doing nothing
-pub made : (w : ℕ) (p b : List ℕ) → WfAt w p b → ChangedAt w (λ t. ok t) p b Done p b
-made w p b o = done-by w (λ t. ok t) p b o p b (record { numbers = refl; bytes = refl }) o refl refl

@@ -6,11 +6,12 @@ use Prim.Native.Nat.{ℕ, _/_, _≤_}
 use lib.Dec.{leb}
 use lib.ListN.{length, take}
 use Rattle.maps.specs.Lists.{every}
+use Rattle.maps.specs.Maps.{Map}
 use Rattle.pipe_log.specs.Numbers.{gateOf}
 use Rattle.pipe_log.specs.Rows.{window}
 use Rattle.rules.specs.Causes.{Result, ok, refused, refuse, andThen, limitPassed}
 use Rattle.rules.specs.Items.{isRewrite}
-use Rattle.rules.specs.Table.{Table, appended, replayedRewrite, rewritten, compacted, putKey, deleteKey, rewrittenKey}
+use Rattle.rules.specs.Table.{Held, Table, withKeys, overKeys, appended, replayedRewrite, rewritten, compacted, putKey, deleteKey, rewrittenKey}
 use Rattle.rules.specs.Context.{tableFits}
 use Rattle.kvs.specs.Rows.{fits}
 use Rattle.kvs.specs.Calls.{heldBy}
@@ -47,6 +48,10 @@ Ready (change.Put queue seq) rows key value t = (length key ≤ 32) × (length v
 Ready change.Delete rows key value t = Unit {0}
 Ready (change.RewriteKey gate seq) rows key value t = Unit {0}
 Ready change.Make rows key value t = Unit {0}
+
+-- a newer table's keys laid over
+unfoldable pub keysLaid : Map (List ℕ) Held → Table → Result Table
+keysLaid newer t = ok (withKeys (overKeys (t .keys) newer) t)
 
 -- a table that passes a limit is refused by 18
 unfoldable pub limitedTable : Result Table → Result Table

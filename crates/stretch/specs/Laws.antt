@@ -1,6 +1,6 @@
 -- The laws of stretches that a crate above cites: a group's stretch as one of any width, as a cell of a map, as a group that was just
 -- made, and by what is in use. Assumes nothing.
-use mathlib.Core.Bool.{Bool, true, false, cond, _&&_}
+use mathlib.Core.Bool.{Bool, true, false, cond}
 use mathlib.Core.List.{List, [], _∷_}
 use mathlib.Core.Option.{Option, none, some}
 use mathlib.Core.Path.{_≡_, refl, sym, ap, _∙_}
@@ -12,7 +12,7 @@ use lib.ListN.{length, getD, take}
 use lib.Seq.{getD-take, take-take}
 use borrow.Author.Tests.{le-leb, lt-leb, leb-true, leb-false}
 use Rattle.cells.specs.Part.{part, put}
-use Rattle.cells.specs.PartLaws.{length-put, getD-put-in, getD-part, part-put-after, part-front, part-part}
+use Rattle.cells.specs.PartLaws.{length-part, length-put, take-put, getD-put-in, getD-part, part-put-same, part-put-after, part-front, part-part}
 use Rattle.maps.specs.BoolLaws.{and-false}
 use Rattle.maps.specs.OrderLaws.{split}
 use Rattle.maps.specs.Lists.{orElse, mapOption, first, last}
@@ -20,7 +20,7 @@ use Rattle.maps.specs.Maps.{lookup, bytes}
 use Rattle.maps.specs.MapLaws.{pair, ascending-nil}
 use Rattle.pipe_log.specs.Numbers.{gateOf}
 use Rattle.pipe_log.specs.Rows.{window}
-use Rattle.rules.specs.Causes.{Result, ok, refuse, andThen, limitPassed}
+use Rattle.rules.specs.Causes.{Result, ok, refused, refuse, andThen, limitPassed}
 use Rattle.rules.specs.Items.{EntryIndex}
 use Rattle.rules.specs.Context.{tableFits}
 use Rattle.rules.specs.Table.{Held, Table, emptyTable, firstIndex, lastIndex, isBelowFirst, isAboveLast, withEntries, over, appended, rewritten, rewrittenKey}
@@ -37,6 +37,7 @@ use Rattle.memtable.specs.WindowLaws.{length-window}
 use Rattle.stretch.specs.declared.Change.{Change}
 use Rattle.stretch.specs.declared.Change.the-variants as change
 use Rattle.stretch.specs.declared.Outcome.{Outcome}
+use Rattle.stretch.specs.declared.Outcome.the-variants.{Done}
 use Rattle.stretch.specs.Stretch.{isUsed, groupIn, spanIn, headIn, keyCount, isCounted, madeHeader, entryRowsAt, keyRowsAt, tableAt, WfAt, entryRows, keyRows, tableIn, cellOf, Wf}
 use Rattle.stretch.specs.StretchLaws.{Holds, own, length-entries, table-of, wf-of, head-same}
 use Rattle.stretch.specs.StretchLaws as any
@@ -117,11 +118,11 @@ unfolding cellOf
 cell-free p b u = rw u
 
 -- used and the group's number are the first two numbers
-front-used : (p q : List ℕ) → take 2 q ≡ take 2 p → isUsed q ≡ isUsed p
+pub front-used : (p q : List ℕ) → take 2 q ≡ take 2 p → isUsed q ≡ isUsed p
 unfolding isUsed
 front-used p q e = rw (sym (getD-take 2 q 0 0 (omega arith)) ∙ ap (λ (l : List ℕ). getD l 0 0) e ∙ getD-take 2 p 0 0 (omega arith))
 
-front-group : (p q : List ℕ) → take 2 q ≡ take 2 p → groupIn q ≡ groupIn p
+pub front-group : (p q : List ℕ) → take 2 q ≡ take 2 p → groupIn q ≡ groupIn p
 unfolding groupIn
 front-group p q e = sym (getD-take 2 q 1 0 (omega arith)) ∙ ap (λ (l : List ℕ). getD l 1 0) e ∙ getD-take 2 p 1 0 (omega arith)
 
@@ -144,6 +145,22 @@ room-own w p b o =
       le-leb (keyCount p * 4) (length (keyRowsAt w p)) (o .keys .rows-fit),
       le-leb (keyCount p * 64) (length b) (o .keys .bytes-fit),
     )
+
+-- what is accepted within the limits is not refused by them
+pub limited-same : (w : ℕ) (p b : List ℕ) (x : Result Table) → ((u : Table) → x ≡ ok u → roomAt w p b u ≡ true) → limitedAt w p b x ≡ x
+unfolding limitedAt andThen
+limited-same w p b (ok u) f = rw (f u refl)
+limited-same w p b (refused r) f = refl
+
+-- a group that is there already is made by doing nothing
+pub unchanged : (w : ℕ) (p b : List ℕ) → WfAt w p b → ChangedAt w (λ t. ok t) p b Done p b
+unchanged w p b o =
+    record {
+      rule = sym (limited-same w p b (ok (tableAt w p b)) (λ u e. (let s : tableAt w p b ≡ u = cc in rw (← s) (room-own w p b o))));
+      front = refl;
+      left = λ n d. (refl, refl);
+      wf = o;
+    }
 
 -- room depends on the lengths alone
 pub room-same : (w : ℕ) (p b p′ b′ : List ℕ) → 10 ≤ w → w ≤ length p → length p′ ≡ length p → length b′ ≡ length b → (t : Table) → roomAt w p′ b′ t ≡ roomAt w p b t
@@ -197,7 +214,7 @@ module _ (g : ℕ) (p : List ℕ) (l : 10 ≤ length p) where
   unfolding groupIn madeHeader
   made-group = made-at 1 (omega arith)
 
-  made-length : length (put p 0 (madeHeader g)) ≡ length p
+  pub made-length : length (put p 0 (madeHeader g)) ≡ length p
   unfolding madeHeader
   made-length = length-put p 0 (madeHeader g) (omega arith)
 
@@ -374,3 +391,80 @@ same-front p b q d w l m front rows bytes-are =
       ),
       wf-short q d l m (front-wf 522 522 p b q d o f g h front rows bytes-are),
     )
+
+-- ---- a stretch copied to another width: the header with the rows of entries in use, the rows of keys in use, and their bytes
+
+module _ (w v : ℕ) (p b q d : List ℕ) (o : WfAt w p b) (f : 10 + headIn p .len * 8 ≤ v) (l : v + keyCount p * 4 ≤ length q) (m : keyCount p * 64 ≤ length d) where
+  abbrev pub copiedNumbers : List ℕ
+  copiedNumbers = put (put q 0 (part 0 (10 + headIn p .len * 8) p)) v (part w (keyCount p * 4) p)
+
+  abbrev pub copiedBytes : List ℕ
+  copiedBytes = put d 0 (part 0 (keyCount p * 64) b)
+
+  in-use : (10 + headIn p .len * 8 ≤ length p) × (w + keyCount p * 4 ≤ length p)
+  in-use =
+      let e = length-entries w p (o .numbers .from) (o .numbers .to) in
+      let k = any.length-keys w p (o .numbers .to) in
+      let r = o .numbers .entries .room in
+      let s = o .keys .rows-fit in
+      let g = o .numbers .from in
+      let t = o .numbers .to in
+      (omega arith, omega arith)
+
+  length-front : length (part 0 (10 + headIn p .len * 8) p) ≡ 10 + headIn p .len * 8
+  length-front = let u = in-use in length-part 0 (10 + headIn p .len * 8) p (omega arith)
+
+  length-rows : length (part w (keyCount p * 4) p) ≡ keyCount p * 4
+  length-rows = length-part w (keyCount p * 4) p (in-use .1)
+
+  length-once : length (put q 0 (part 0 (10 + headIn p .len * 8) p)) ≡ length q
+  length-once = let e = length-front in length-put q 0 (part 0 (10 + headIn p .len * 8) p) (omega arith)
+
+  pub copied-length : length copiedNumbers ≡ length q
+  copied-length =
+      let e = length-once in
+      let k = length-rows in
+      length-put (put q 0 (part 0 (10 + headIn p .len * 8) p)) v (part w (keyCount p * 4) p) (omega arith) ∙ e
+
+  copied-front : take (10 + headIn p .len * 8) copiedNumbers ≡ take (10 + headIn p .len * 8) p
+  copied-front =
+      let n = 10 + headIn p .len * 8 in
+      let e = length-once in
+      take-put n (put q 0 (part 0 n p)) v (part w (keyCount p * 4) p) f (omega arith)
+      ∙ part-front n (put q 0 (part 0 n p))
+      ∙ part-put-same n q 0 (part 0 n p) length-front (omega arith)
+      ∙ sym (part-front n p)
+
+  copied-rows : part v (keyCount p * 4) copiedNumbers ≡ part w (keyCount p * 4) p
+  copied-rows =
+      let e = length-once in
+      part-put-same (keyCount p * 4) (put q 0 (part 0 (10 + headIn p .len * 8) p)) v (part w (keyCount p * 4) p) length-rows (omega arith)
+
+  length-bytes : length (part 0 (keyCount p * 64) b) ≡ keyCount p * 64
+  length-bytes = let u = o .keys .bytes-fit in length-part 0 (keyCount p * 64) b (omega arith)
+
+  pub copied-bytes-length : length copiedBytes ≡ length d
+  copied-bytes-length = let e = length-bytes in length-put d 0 (part 0 (keyCount p * 64) b) (omega arith)
+
+  copied-bytes : take (keyCount p * 64) copiedBytes ≡ take (keyCount p * 64) b
+  copied-bytes =
+      let n = keyCount p * 64 in
+      part-front n copiedBytes ∙ part-put-same n d 0 (part 0 n b) length-bytes (omega arith) ∙ sym (part-front n b)
+
+  room-rows : v + keyCount p * 4 ≤ length copiedNumbers
+  room-rows = omega (arith, copied-length)
+
+  room-bytes : keyCount p * 64 ≤ length copiedBytes
+  room-bytes = omega (arith, copied-bytes-length)
+
+  pub copied-table : tableAt v copiedNumbers copiedBytes ≡ tableAt w p b
+  copied-table = front-table w v p b copiedNumbers copiedBytes o f room-rows room-bytes copied-front copied-rows copied-bytes
+
+  pub copied-wf : WfAt v copiedNumbers copiedBytes
+  copied-wf = front-wf w v p b copiedNumbers copiedBytes o f room-rows room-bytes copied-front copied-rows copied-bytes
+
+  pub copied-used : isUsed copiedNumbers ≡ isUsed p
+  copied-used = same-used w v p b copiedNumbers copiedBytes o f room-rows room-bytes copied-front copied-rows copied-bytes
+
+  pub copied-group : groupIn copiedNumbers ≡ groupIn p
+  copied-group = same-group w v p b copiedNumbers copiedBytes o f room-rows room-bytes copied-front copied-rows copied-bytes

@@ -67,6 +67,18 @@ pub fn replay_rewrite(p: &mut [u64], keys_at: usize, first: u64, rows: &[u64]) -
     settle_laid(p, answer)
 }
 
+// Lays entries of the Append queue over those of the group, a gap dropping all: the join.
+pub fn join(p: &mut [u64], keys_at: usize, first: u64, rows: &[u64]) -> Outcome
+    requires { ⌜ NumbersAt «keys_at» (now p) ⌝ }
+    requires { ⌜ Lent 0 first (now rows) ⌝ }
+    ensures { λ r. ⌜ ((b : List ℕ) → WfAt «keys_at» (now (p .entry)) b → ChangedAt «keys_at» (λ t. ok (replayedRewrite (window first (length (now (rows .entry)) / 8) (now (rows .entry))) t)) (now (p .entry)) b r (now (p .exit)) b) ⌝ }
+{
+    let head = head_in(p);
+    let a = ENTRIES_AT;
+    let answer = head.merge_append_table(&mut p[a..keys_at], first, rows);
+    settle_laid(p, answer)
+}
+
 // Writes the head that a rewrite gives, or answers the refusal.
 fn settle_rewritten(p: &mut [u64], answer: Rewritten) -> Outcome
     requires { ⌜ 10 ≤ length (now p) ⌝ }

@@ -6,11 +6,13 @@ ghost use Rattle.pipe_log.specs.Numbers.{gateOf};
 ghost use Rattle.rules.specs.Causes.{ok};
 ghost use Rattle.rules.specs.Table.{putKey, deleteKey, rewrittenKey};
 ghost use Rattle.kvs.specs.Calls.{heldBy};
-ghost use Rattle.stretch.specs.Stretch.{entryRowsAt, WfAt};
-ghost use Rattle.stretch.specs.Changes.{ChangedAt};
+ghost use Rattle.stretch.specs.Stretch.{entryRowsAt, WfAt, tableIn, Wf};
+ghost use Rattle.stretch.specs.Changes.{ChangedAt, keysLaid};
 use crate::KEY_GOES_BACK;
+use crate::KEYS_AT;
 use crate::LIMIT_PASSED;
 use crate::Outcome;
+use crate::STRETCH;
 use pipe_log::Gate;
 use pipe_log::LogQueue;
 
@@ -75,4 +77,29 @@ pub fn rewrite_key(
         kvs::Rewritten::Accepted => Outcome::Done,
         kvs::Rewritten::GoesBack => Outcome::Refused(KEY_GOES_BACK),
     }
+}
+
+// Lays the keys of a newer group's stretch over those of the stretch; a key of both takes the newer value and file.
+pub fn lay_keys(
+    p: &mut [u64],
+    b: &mut [u8],
+    keys_at: usize,
+    newer: &[u64],
+    newbytes: &[u8],
+) -> Outcome
+    requires { ⌜ WfAt «keys_at» (now p) (now b) ⌝ }
+    requires { ⌜ Wf (now newer) (now newbytes) ⌝ }
+    ensures { λ r. ⌜ ChangedAt «keys_at» (keysLaid (tableIn (now (newer .entry)) (now (newbytes .entry)) .keys)) (now (p .entry)) (now (b .entry)) r (now (p .exit)) (now (b .exit)) ⌝ }
+{
+    let n = p[KEY_COUNT] as usize;
+    let m = newer[KEY_COUNT] as usize;
+    let e = p.len();
+    let a = KEYS_AT;
+    let z = STRETCH;
+    let answer = kvs::merge_keys(n, &mut p[keys_at..e], b, m, &newer[a..z], newbytes);
+    let kvs::Outcome::Done(all) = answer else {
+        return Outcome::Refused(LIMIT_PASSED);
+    };
+    p[KEY_COUNT] = all as u64;
+    Outcome::Done
 }

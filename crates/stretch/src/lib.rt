@@ -1,21 +1,29 @@
-// The stretch of an area that holds one group: a header, rows of entries and rows of keys in numbers, and the keys' bytes.
+// The stretch of an area that holds one group: a header, rows of entries and rows of keys in numbers, and the keys' bytes. Its width is
+// told by the place where the rows of keys begin and by the lengths of the slices.
 // A change is carried out by the tables' own functions, `memtable` and `kvs`, each on its part of the stretch.
 mod changes;
 mod entries;
 mod header;
 mod keys;
 mod reach;
+mod spans;
 
 pub use changes::apply;
+pub use entries::append;
+pub use entries::join;
+pub use entries::replay_rewrite;
 pub use header::head_in;
 pub use header::make;
 pub use header::write_head;
+pub use keys::lay_keys;
 use pipe_log::Gate;
 use pipe_log::LogQueue;
 pub use reach::row_from;
 pub use reach::writes_keys;
+pub use spans::set_span;
+pub use spans::write_span;
 
-// The layout of a stretch.
+// The layout of a group's stretch.
 pub const ENTRIES_AT: usize = 10;
 
 pub const KEYS_AT: usize = 522;
@@ -43,6 +51,8 @@ pub enum Outcome {
 }
 
 // Document 01's numbers of the causes that a change meets.
+pub const FILES_GO_BACK: u64 = 8;
+
 pub const BELOW_FIRST: u64 = 13;
 
 pub const ABOVE_LAST: u64 = 14;

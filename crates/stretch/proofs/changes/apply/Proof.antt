@@ -1,8 +1,8 @@
 -- `stretch::changes::apply` meets its contract. Assumes nothing.
 use borrow.Author.Needs.{needs}
 use Rattle.stretch.specs.Changes.{ruleOf, Ready}
+use Rattle.stretch.specs.Laws.{unchanged}
 use Rattle.stretch.proofs.EntryWays.{only-rewrites}
-use Rattle.stretch.proofs.Outcomes.{made}
 use Rattle.stretch.specs.Reach.{rowFrom, writesKeys}
 use Rattle.stretch.proofs.Reaches.{entries-leave, keys-leave, all-left}
 use Rattle.stretch.proofs.changes.apply.Statement.{statement}
@@ -156,7 +156,7 @@ returns-8 : tie.Need-returns-8
 unfolding ruleOf rowFrom writesKeys
 returns-8 c =
     let start = c .before .before .before .before .before .before .before in
-    rw (c .enum-told2 .given .1) (made _ (start .args .p .now) (start .args .b .now) (start .pre .0), all-left _ _ _ (start .args .p .now) (start .args .b .now))
+    rw (c .enum-told2 .given .1) (unchanged _ (start .args .p .now) (start .args .b .now) (start .pre .0), all-left _ _ _ (start .args .p .now) (start .args .b .now))
 
 pub apply-spec : {M : Type 1} → statement M
 apply-spec =
