@@ -1,21 +1,23 @@
 -- The laws of what the stretches go back to: it depends on the stretches and the spare ones, each by itself. Assumes nothing.
 use mathlib.Core.Bool.{Bool, true}
-use mathlib.Core.List.{List}
+use mathlib.Core.List.{List, [], _∷_}
 use mathlib.Core.Option.{none}
 use mathlib.Core.Path.{_≡_, sym, ap, _∙_}
 use Prim.Native.Nat.{ℕ, _+_, _*_, _%_, _≤_, _<_}
 use native.Mathlib.Nat.{add-zero}
 use native.Mathlib.Omega.{arith}
 use lib.Dec.{eqb}
-use lib.ListN.{getD}
+use lib.ListN.{length, getD}
 use borrow.Author.Tests.{eq-eqb, ne-eqb, eqb-true, eqb-false}
-use Rattle.cells.specs.PartLaws.{getD-part}
+use Rattle.cells.specs.Part.{part, put}
+use Rattle.cells.specs.PartLaws.{length-put, getD-part, part-none, part-put-after, put-nil, put-part}
 use Rattle.maps.specs.OrderLaws.{split}
 use Rattle.stretch.specs.Layout.{stretchWidth}
-use Rattle.stretch.specs.Stretch.{cellOf}
+use Rattle.stretch.specs.Stretch.{headIn, cellOf}
+use Rattle.stretch.specs.Stretch as stretch
 use Rattle.stretch.specs.Reach.{Leaves}
 use Rattle.groups.specs.Area.{slots, stretchAt, bytesAt, cellAt, cells}
-use Rattle.groups.specs.Undo.{markAt, lowOf, hasKeys, backAt, backBytesAt, undoneCell, undoneCells, Saved, Undoable}
+use Rattle.groups.specs.Undo.{markAt, lowOf, hasKeys, backNumbers, backBytes, backAt, backBytesAt, undoneCell, undoneCells, Saved, Undoable}
 use Rattle.groups.specs.BackLaws.{back-stays, bytes-stay}
 use Rattle.groups.specs.AreaLaws.{Same, same-cell, same-cellsBy}
 
@@ -140,3 +142,26 @@ module _ (k n : ℕ) (written : Bool) {xs bs ys ds : List ℕ} (t : Same (slots 
         cell = undone-saved k ys ds (omega arith) ∙ rw (left-back small, left-bytes small) (sym (undone-saved k xs bs h));
         saved = λ g. left-saved small v;
       })
+
+-- ---- a spare stretch that holds a whole one has mark 3: all rows of entries and the keys
+
+whole-back : (p s : List ℕ) → length s ≡ 586 → backNumbers 3 p s ≡ put s 0 (1 ∷ [])
+unfolding backNumbers hasKeys
+whole-back p s l =
+    let t = put s 0 (1 ∷ []) in
+    let n : length t ≡ 586 = length-put s 0 (1 ∷ []) (omega arith) ∙ l in
+    let e : part 522 64 s ≡ part 522 64 t = sym (part-put-after 522 64 s 0 (1 ∷ []) (omega arith) (omega arith)) in
+    rw (part-none 10 p, put-nil t 10, e) (put-part 522 64 t (omega arith))
+
+pub undone-whole : (k : ℕ) (xs bs : List ℕ) → length (stretchAt (slots + k) xs) ≡ 586 → markAt k xs ≡ 3 → undoneCell k xs bs ≡ cellOf (put (stretchAt (slots + k) xs) 0 (1 ∷ [])) (bytesAt (slots + k) bs)
+unfolding backAt backBytesAt backBytes hasKeys
+undone-whole k xs bs l m = undone-saved k xs bs (omega arith) ∙ rw (m, whole-back (stretchAt k xs) (stretchAt (slots + k) xs) l)
+
+pub saved-whole : (k : ℕ) (xs bs : List ℕ) → length (stretchAt (slots + k) xs) ≡ 586 → markAt k xs ≡ 3 → headIn (stretchAt (slots + k) xs) .len ≤ 64 → stretch.Wf (put (stretchAt (slots + k) xs) 0 (1 ∷ [])) (bytesAt (slots + k) bs) → Saved k xs bs
+unfolding backAt backBytesAt backBytes hasKeys
+saved-whole k xs bs l m few w =
+    record {
+      rows = rw m (omega arith);
+      room = few;
+      wf = rw (m, whole-back (stretchAt k xs) (stretchAt (slots + k) xs) l) w;
+    }
