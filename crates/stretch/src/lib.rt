@@ -5,6 +5,7 @@ mod changes;
 mod entries;
 mod header;
 mod keys;
+mod reach;
 mod spans;
 
 pub use changes::apply;
@@ -17,6 +18,8 @@ pub use header::write_head;
 pub use keys::lay_keys;
 use pipe_log::Gate;
 use pipe_log::LogQueue;
+pub use reach::row_from;
+pub use reach::writes_keys;
 pub use spans::set_span;
 pub use spans::write_span;
 

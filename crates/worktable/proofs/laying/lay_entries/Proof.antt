@@ -61,7 +61,7 @@ returns c =
     let rows-of = c .before .before .before .before .before .before .rows-of in
     let enum-told = c .before .before .before .before .enum-told in
     let append = c .before .before .append in
-    λ b w. rw (enum-told .given .1) (rw (rows-of .ensures, head-in .ensures, lent-window _ (start .pre .1 .0)) at (append .ensures b w))
+    λ b w. rw (enum-told .given .1) (rw (rows-of .ensures, head-in .ensures, lent-window _ (start .pre .1 .0)) at (append .ensures .0 b w))
 
 same-length-2 : tie.Need-same-length-2
 same-length-2 c = search needs
@@ -74,7 +74,7 @@ returns-2 c =
     let rows-of = c .before .before .before .before .before .before .rows-of in
     let enum-told2 = c .before .before .before .before .enum-told2 in
     let replay-rewrite = c .before .before .replay-rewrite in
-    λ b w. rw (enum-told2 .given .1) (rw (rows-of .ensures, head-in .ensures, lent-window _ (start .pre .1 .0)) at (replay-rewrite .ensures b w))
+    λ b w. rw (enum-told2 .given .1) (rw (rows-of .ensures, head-in .ensures, lent-window _ (start .pre .1 .0)) at (replay-rewrite .ensures .0 b w))
 
 same-length-3 : tie.Need-same-length-3
 same-length-3 c = search needs
