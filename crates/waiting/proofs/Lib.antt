@@ -1,2 +1,6 @@
 -- The laws that the functions' proofs cite.
 pub mod Clearing
+pub mod Loans
+pub mod Adding
+pub mod Opening
+pub mod Taking
