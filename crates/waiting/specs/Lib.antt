@@ -2,6 +2,8 @@
 pub mod Rooms
 pub mod Layout
 pub mod Items
+pub mod Changes
 pub mod RoomLaws
 pub mod LayoutLaws
 pub mod PlaceLaws
+pub mod ChangeLaws
