@@ -75,7 +75,7 @@ pub fn copy_rows(entries: &mut [u64], row: usize, content: LogItemContent, its_e
 }
 
 // How many entries an item has.
-fn count_of(content: LogItemContent) -> usize
+pub fn count_of(content: LogItemContent) -> usize
     ensures { λ r. ⌜ r ≡ countOf content ⌝ }
 {
     match content {

@@ -4,3 +4,5 @@ pub mod Loans
 pub mod Adding
 pub mod Opening
 pub mod Taking
+pub mod Finding
+pub mod Pushing

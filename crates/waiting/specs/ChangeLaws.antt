@@ -76,7 +76,7 @@ module _ (j : ℕ) (h : List ℕ) (xs ys : List Tagged) (same : (u : ℕ) → Ta
   unfolding Counted
   counted-same zero e w = (free-cell h ys e ∙ sym (free-cell h xs e), record { free = λ t a. same t a ∙ w .free t a })
   counted-same (suc zero) e w =
-      (cell-one e (newest-same (w .tag)), record { tag = w .tag; free = same _ (other-tag j (newestTag h) (w .tag)) ∙ w .free; status = w .status })
+      (cell-one e (newest-same (w .tag)), record { tag = w .tag; free = same _ (other-tag j (newestTag h) (w .tag)) ∙ w .free })
   counted-same (suc (suc zero)) e w =
       let o : Tag j (olderTag h) = rw (w .other) (other-tag j (newestTag h) (w .tag)) in
       (cell-two e (newest-same (w .tag)) (older-same o), w)

@@ -1,10 +1,14 @@
 // Waiting parts of Rewrite replay in a room: cells of part heads, and one store of their items. A room has any number of cells; it
 // stands in one slice of numbers and one of bytes.
+mod batches;
+mod find;
 mod items;
 mod places;
 mod rooms;
 
 pub use rooms::clear;
+
+use log_batch::item::LogItem;
 
 // How many cells the room of a context has: 01's 8 groups.
 pub const CELLS: usize = 8;
@@ -31,3 +35,32 @@ pub const ITEMS: usize = 72;
 pub const ENTRIES_FROM: usize = 90;
 
 pub const ENTRIES: usize = 128;
+
+// Where the parts of a group wait: in a cell, or nowhere with a free cell for them, or nowhere and all are used.
+pub enum Place {
+    At(usize),
+    Free(usize),
+    Full,
+}
+
+// What becomes of a part that comes to the newest part of its group.
+pub enum Step {
+    // it waits in place of the newest part
+    Replace,
+    // it waits in front of the newest part
+    Front,
+    // it joins the newest part
+    Join,
+    // it is dropped
+    Drop,
+    // it finishes the newest part
+    Finish,
+    // files go back
+    Back,
+}
+
+// An item of a marked batch: the mark, or one that waits with the part.
+pub enum Unmarked {
+    Mark,
+    Item(LogItem),
+}
