@@ -5,6 +5,7 @@ pub mod Steps
 pub mod Items
 pub mod Batches
 pub mod Changes
+pub mod Parts
 pub mod RoomLaws
 pub mod LayoutLaws
 pub mod PlaceLaws
@@ -12,3 +13,4 @@ pub mod ChangeLaws
 pub mod StepLaws
 pub mod HeadLaws
 pub mod BatchLaws
+pub mod PartLaws
