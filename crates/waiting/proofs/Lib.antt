@@ -6,3 +6,4 @@ pub mod Opening
 pub mod Taking
 pub mod Finding
 pub mod Pushing
+pub mod Settling

@@ -14,3 +14,4 @@ pub mod StepLaws
 pub mod HeadLaws
 pub mod BatchLaws
 pub mod PartLaws
+pub mod RetagLaws

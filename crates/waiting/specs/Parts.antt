@@ -17,6 +17,7 @@ use Rattle.rules.specs.Waiting.{wait, finish, back, accept, someParts}
 use Rattle.stores.specs.declared.Store.{Store}
 use Rattle.stores.specs.Stores.{Stored}
 use Rattle.waiting.specs.Rooms.{Room, room, areaIn, itemsIn, headAt, cellOf, waitingIn, waitingItems, waitingEntries, firstTag, otherTag, Wf}
+use Rattle.waiting.specs.Layout.{storeOf, roomOf}
 use Rattle.waiting.specs.Batches.{countsFor, tagWith}
 use Rattle.waiting.specs.Changes.{Became}
 
@@ -40,8 +41,9 @@ leftHead h =
     (getD h 0 0 - 1) ∷ getD h 1 0 ∷ getD h 6 0 ∷ getD h 7 0 ∷ getD h 8 0 ∷ getD h 9 0 ∷ getD h 6 0 ∷ getD h 7 0 ∷ getD h 8 0 ∷ getD h 9 0 ∷ []
 
 -- cell k has head h and the counts are those of t; all else of the room is as it was
-pub record SettledIn (k : ℕ) (h : List ℕ) (r q : Room) : Type 0 where
-  pub is : q ≡ room (put (r .heads) (k * 10) h) (r .tags) (r .items) (r .entries) (r .bytes)
+pub record Settled (n k : ℕ) (h : List ℕ) (t : Store) (ws ws′ : List ℕ) : Type 0 where
+  pub counts : storeOf ws′ ≡ t
+  pub is : (vs : List ℕ) → roomOf n ws′ vs ≡ room (put (roomOf n ws vs .heads) (k * 10) h) (roomOf n ws vs .tags) (roomOf n ws vs .items) (roomOf n ws vs .entries) (roomOf n ws vs .bytes)
 
 -- the items its are added with a tag, and cell k has head h
 pub record WroteIn (k : ℕ) (h : List ℕ) (tag : ℕ) (its : List rules.LogItem) (s : Store) (r : Room) (t : Store) (q : Room) : Type 0 where
@@ -53,6 +55,6 @@ pub record WroteIn (k : ℕ) (h : List ℕ) (tag : ℕ) (its : List rules.LogIte
   pub rows : length (q .items) ≡ length (r .items)
   pub heads : q .heads ≡ put (r .heads) (k * 10) h
 
--- what is left of a room whose cell k loses its newest part p
-pub record TakenPart (g : ℕ) (ps : List Part) (s : Store) (r : Room) (t : Store) (q : Room) : Type 0 where
-  pub became : Became g (someParts ps) s r t q
+-- the newest part of cell k is taken out; the room is well formed
+pub record TookPart (n k : ℕ) (ws vs ws′ vs′ : List ℕ) : Type 0 where
+  pub became : (g : ℕ) (p : Part) (ps : List Part) → cellOf (headAt k (roomOf n ws vs .heads)) (itemsIn (storeOf ws) (roomOf n ws vs)) ≡ some (pair g (p ∷ ps)) → Became g (someParts ps) (storeOf ws) (roomOf n ws vs) (storeOf ws′) (roomOf n ws′ vs′)

@@ -2,10 +2,12 @@
 // stands in one slice of numbers and one of bytes.
 mod batches;
 mod find;
+mod heads;
 mod items;
 mod places;
 mod rooms;
 
+pub use heads::take_part;
 pub use rooms::clear;
 
 use log_batch::item::LogItem;
