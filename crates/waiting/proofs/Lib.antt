@@ -7,3 +7,4 @@ pub mod Taking
 pub mod Finding
 pub mod Pushing
 pub mod Settling
+pub mod Accepting

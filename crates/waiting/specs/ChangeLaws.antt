@@ -104,6 +104,16 @@ entries-before : (s : Store) (r : Room) → Wf s r → sum (λ (y : Pair ℕ (Li
 unfolding waitingEntries
 entries-before s r w = w .all-entries
 
+-- the counts of what would wait
+pub would-wait : (s : Store) (r : Room) → Wf s r → (g : ℕ) (x : Option (List Part)) → (waitingItems (store numbers g x (waitingIn s r)) + orElse 0 itemCount (lookup numbers g (waitingIn s r)) ≡ orElse 0 itemCount x + s .items) × (waitingEntries (store numbers g x (waitingIn s r)) + orElse 0 entryCount (lookup numbers g (waitingIn s r)) ≡ orElse 0 entryCount x + s .entries)
+unfolding waitingItems waitingEntries
+would-wait s r w g x =
+    let a = sum-store numbers numbersLawful (λ (y : Pair ℕ (List Part)). itemCount (y .val)) g x (waitingIn s r) (waiting-ascends s r) in
+    let b = sum-store numbers numbersLawful (λ (y : Pair ℕ (List Part)). entryCount (y .val)) g x (waitingIn s r) (waiting-ascends s r) in
+    let c = items-before s r w in
+    let d = entries-before s r w in
+    (a ∙ ap (λ (m : ℕ). orElse 0 itemCount x + m) c, b ∙ ap (λ (m : ℕ). orElse 0 entryCount x + m) d)
+
 -- the parts of the group at cell k
 pub waiting-at : (s : Store) (r : Room) → Wf s r → (k g : ℕ) (ps : List Part) → k < cellCount (r .heads) → cellOf (headAt k (r .heads)) (itemsIn s r) ≡ some (pair g ps) → lookup numbers g (waitingIn s r) ≡ some ps
 waiting-at s r w k g ps l e =

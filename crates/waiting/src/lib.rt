@@ -1,12 +1,14 @@
 // Waiting parts of Rewrite replay in a room: cells of part heads, and one store of their items. A room has any number of cells; it
 // stands in one slice of numbers and one of bytes.
+mod accept;
 mod batches;
-mod find;
+pub mod find;
 mod heads;
 mod items;
 mod places;
 mod rooms;
 
+pub use accept::accept_first;
 pub use heads::take_part;
 pub use rooms::clear;
 
