@@ -52,7 +52,12 @@ pub fn copy_bytes(bytes: &mut [u8], at: usize, content: LogItemContent, its_byte
 }
 
 // Copies an item's rows of entries, if it has any, to row `row`, and answers the row behind them.
-pub fn copy_rows(entries: &mut [u64], row: usize, content: LogItemContent, its_entries: &[u64]) -> usize
+pub fn copy_rows(
+    entries: &mut [u64],
+    row: usize,
+    content: LogItemContent,
+    its_entries: &[u64],
+) -> usize
     requires { ⌜ (row + countOf content) * 8 ≤ length (now entries) ⌝ }
     requires { ⌜ rowsWithin content (length (now «its_entries»)) ⌝ }
     ensures { λ r. ⌜ now (entries .exit) ≡ put (now (entries .entry)) (row * 8) (rowsOf content (now («its_entries» .entry))) ⌝ }

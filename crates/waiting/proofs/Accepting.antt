@@ -37,7 +37,7 @@ rows-used n ws vs w =
 some-rows : (a b c d : ℕ) → (leb a b && leb c d) ≡ true → (a ≤ b) × (c ≤ d)
 some-rows a b c d e =
     elim (decLe a b) [
-      | yes l ↦ elim (decLe c d) [ | yes m ↦ (l, m) | no m ↦ absurd (true≢false (sym e ∙ rw (le-leb a b l, lt-leb c d (omega arith)))) ]
+      | yes l ↦ elim (decLe c d) [ yes m ↦ (l, m) | no m ↦ absurd (true≢false (sym e ∙ rw (le-leb a b l, lt-leb c d (omega arith)))) ]
       | no l ↦ absurd (true≢false (sym e ∙ rw (lt-leb a b (omega arith))))
     ]
 

@@ -353,9 +353,9 @@ module _ (k : ℕ) (s : Store) (r : Room) (t : Store) (q : Room) (w : Wf s r) (l
       split (eqb u (newestTag had))
       (λ e. rw (eqb-true u (newestTag had) e) (o .mine))
       (λ e.
-        let d = eqb-false u (newestTag had) e in
-        let same : u ≡ otherTag k (newestTag had) = omega (arith, d) in
-        o .others u d ∙ rw same (one .free))
+      let d = eqb-false u (newestTag had) e in
+      let same : u ≡ otherTag k (newestTag had) = omega (arith, d) in
+      o .others u d ∙ rw same (one .free))
 
   pub left-none : countIn had ≡ 1 → Became (groupIn had) none s r t q
   left-none z =

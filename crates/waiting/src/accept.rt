@@ -63,17 +63,6 @@ pub fn accept_first(
     }
     let head = first_head(k, group, status, seq);
     let tag = k as u64 * 2;
-    write_part(
-        ws,
-        vs,
-        cells,
-        k,
-        &head,
-        store,
-        tag,
-        items,
-        entries,
-        bytes,
-    );
+    write_part(ws, vs, cells, k, &head, store, tag, items, entries, bytes);
     true
 }

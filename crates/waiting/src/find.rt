@@ -5,8 +5,8 @@ ghost use lib.ListN.{length};
 ghost use Rattle.cells.specs.Part.{part};
 ghost use Rattle.waiting.specs.Rooms.{headAt};
 ghost use Rattle.waiting.specs.Steps.{isOf, isFree, stepBy, stepOf, FirstOf, Found};
-use crate::HEADS_AT;
 use crate::HEAD_WIDTH;
+use crate::HEADS_AT;
 use crate::Place;
 use crate::Step;
 

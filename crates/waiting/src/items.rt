@@ -104,14 +104,7 @@ fn keep_item(ws: &mut [u64], vs: &mut [u8], cells: usize, left: Store, j: usize)
 }
 
 // The same with its tag, unless it has the tag that is taken out.
-fn keep_other(
-    ws: &mut [u64],
-    vs: &mut [u8],
-    cells: usize,
-    left: Store,
-    j: usize,
-    tag: u64,
-) -> Store
+fn keep_other(ws: &mut [u64], vs: &mut [u8], cells: usize, left: Store, j: usize, tag: u64) -> Store
     requires { ⌜ (length (now ws) ≡ 2 + cells * 218) × (length (now vs) ≡ cells * 512) ⌝ }
     requires { ⌜ Stored left (areaIn (roomOf cells (now ws) (now vs))) ⌝ }
     requires { ⌜ Movable left j (areaIn (roomOf cells (now ws) (now vs))) ⌝ }

@@ -10,9 +10,8 @@ mod rooms;
 
 pub use accept::accept_first;
 pub use heads::take_part;
-pub use rooms::clear;
-
 use log_batch::item::LogItem;
+pub use rooms::clear;
 
 // How many cells the room of a context has: 01's 8 groups.
 pub const CELLS: usize = 8;

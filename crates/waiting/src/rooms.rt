@@ -4,8 +4,8 @@ ghost use mathlib.Core.Path.{_≡_};
 ghost use Prim.Native.Nat.{ℕ, _+_, _*_};
 ghost use lib.ListN.{length};
 ghost use Rattle.waiting.specs.Layout.{Empty};
-use crate::HEADS_AT;
 use crate::HEAD_WIDTH;
+use crate::HEADS_AT;
 
 // Makes a room of so many cells one in which nothing waits.
 pub fn clear(ws: &mut [u64], cells: usize)
