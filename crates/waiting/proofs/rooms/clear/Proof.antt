@@ -1,11 +1,11 @@
--- `waiting::clear` meets its contract: the cells passed are cleared. Assumes nothing.
+-- `waiting::rooms::clear` meets its contract: the cells passed are cleared. Assumes nothing.
 use Prim.Native.Nat.{_-_, _≤_}
 use native.Mathlib.Omega.{arith}
 use lib.ListN.{length-set}
 use Rattle.waiting.proofs.Clearing.{Cleared, cleared-counts, cleared-more, cleared-all}
 use borrow.Author.Needs.{needs}
-use Rattle.waiting.proofs.clear.Statement.{statement}
-use Rattle.waiting.proofs.clear.Tie as tie
+use Rattle.waiting.proofs.rooms.clear.Statement.{statement}
+use Rattle.waiting.proofs.rooms.clear.Tie as tie
 
 abbrev Inv-loop : tie.InvT-loop
 Inv-loop ws₀ cells k₀ ws k = (k ≤ cells) × Cleared k cells ws
