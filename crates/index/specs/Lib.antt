@@ -1,4 +1,5 @@
 -- Contexts and the index over lent areas: what an item does, the view of an area, and what the calls promise.
+pub mod Layout
 pub mod Steps
 pub mod Acts
 pub mod ItemLaws
