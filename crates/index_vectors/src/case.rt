@@ -3,6 +3,8 @@ ghost use Prim.Native.Nat.{_≤_, _<_};
 ghost use lib.ListN.{length};
 ghost use Rattle.contexts.specs.Contexts.{Wf};
 ghost use Rattle.index_vectors.specs.Reading.{movesOn, movesTo, outcomeMovesOn, outcomeMovesTo};
+use crate::fetches::all_fetched;
+use crate::fetches::plus;
 use groups::SLOTS;
 use index::Answer;
 use index::Position;
@@ -181,14 +183,6 @@ fn number_in(xs: &[u64], at: usize) -> u64 {
     xs[at]
 }
 
-// The sum, or the largest number.
-fn plus(a: u64, b: u64) -> u64 {
-    if u64::MAX - a < b {
-        return u64::MAX;
-    }
-    a + b
-}
-
 // The sum of the numbers at place j of the headers of all groups (stretch/specs/Stretch.antt).
 fn total(xs: &[u64], j: usize) -> u64
     requires { ⌜ j < 10 ⌝ }
@@ -225,11 +219,16 @@ fn lists_hold(xs: &[u64], tombstones: u64, cleaned: u64) -> bool {
 }
 
 // Whether an area holds as much as the first line of a call says, if it says so.
-fn holds_as(head: [u64; 12], xs: &[u64]) -> bool {
+fn holds_as(head: [u64; 12], xs: &[u64], bs: &[u8]) -> bool
+    requires { ⌜ Wf (now xs) (now bs) ⌝ }
+{
     if head[6] == 0 {
         return true;
     }
     if !groups_hold(xs, head[7], head[8], head[9]) {
+        return false;
+    }
+    if all_fetched(xs, bs) != head[8] {
         return false;
     }
     lists_hold(xs, head[10], head[11])
@@ -252,7 +251,7 @@ fn answers_as(
     if !is_expected(answer, head[1], head[2]) {
         return false;
     }
-    holds_as(head, xs)
+    holds_as(head, xs, bs)
 }
 
 // The same with the first numbers of the three slices.

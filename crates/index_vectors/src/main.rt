@@ -1,5 +1,6 @@
 // Replays the batches of data/index.txt into Append contexts, and writes how many answers are other than the Rust's.
 mod case;
+mod fetches;
 
 ghost use mathlib.Core.Path.{_≡_};
 ghost use lib.ListN.{length};

@@ -33,7 +33,9 @@ returns c =
     replay-append .ensures 0 .wf
 
 holds-as-requires : tie.Need-holds-as-requires
-holds-as-requires c κs = search needs
+holds-as-requires c κs =
+    let replay-append = c .before .before .before .before .before .before .before .before .replay-append in
+    replay-append .ensures 0 .wf
 
 same-length-3 : tie.Need-same-length-3
 same-length-3 c = search needs
@@ -43,7 +45,7 @@ same-length-4 c = search needs
 
 returns-2 : tie.Need-returns-2
 returns-2 c =
-    let replay-append = c .before .before .before .before .before .before .before .before .replay-append in
+    let replay-append = c .before .before .before .before .before .before .before .before .before .replay-append in
     replay-append .ensures 0 .wf
 
 pub answers-as-spec : {M : Type 1} → statement M
