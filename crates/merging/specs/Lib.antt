@@ -1,0 +1,3 @@
+-- Merge and join over areas: the groups that are staged, what the functions promise, and the laws.
+pub mod Staging
+pub mod StagingLaws

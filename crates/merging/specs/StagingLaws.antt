@@ -1,0 +1,173 @@
+-- The laws of what is staged: at the beginning nothing is, staging goes on number by number, and what a context is read from stays.
+-- Assumes nothing.
+use mathlib.Core.Bool.{Bool, true, false}
+use mathlib.Core.List.{List, [], _∷_, _++_}
+use mathlib.Core.Option.{Option, none, some}
+use mathlib.Core.Path.{_≡_, refl, sym, ap, _∙_}
+use Prim.Native.Nat.{ℕ, _+_, _*_, _≤_, _<_}
+use native.Mathlib.Nat.{add-zero}
+use native.Mathlib.Omega.{arith}
+use lib.Dec.{eqb}
+use lib.ListN.{length, take, drop, getD, length-drop}
+use borrow.Author.Tests.{ne-eqb, eqb-true}
+use Rattle.cells.specs.Part.{part}
+use Rattle.cells.specs.PartLaws.{getD-part, part-drop, part-of-front, part-of-back, shorter-front}
+use Rattle.rules.specs.Causes.{Result}
+use Rattle.rules.specs.Table.{Table}
+use Rattle.rules_by_group.specs.Stage.{Staged, noneStaged, stageAll}
+use Rattle.rules_by_group.specs.StageLaws.{stage-append}
+use Rattle.stretch.specs.Layout.{stretchWidth, bytesWidth}
+use Rattle.stretch.specs.Stretch.{isUsed}
+use Rattle.groups.specs.Area.{slots, numbersInUse, bytesInUse, stretchAt, bytesAt, cellAt, cells, groupsOf}
+use Rattle.groups.specs.Area as groups
+use Rattle.groups.specs.AreaLaws.{same-cellsBy, Same, same-groups, same-wf, same-stretch, same-bytes}
+use Rattle.groups.specs.Laws.{none-used, live-cells, cells-groups}
+use Rattle.groups.specs.Undo.{liveNumbers, liveBytes, markAt, undoneCells, Undoable, Undone}
+use Rattle.groups.specs.UndoLaws.{mark-is, undone-saved, undone-free, undone-are}
+use Rattle.merging.specs.declared.Flags.{Flags}
+use Rattle.merging.specs.Staging.{longNumbers, longBytes, between, betweenBytes, noFlags, stagedIn, Ready, Beside, Working, Staging, Begun}
+
+-- ---- spare stretch k is stretch k of what follows the stretches
+
+pub spare-stretch : (k : ℕ) (xs : List ℕ) → stretchAt k (drop liveNumbers xs) ≡ stretchAt (slots + k) xs
+unfolding stretchAt
+spare-stretch k xs =
+    let e : liveNumbers + k * stretchWidth ≡ (slots + k) * stretchWidth = omega arith in
+    part-drop (k * stretchWidth) stretchWidth liveNumbers xs ∙ rw e
+
+pub spare-bytes : (k : ℕ) (bs : List ℕ) → bytesAt k (drop liveBytes bs) ≡ bytesAt (slots + k) bs
+unfolding bytesAt
+spare-bytes k bs =
+    let e : liveBytes + k * bytesWidth ≡ (slots + k) * bytesWidth = omega arith in
+    part-drop (k * bytesWidth) bytesWidth liveBytes bs ∙ rw e
+
+pub spare-cell : (k : ℕ) (xs bs : List ℕ) → cellAt k (drop liveNumbers xs) (drop liveBytes bs) ≡ cellAt (slots + k) xs bs
+unfolding cellAt
+spare-cell k xs bs = rw (spare-stretch k xs, spare-bytes k bs)
+
+-- ---- all but the spare stretches and the long one
+
+pub beside-none : (xs bs : List ℕ) → Beside xs bs xs bs
+beside-none xs bs =
+    record { live = refl; live-bytes = refl; middle = refl; middle-bytes = refl; numbers-length = refl; bytes-length = refl }
+
+pub beside-then : {xs bs ys ds zs es : List ℕ} → Beside xs bs ys ds → Beside ys ds zs es → Beside xs bs zs es
+beside-then a b =
+    record {
+      live = b .live ∙ a .live;
+      live-bytes = b .live-bytes ∙ a .live-bytes;
+      middle = b .middle ∙ a .middle;
+      middle-bytes = b .middle-bytes ∙ a .middle-bytes;
+      numbers-length = b .numbers-length ∙ a .numbers-length;
+      bytes-length = b .bytes-length ∙ a .bytes-length;
+    }
+
+pub working-none : (xs bs : List ℕ) → Working xs bs xs bs
+working-none xs bs = record { front = refl; front-bytes = refl; numbers-length = refl; bytes-length = refl }
+
+pub working-then : {xs bs ys ds zs es : List ℕ} → Working xs bs ys ds → Working ys ds zs es → Working xs bs zs es
+working-then a b =
+    record {
+      front = b .front ∙ a .front;
+      front-bytes = b .front-bytes ∙ a .front-bytes;
+      numbers-length = b .numbers-length ∙ a .numbers-length;
+      bytes-length = b .bytes-length ∙ a .bytes-length;
+    }
+
+module _ {xs bs xs′ bs′ : List ℕ} (w : Working xs bs xs′ bs′) where
+  pub working-beside : Beside xs bs xs′ bs′
+  unfolding between betweenBytes
+  working-beside =
+      record {
+        live = shorter-front liveNumbers longNumbers xs′ xs (omega arith) (w .front);
+        live-bytes = shorter-front liveBytes longBytes bs′ bs (omega arith) (w .front-bytes);
+        middle = part-of-front 9376 5879 longNumbers xs′ xs (w .front) (omega arith);
+        middle-bytes = part-of-front 16384 16384 longBytes bs′ bs (w .front-bytes) (omega arith);
+        numbers-length = w .numbers-length;
+        bytes-length = w .bytes-length;
+      }
+
+  -- every stretch and spare stretch is as it was
+  pub working-same : (j : ℕ) → j < 16 → Same j xs′ bs′ xs bs
+  working-same j l =
+      record {
+        numbers = same-stretch j longNumbers xs′ xs (omega arith) (w .front);
+        bytes = same-bytes j longBytes bs′ bs (omega arith) (w .front-bytes);
+      }
+
+  spares-same : (j : ℕ) → j < slots → Same j (drop liveNumbers xs) (drop liveBytes bs) (drop liveNumbers xs′) (drop liveBytes bs′)
+  spares-same j l =
+      let s = working-same (slots + j) (omega arith) in
+      record {
+        numbers = spare-stretch j xs ∙ sym (s .numbers) ∙ sym (spare-stretch j xs′);
+        bytes = spare-bytes j bs ∙ sym (s .bytes) ∙ sym (spare-bytes j bs′);
+      }
+
+  -- what is staged is as it was
+  pub working-staged : (f : Flags) → stagedIn f xs′ bs′ ≡ stagedIn f xs bs
+  unfolding stagedIn
+  working-staged f = rw (same-groups spares-same)
+
+  pub working-ready : Ready xs bs → Ready xs′ bs′
+  working-ready r =
+      let a = r .staged .numbers-fit in
+      let b = r .staged .bytes-fit in
+      let m = w .numbers-length in
+      let n = w .bytes-length in
+      record {
+        staged = same-wf spares-same (r .staged) (rw (length-drop liveNumbers xs′, m, ← length-drop liveNumbers xs) a) (rw (length-drop liveBytes bs′, n, ← length-drop liveBytes bs) b);
+        marked = λ k l z. r .marked k l (mark-is k xs ∙ ap (λ (p : List ℕ). getD p 0 0) (sym (working-same (slots + k) (omega arith) .numbers)) ∙ sym (mark-is k xs′) ∙ z);
+      }
+
+-- ---- nothing is staged
+
+module _ (xs bs xs′ : List ℕ) (p : liveNumbers + numbersInUse ≤ length xs) (q : liveBytes + bytesInUse ≤ length bs) (b : Begun slots xs xs′) where
+  no-group : (k : ℕ) → k < slots → isUsed (stretchAt k (drop liveNumbers xs′)) ≡ false
+  unfolding isUsed
+  no-group k l = rw (spare-stretch k xs′, ← mark-is k xs′, b .marks k l)
+
+  none-there : groups.Wf (drop liveNumbers xs′) (drop liveBytes bs) × (groupsOf (drop liveNumbers xs′) (drop liveBytes bs) ≡ [])
+  none-there =
+      let e = b .length-is in
+      none-used (drop liveNumbers xs′) (drop liveBytes bs) (rw (length-drop liveNumbers xs′) (omega arith)) (rw (length-drop liveBytes bs) (omega arith)) no-group
+
+  pub begun-staged : stagedIn noFlags xs′ bs ≡ noneStaged
+  unfolding stagedIn noneStaged
+  begun-staged = rw (none-there .1)
+
+  pub begun-ready : Ready xs′ bs
+  begun-ready = record { staged = none-there .0; marked = λ k l z. omega (arith, b .marks k l, z) }
+
+  pub begun-beside : Beside xs bs xs′ bs
+  unfolding between betweenBytes
+  begun-beside =
+      record {
+        live = b .live;
+        live-bytes = refl;
+        middle = part-of-back 9376 5879 numbersInUse xs′ xs (b .behind) (omega arith);
+        middle-bytes = refl;
+        numbers-length = b .length-is;
+        bytes-length = refl;
+      }
+
+-- ---- one number after the other
+
+module _ (at : ℕ → Result (Option Table)) where
+  pub staging-none : (f : Flags) (xs bs : List ℕ) → Ready xs bs → Staging at [] f xs bs f xs bs
+  unfolding stageAll
+  staging-none f xs bs r = record { staged = refl; ready = r; beside = beside-none xs bs }
+
+  pub staging-then : (gs hs : List ℕ) (f g h : Flags) (xs bs ys ds zs es : List ℕ) → Staging at gs f xs bs g ys ds → Staging at hs g ys ds h zs es → Staging at (gs ++ hs) f xs bs h zs es
+  staging-then gs hs f g h xs bs ys ds zs es a b =
+      record {
+        staged = b .staged ∙ ap (stageAll at hs) (a .staged) ∙ sym (stage-append at gs hs (stagedIn f xs bs));
+        ready = b .ready;
+        beside = beside-then (a .beside) (b .beside);
+      }
+
+-- ---- the staged groups become the groups
+
+module _ (xs bs : List ℕ) (r : Ready xs bs) where
+  -- a spare stretch that is not marked as holding a group holds none
+  undone-spare : (k : ℕ) → k < slots → cellAt k (drop liveNumbers xs) (drop liveBytes bs) ≡ cellAt (slots + k) xs bs
+  undone-spare k l = spare-cell k xs bs
