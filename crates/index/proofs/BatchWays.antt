@@ -18,12 +18,12 @@ use Rattle.rules.specs.Items.{LogItem, Call, placedFrom}
 use Rattle.rules.specs.Context.{limited, run}
 use Rattle.log_batch.specs.Lent.{rowCount, itemAt, itemsOf}
 use Rattle.stretch.specs.declared.Outcome.the-variants.{Done, Refused}
-use Rattle.index.specs.declared.Answer.the-variants as answer
-use Rattle.index.specs.declared.Position.the-variants as position
-use Rattle.index.specs.Contexts.{contextOf, Wf, answerAs, positionOf, Called}
+use Rattle.contexts.specs.declared.Answer.the-variants as answer
+use Rattle.contexts.specs.declared.Position.the-variants as position
+use Rattle.contexts.specs.Contexts.{contextOf, Wf, answerAs, positionOf, Called}
 use Rattle.index.specs.Runs.{Stepped, Going, WentBack}
 use Rattle.index.specs.BatchLaws.{begun-wf, begun-context, begun-going, going-on, gone-back, runFrom, run-start, run-end, run-done, run-refused}
-use Rattle.index.proofs.GrowthLaws.{before-back, behind-back}
+use Rattle.contexts.specs.AreaLaws.{before-back, behind-back}
 
 pub went-back : (t n : ℕ) (xs bs ys ds s : List ℕ) → lists.Wf (cutTo t n (drop 9376 xs)) (drop 16384 bs) → Undone xs bs ys ds → s ≡ cutTo t n (take (length ys - 9376) (drop 9376 ys)) → WentBack t n xs bs (putMid 9376 (length ys - 9376) ys s) ds
 went-back t n xs bs ys ds s w u e =
@@ -87,14 +87,3 @@ module _ (c : Call) (items es bs : List ℕ) (n : ℕ) where
   under-all t m ys ds i xs fs u l xs₁ bs₁ e q =
       let r = sym (run-end c items es bs n i (contextOf xs fs) l) ∙ u .rest ∙ run-start c items es bs n (contextOf ys ds) q ∙ ap (run limited c (placedFrom 0 (itemsOf items es bs))) e in
       record { answers = r; leaves = ap (left (contextOf xs₁ bs₁)) r; wf = u .wf }
-
--- ---- the lengths of an area
-
-pub area-length : (xs bs : List ℕ) → Wf xs bs → length xs ≡ 17152
-area-length xs bs w = omega (arith, w .groups .numbers-fit, w .rest .numbers-are, length-drop 9376 xs)
-
-pub area-bytes : (xs bs : List ℕ) → Wf xs bs → length bs ≡ 38912
-area-bytes xs bs w = omega (arith, w .groups .bytes-fit, w .rest .bytes-are, length-drop 16384 bs)
-
-pub same-lengths : {a b n : ℕ} → a ≡ n → b ≡ n → a ≡ b
-same-lengths p q = p ∙ sym q

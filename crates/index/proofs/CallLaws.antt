@@ -16,10 +16,10 @@ use Rattle.rules.specs.Calls.{checked, runBatch, replayBatch, replay, write, ap
 use Rattle.log_batch.specs.Lent.{itemsOf, batchOf}
 use Rattle.lists.specs.Rest.{kindOf}
 use Rattle.lists.specs.Laws.{rest-kind}
-use Rattle.index.specs.declared.Answer.{Answer}
-use Rattle.index.specs.declared.Answer.the-variants as answer
-use Rattle.index.specs.declared.Position.the-variants as position
-use Rattle.index.specs.Contexts.{contextOf, Wf, answerAs, positionOf, Called}
+use Rattle.contexts.specs.declared.Answer.{Answer}
+use Rattle.contexts.specs.declared.Answer.the-variants as answer
+use Rattle.contexts.specs.declared.Position.the-variants as position
+use Rattle.contexts.specs.Contexts.{contextOf, Wf, answerAs, positionOf, Called}
 
 -- a call that refuses at once
 pub refused-called : (to : Context → Result Context) (xs bs : List ℕ) (r : Answer) (f : Refusal) → Wf xs bs → to (contextOf xs bs) ≡ refused f → answerAs r (contextOf xs bs) ≡ refused f → Called to xs bs r xs bs
@@ -91,5 +91,5 @@ module _ (xs bs : List ℕ) (k : Kind) (e : k ≡ kindOf (getD (take (length xs 
           same-called _ (writes-it (liveRewrite gate (file .seq)) file items es ds xs bs) xs bs r ys fs (rw (kind-is, y)) c
 
 -- the numbers behind the groups begin with the kind
-pub zero-below : (l : List ℕ) → length l ≡ 7776 → 0 < length l
+pub zero-below : (l : List ℕ) → length l ≡ 9601 → 0 < length l
 zero-below l e = omega arith

@@ -16,6 +16,7 @@ use Rattle.log_batch.specs.declared.item.LogItem as lent
 use Rattle.lists.specs.Rest.{restOf, Wf}
 use Rattle.lists.specs.Calls.{TombstoneAdded, CleanedAdded}
 use Rattle.lists.specs.Laws.{lengths, keeps-all, keeps-then}
+use Rattle.contexts.specs.AreaLaws.{before-back, behind-back}
 use Rattle.index.specs.Steps.{oneMoreIf, roomIf}
 use Rattle.index.specs.Growth.{listsWith, RoomFor, ListsGrown, AreaGrown}
 
@@ -85,16 +86,6 @@ module _ (it : LogItem) (ys cs : List ℕ) where
           }
 
 -- ---- the area
-
--- what is lent from a on comes back behind what lies before it
-pub before-back : (a : ℕ) (d s : List ℕ) → a ≤ length d → take a (putMid a (length d - a) d s) ≡ take a d
-before-back a d s h = take-at (take a d) _ a (length-take-le a d h)
-
-pub behind-back : (a : ℕ) (d s : List ℕ) → a ≤ length d → drop a (putMid a (length d - a) d s) ≡ s
-behind-back a d s h =
-    drop-at (take a d) _ a (length-take-le a d h)
-    ∙ ap (λ (l : List ℕ). s ++ l) (rw (← length-drop a d) (drop-length (drop a d)))
-    ∙ append-nil s
 
 -- an area has its groups before the lists
 pub numbers-before : (xs bs : List ℕ) → Wf (drop 9376 xs) (drop 16384 bs) → 9376 ≤ length xs

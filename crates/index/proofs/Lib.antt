@@ -1,5 +1,4 @@
 -- The laws that the functions' proofs cite.
 pub mod GrowthLaws
-pub mod ContextLaws
 pub mod BatchWays
 pub mod CallLaws

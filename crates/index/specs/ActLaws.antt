@@ -18,8 +18,9 @@ use Rattle.groups.specs.Calls.{onGroup, ChangedGroup, RemovedGroup}
 use Rattle.groups.specs.Undo.{Undoable, Securing}
 use Rattle.groups.specs.Laws.{live-found, slot-behind, left-undone, secured-undone}
 use Rattle.stretch.specs.declared.Change.{Change}
-use Rattle.index.specs.declared.Deed as deed
-use Rattle.index.specs.Acts.{deedOn, DeedReady, UndoKept, BehindKept, SecuredUnless, Acted}
+use Rattle.deeds.specs.declared.Deed as deed
+use Rattle.index.specs.Acts.{deedOn, UndoKept, BehindKept, SecuredUnless, Acted}
+use Rattle.deeds.specs.Deeds.{DeedReady}
 
 -- nothing is secured where no item follows
 pub unsecured : (last : Bool) (slot : Slot) (xs bs : List ℕ) → last ≡ true → Wf xs bs → Undoable xs bs → SecuredUnless last slot xs bs xs bs

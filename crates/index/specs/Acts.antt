@@ -9,25 +9,19 @@ use Rattle.rules.specs.Causes.{Result, ok}
 use Rattle.rules.specs.Table.{Table}
 use Rattle.stretch.specs.declared.Outcome.{Outcome}
 use Rattle.stretch.specs.declared.Outcome.the-variants.{Refused}
-use Rattle.stretch.specs.Changes.{outcomeAs, ruleOf, Ready}
+use Rattle.stretch.specs.Changes.{outcomeAs, ruleOf}
 use Rattle.groups.specs.declared.Slot.{Slot}
 use Rattle.groups.specs.Area.{numbersInUse, bytesInUse, cells, groupsOf}
 use Rattle.groups.specs.Area as groups
 use Rattle.groups.specs.Calls.{onGroup}
 use Rattle.groups.specs.Undo.{liveNumbers, undoneCells, Undoable, Secured}
-use Rattle.index.specs.declared.Deed as deed
+use Rattle.deeds.specs.declared.Deed as deed
 
 -- what a deed does to the groups
 unfoldable pub deedOn : deed.Deed → ℕ → List ℕ → List ℕ → List ℕ → Map ℕ Table → Result (Map ℕ Table)
 deedOn deed.the-variants.Skip g rows key value m = ok m
 deedOn deed.the-variants.Clean g rows key value m = ok (remove numbers g m)
 deedOn (deed.the-variants.Change ch) g rows key value m = onGroup (ruleOf ch rows key value) g m
-
--- what a deed asks of what is lent with it
-unfoldable pub DeedReady : deed.Deed → List ℕ → List ℕ → List ℕ → Table → Type 0
-DeedReady deed.the-variants.Skip rows key value t = Unit {0}
-DeedReady deed.the-variants.Clean rows key value t = Unit {0}
-DeedReady (deed.the-variants.Change ch) rows key value t = Ready ch rows key value t
 
 -- what the stretches go back to is as it was
 pub record UndoKept (xs bs xs′ bs′ : List ℕ) : Type 0 where

@@ -27,8 +27,8 @@ use Rattle.lists.specs.Rest.{restOf, cutTo}
 use Rattle.lists.specs.Rest as lists
 use Rattle.lists.specs.Laws.{back-now}
 use Rattle.groups.specs.Laws.{front-groups, front-wf}
-use Rattle.index.specs.DeedLaws.{passed-clear}
-use Rattle.index.specs.Contexts.{contextOf, Wf}
+use Rattle.deeds.specs.DeedLaws.{passed-clear}
+use Rattle.contexts.specs.Contexts.{contextOf, Wf}
 use Rattle.index.specs.Runs.{ItemReady, backTo, BackKept, Going, WentBack}
 
 -- ---- an item of a batch that passed the checks

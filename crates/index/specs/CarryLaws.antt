@@ -18,13 +18,14 @@ use Rattle.stretch.specs.declared.Outcome.the-variants.{Done, Refused}
 use Rattle.groups.specs.Area.{numbersInUse, bytesInUse, groupsOf}
 use Rattle.groups.specs.Undo.{Undoable}
 use Rattle.lists.specs.Rest as lists
-use Rattle.index.specs.declared.Deed as deed
+use Rattle.deeds.specs.declared.Deed as deed
 use Rattle.index.specs.Steps.{addsTombstone, addsCleaned, roomIf, listsHaveRoom}
-use Rattle.index.specs.Deeds.{rowsIn, keyIn, valueIn, deedOf}
-use Rattle.index.specs.DeedLaws.{DeedSays, deed-says}
-use Rattle.index.specs.Acts.{deedOn, DeedReady, Acted}
+use Rattle.deeds.specs.Deeds.{rowsIn, keyIn, valueIn, deedOf}
+use Rattle.deeds.specs.DeedLaws.{DeedSays, deed-says}
+use Rattle.index.specs.Acts.{deedOn, Acted}
+use Rattle.deeds.specs.Deeds.{DeedReady}
 use Rattle.index.specs.ItemLaws.{deed-ready}
-use Rattle.index.specs.Contexts.{contextOf, Wf}
+use Rattle.contexts.specs.Contexts.{contextOf, Wf}
 use Rattle.index.specs.Growth.{RoomFor, AreaGrown}
 use Rattle.index.specs.GrowthLaws.{room-is, no-entries}
 use Rattle.index.specs.Runs.{ItemReady, Stepped}

@@ -14,10 +14,11 @@ use Rattle.rules.specs.Items.{LogItem, Call, isTombstone}
 use Rattle.rules.specs.Table.{Table, made}
 use Rattle.rules.specs.Context.{Context, withGroups, fits, limited, keeps, step}
 use Rattle.stretch.specs.Changes.{ruleOf}
-use Rattle.index.specs.declared.Deed as deed
+use Rattle.deeds.specs.declared.Deed as deed
 use Rattle.index.specs.Steps.{addsTombstone, addsCleaned, grown, roomIf, listsHaveRoom, step-skip, step-clean, step-change, step-full}
-use Rattle.index.specs.Acts.{deedOn, DeedReady}
-use Rattle.index.specs.DeedLaws.{OnlyRewrite, DeedSays}
+use Rattle.index.specs.Acts.{deedOn}
+use Rattle.deeds.specs.Deeds.{DeedReady}
+use Rattle.deeds.specs.DeedLaws.{OnlyRewrite, DeedSays}
 
 -- a list without room is one that the item adds to
 adds-to : (b : Bool) (n most : ℕ) → roomIf b n most ≡ false → b ≡ true

@@ -1,10 +1,7 @@
 -- Contexts and the index over lent areas: what an item does, the view of an area, and what the calls promise.
 pub mod Steps
-pub mod Deeds
-pub mod DeedLaws
 pub mod Acts
 pub mod ItemLaws
-pub mod Contexts
 pub mod Runs
 pub mod Growth
 pub mod ActLaws

@@ -21,13 +21,13 @@ use Rattle.lists.specs.Rest.{tombstonesIn, cleanedIn, restOf}
 use Rattle.lists.specs.Rest as lists
 use Rattle.lists.specs.Calls.{Keeps}
 use Rattle.lists.specs.Laws.{lengths, keeps-all, keeps-then}
-use Rattle.index.specs.declared.Deed as deed
+use Rattle.deeds.specs.declared.Deed as deed
 use Rattle.index.specs.Steps.{addsTombstone, addsCleaned, grown, listsHaveRoom}
 use Rattle.index.specs.Acts.{deedOn, BehindKept, Acted}
 use Rattle.index.specs.ActLaws.{done-not-refused}
-use Rattle.index.specs.DeedLaws.{DeedSays}
+use Rattle.deeds.specs.DeedLaws.{DeedSays}
 use Rattle.index.specs.ItemLaws.{step-room, step-no-room}
-use Rattle.index.specs.Contexts.{contextOf, Wf}
+use Rattle.contexts.specs.Contexts.{contextOf, Wf}
 use Rattle.index.specs.Growth.{listsWith, AreaGrown}
 use Rattle.index.specs.Runs.{BackKept, Stepped}
 

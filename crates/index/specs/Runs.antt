@@ -21,8 +21,8 @@ use Rattle.lists.specs.Rest.{restOf, cutTo}
 use Rattle.lists.specs.Rest as lists
 use Rattle.lists.specs.Calls.{Keeps}
 use Rattle.index.specs.Acts.{UndoKept}
-use Rattle.index.specs.Contexts.{contextOf, Wf}
-use Rattle.index.specs.DeedLaws.{Clear}
+use Rattle.contexts.specs.Contexts.{contextOf, Wf}
+use Rattle.deeds.specs.DeedLaws.{Clear}
 
 -- what is known of an item of a batch that passed the checks
 pub record ItemReady (c : Call) (it : lent.LogItem) (es bs : List ℕ) : Type 0 where

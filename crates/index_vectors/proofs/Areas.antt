@@ -4,10 +4,10 @@ use mathlib.Core.Path.{_≡_}
 use Prim.Native.Nat.{ℕ}
 use native.Mathlib.Omega.{arith}
 use lib.ListN.{length, length-drop}
-use Rattle.index.specs.Contexts.{Wf}
+use Rattle.contexts.specs.Contexts.{Wf}
 
 -- what stands behind the groups has a fixed length, and so have the groups
-pub lengths-are : (xs bs : List ℕ) → Wf xs bs → (length xs ≡ 17152) × (length bs ≡ 38912)
+pub lengths-are : (xs bs : List ℕ) → Wf xs bs → (length xs ≡ 18977) × (length bs ≡ 43008)
 lengths-are xs bs w =
     let numbers = w .rest .numbers-are in
     let bytes = w .rest .bytes-are in

@@ -1,7 +1,7 @@
 // A call of the file: a line that names it, a line of twelve numbers, and the numbers of the three slices.
 ghost use Prim.Native.Nat.{_≤_, _<_};
 ghost use lib.ListN.{length};
-ghost use Rattle.index.specs.Contexts.{Wf};
+ghost use Rattle.contexts.specs.Contexts.{Wf};
 ghost use Rattle.index_vectors.specs.Reading.{movesOn, movesTo, outcomeMovesOn, outcomeMovesTo};
 use groups::SLOTS;
 use index::Answer;

@@ -45,7 +45,7 @@ no-tombstones : (a : Area) → storeItems (storeOf 0) a ≡ []
 unfolding storeItems itemsFrom
 no-tombstones a = refl
 
-none-stored : (ys cs : List ℕ) → length ys ≡ 7776 → length cs ≡ 22528 → Stored (storeOf 0) (tombstoneArea ys cs)
+none-stored : (ys cs : List ℕ) → length ys ≡ 9601 → length cs ≡ 26624 → Stored (storeOf 0) (tombstoneArea ys cs)
 unfolding entriesBefore
 none-stored ys cs e f =
     record {
@@ -56,7 +56,7 @@ none-stored ys cs e f =
       total = refl;
     }
 
-module _ (ys cs : List ℕ) (e : length ys ≡ 7776) (f : length cs ≡ 22528) (q : rules.LogQueue) (k : getD ys 0 0 ≡ queueNumber q) (t : getD ys 1 0 ≡ 0) (n : getD ys 2 0 ≡ 0) where
+module _ (ys cs : List ℕ) (e : length ys ≡ 9601) (f : length cs ≡ 26624) (q : rules.LogQueue) (k : getD ys 0 0 ≡ queueNumber q) (t : getD ys 1 0 ≡ 0) (n : getD ys 2 0 ≡ 0) where
   -- lists of no elements are a fresh context's
   fresh-lists : Fresh q ys cs
   unfolding fresh
@@ -74,12 +74,12 @@ module _ (ys cs : List ℕ) (e : length ys ≡ 7776) (f : length cs ≡ 22528) (
             };
       }
 
-pub cleared : (ys : List ℕ) (q : rules.LogQueue) (k : ℕ) → length ys ≡ 7776 → k ≡ queueNumber q → (cs : List ℕ) → length cs ≡ 22528 → Fresh q (set (set (set ys 0 k) 1 0) 2 0) cs
+pub cleared : (ys : List ℕ) (q : rules.LogQueue) (k : ℕ) → length ys ≡ 9601 → k ≡ queueNumber q → (cs : List ℕ) → length cs ≡ 26624 → Fresh q (set (set (set ys 0 k) 1 0) 2 0) cs
 cleared ys q k e f cs h =
     let a = set ys 0 k in
     let b = set a 1 0 in
-    let la : length a ≡ 7776 = length-set ys 0 k ∙ e in
-    let lb : length b ≡ 7776 = length-set a 1 0 ∙ la in
+    let la : length a ≡ 9601 = length-set ys 0 k ∙ e in
+    let lb : length b ≡ 9601 = length-set a 1 0 ∙ la in
     fresh-lists (set b 2 0) cs (length-set b 2 0 ∙ lb) h q
     (getD-set-other b 2 0 0 0 (λ z. omega arith) ∙ getD-set-other a 1 0 0 0 (λ z. omega arith) ∙ getD-set-same ys 0 k 0 (omega arith) ∙ f)
     (getD-set-other b 2 1 0 0 (λ z. omega arith) ∙ getD-set-same a 1 0 0 (omega arith))
@@ -87,7 +87,7 @@ cleared ys q k e f cs h =
 
 -- ---- add_cleaned
 
-module _ (ys : List ℕ) (g : ℕ) (e : length ys ≡ 7776) (h : getD ys 2 0 < 64) (cs : List ℕ) (w : Wf ys cs) where
+module _ (ys : List ℕ) (g : ℕ) (e : length ys ≡ 9601) (h : getD ys 2 0 < 64) (cs : List ℕ) (w : Wf ys cs) where
   abbrev count : ℕ
   count = getD ys 2 0
 
@@ -97,7 +97,7 @@ module _ (ys : List ℕ) (g : ℕ) (e : length ys ≡ 7776) (h : getD ys 2 0 < 6
   abbrev after : List ℕ
   after = set numbered 2 (count + 1)
 
-  number-length : length numbered ≡ 7776
+  number-length : length numbered ≡ 9601
   number-length = length-set ys (3 + count) g ∙ e
 
   kind-stays : getD after 0 0 ≡ getD ys 0 0
@@ -121,7 +121,7 @@ module _ (ys : List ℕ) (g : ℕ) (e : length ys ≡ 7776) (h : getD ys 2 0 < 6
   now-cleaned : part 3 (count + 1) after ≡ cleanedIn ys ++ (g ∷ [])
   unfolding cleanedIn
   now-cleaned =
-      let l : length after ≡ 7776 = length-set numbered 2 (count + 1) ∙ number-length in
+      let l : length after ≡ 9601 = length-set numbered 2 (count + 1) ∙ number-length in
       sym (part-snoc 3 count after 0 (omega arith)) ∙ rw (earlier-stay, new-numbered)
 
   area-stays : tombstoneArea after cs ≡ tombstoneArea ys cs
@@ -172,7 +172,7 @@ no-elements [] e = refl
 no-elements (x ∷ l) e = absurd (omega arith)
 
 -- there is a row for one more, and it has no entries
-pub tombstone-room : (ys : List ℕ) (k : ℕ) → length ys ≡ 7776 → getD ys 1 0 < 64 → k ≡ 0 → hasRoom k (storeOf (getD ys 1 0)) (length (take 576 (drop 67 ys))) 0 ≡ true
+pub tombstone-room : (ys : List ℕ) (k : ℕ) → length ys ≡ 9601 → getD ys 1 0 < 64 → k ≡ 0 → hasRoom k (storeOf (getD ys 1 0)) (length (take 576 (drop 67 ys))) 0 ≡ true
 unfolding hasRoom part
 tombstone-room ys k e h z =
     let l : length (take 576 (drop 67 ys)) ≡ 576 = length-part 67 576 ys (omega arith) in
@@ -196,7 +196,7 @@ module _ (ys cs xs bs : List ℕ) (it : rules.LogItem) (w : Wf ys cs) (a : Added
   unfolding tombstoneArea
   length-bytes = let n = w .bytes-are in a .sized .places ∙ length-part 0 4096 cs (omega arith)
 
-  length-laid : length laid ≡ 7776
+  length-laid : length laid ≡ 9601
   length-laid = let n = w .numbers-are in let l = length-rows in length-put ys 67 xs (omega arith) ∙ n
 
   before-rows : (i : ℕ) → i ≢ 1 → i < 67 → getD told i 0 ≡ getD ys i 0

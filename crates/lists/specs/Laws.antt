@@ -55,8 +55,8 @@ lengths ys cs w =
 
 -- ---- a cut writes the two counts, and leaves all else
 
-module _ (t n : ℕ) (ys : List ℕ) (e : length ys ≡ 7776) where
-  pub length-cut : length (cutTo t n ys) ≡ 7776
+module _ (t n : ℕ) (ys : List ℕ) (e : length ys ≡ 9601) where
+  pub length-cut : length (cutTo t n ys) ≡ 9601
   unfolding cutTo
   length-cut = length-put ys 1 (t ∷ n ∷ []) (omega arith) ∙ e
 

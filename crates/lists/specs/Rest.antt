@@ -14,10 +14,10 @@ use Rattle.stores.specs.Stores.{Area, area, storeItems, Stored}
 
 -- the lengths that an area has behind its groups
 abbrev pub restNumbers : ℕ
-restNumbers = 7776
+restNumbers = 9601
 
 abbrev pub restBytes : ℕ
-restBytes = 22528
+restBytes = 26624
 
 -- 0 an Append context, 1 a Rewrite context, otherwise the index
 unfoldable pub kindOf : ℕ → Kind

@@ -12,9 +12,9 @@ use pipe_log::LogQueue;
 use stores::Store;
 
 // The lengths that an area has behind its groups.
-pub const NUMBERS: usize = 7776;
+pub const NUMBERS: usize = 9601;
 
-pub const BYTES: usize = 22528;
+pub const BYTES: usize = 26624;
 
 // The limits of the lists.
 pub const MAX_TOMBSTONES: usize = 64;
@@ -62,8 +62,8 @@ pub fn kind_in(ys: &[u64]) -> Kind
 
 // Makes the lists those of a fresh context.
 pub fn clear(ys: &mut [u64], queue: LogQueue)
-    requires { ⌜ length (now ys) ≡ 7776 ⌝ }
-    ensures { λ _. ⌜ ((cs : List ℕ) → length cs ≡ 22528 → Fresh queue (now (ys .exit)) cs) ⌝ }
+    requires { ⌜ length (now ys) ≡ 9601 ⌝ }
+    ensures { λ _. ⌜ ((cs : List ℕ) → length cs ≡ 26624 → Fresh queue (now (ys .exit)) cs) ⌝ }
 {
     ys[KIND_AT] = queue.to_u64();
     ys[TOMBSTONES_AT] = 0;
@@ -72,7 +72,7 @@ pub fn clear(ys: &mut [u64], queue: LogQueue)
 
 // The numbers of elements that the lists have.
 pub fn counts_in(ys: &[u64]) -> Counts
-    requires { ⌜ length (now ys) ≡ 7776 ⌝ }
+    requires { ⌜ length (now ys) ≡ 9601 ⌝ }
     ensures { λ r. ⌜ (r .tombstones ≡ getD (now (ys .entry)) 1 0) × (r .cleaned ≡ getD (now (ys .entry)) 2 0) ⌝ }
 {
     Counts {
@@ -83,7 +83,7 @@ pub fn counts_in(ys: &[u64]) -> Counts
 
 // Cuts the lists back to numbers of elements that they had.
 pub fn cut(ys: &mut [u64], counts: Counts)
-    requires { ⌜ length (now ys) ≡ 7776 ⌝ }
+    requires { ⌜ length (now ys) ≡ 9601 ⌝ }
     ensures { λ _. ⌜ now (ys .exit) ≡ cutTo (counts .tombstones) (counts .cleaned) (now (ys .entry)) ⌝ }
 {
     ys[TOMBSTONES_AT] = counts.tombstones as u64;
@@ -121,7 +121,7 @@ pub fn add_tombstone(ys: &mut [u64], cs: &mut [u8], item: LogItem, entries: &[u6
 
 // Adds a cleaned number, for which there is room.
 pub fn add_cleaned(ys: &mut [u64], group: u64)
-    requires { ⌜ length (now ys) ≡ 7776 ⌝ }
+    requires { ⌜ length (now ys) ≡ 9601 ⌝ }
     requires { ⌜ getD (now ys) 2 0 < 64 ⌝ }
     ensures { λ _. ⌜ ((cs : List ℕ) → Wf (now (ys .entry)) cs → CleanedAdded group (now (ys .entry)) cs (now (ys .exit))) ⌝ }
 {

@@ -3,7 +3,7 @@ use mathlib.Core.Path.{_≡_, sym, _∙_}
 use Prim.Native.Nat.{_-_, _≤_}
 use native.Mathlib.Omega.{arith}
 use lib.ListN.{length}
-use Rattle.index.specs.Contexts.{Wf}
+use Rattle.contexts.specs.Contexts.{Wf}
 use Rattle.index_vectors.proofs.Areas.{lengths-are}
 use borrow.Author.Needs.{needs}
 use Rattle.index_vectors.proofs.compare_all.Statement.{statement}

@@ -2,8 +2,9 @@
 use Prim.Native.Nat.{_-_}
 use borrow.Rule.Slice.PartAt.{part-to-end}
 use Rattle.log_batch.specs.Judged.{callOf}
+use Rattle.contexts.specs.AreaLaws.{area-length, area-bytes, same-lengths}
 use Rattle.index.specs.BatchLaws.{begun-context}
-use Rattle.index.proofs.BatchWays.{Under, under-start, under-more, under-back, under-refused, under-all, area-length, area-bytes, same-lengths}
+use Rattle.index.proofs.BatchWays.{Under, under-start, under-more, under-back, under-refused, under-all}
 use borrow.Author.Needs.{needs}
 use Rattle.index.proofs.batches.run_items.Statement.{statement}
 use Rattle.index.proofs.batches.run_items.Tie as tie
