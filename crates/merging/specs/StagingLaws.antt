@@ -9,9 +9,10 @@ use native.Mathlib.Nat.{add-zero}
 use native.Mathlib.Omega.{arith}
 use lib.Dec.{eqb}
 use lib.ListN.{length, take, drop, getD, length-drop}
-use borrow.Author.Tests.{ne-eqb, eqb-true}
+use borrow.Author.Tests.{eqb-true, eqb-false}
 use Rattle.cells.specs.Part.{part}
 use Rattle.cells.specs.PartLaws.{getD-part, part-drop, part-of-front, part-of-back, shorter-front}
+use Rattle.maps.specs.OrderLaws.{split}
 use Rattle.rules.specs.Causes.{Result}
 use Rattle.rules.specs.Table.{Table}
 use Rattle.rules_by_group.specs.Stage.{Staged, noneStaged, stageAll}
@@ -20,9 +21,9 @@ use Rattle.stretch.specs.Layout.{stretchWidth, bytesWidth}
 use Rattle.stretch.specs.Stretch.{isUsed}
 use Rattle.groups.specs.Area.{slots, numbersInUse, bytesInUse, stretchAt, bytesAt, cellAt, cells, groupsOf}
 use Rattle.groups.specs.Area as groups
-use Rattle.groups.specs.AreaLaws.{same-cellsBy, Same, same-groups, same-wf, same-stretch, same-bytes}
-use Rattle.groups.specs.Laws.{none-used, live-cells, cells-groups}
-use Rattle.groups.specs.Undo.{liveNumbers, liveBytes, markAt, undoneCells, Undoable, Undone}
+use Rattle.groups.specs.AreaLaws.{Same, same-groups, same-wf, same-stretch, same-bytes}
+use Rattle.groups.specs.Laws.{none-used, free-cell, cells-groups}
+use Rattle.groups.specs.Undo.{liveNumbers, liveBytes, markAt, undoneCell, undoneCells, Undoable, Undone}
 use Rattle.groups.specs.UndoLaws.{mark-is, undone-saved, undone-free, undone-are}
 use Rattle.merging.specs.declared.Flags.{Flags}
 use Rattle.merging.specs.Staging.{longNumbers, longBytes, between, betweenBytes, noFlags, stagedIn, Ready, Beside, Working, Staging, Begun}
@@ -165,9 +166,45 @@ module _ (at : ℕ → Result (Option Table)) where
         beside = beside-then (a .beside) (b .beside);
       }
 
+-- ---- the work on a group comes before
+
+pub working-staging : (at : ℕ → Result (Option Table)) (gs : List ℕ) (f r : Flags) (xs bs ys ds zs es : List ℕ) → Working xs bs ys ds → Staging at gs f ys ds r zs es → Staging at gs f xs bs r zs es
+working-staging at gs f r xs bs ys ds zs es w s =
+    record {
+      staged = s .staged ∙ ap (stageAll at gs) (working-staged w f);
+      ready = s .ready;
+      beside = beside-then (working-beside w) (s .beside);
+    }
+
 -- ---- the staged groups become the groups
 
 module _ (xs bs : List ℕ) (r : Ready xs bs) where
-  -- a spare stretch that is not marked as holding a group holds none
-  undone-spare : (k : ℕ) → k < slots → cellAt k (drop liveNumbers xs) (drop liveBytes bs) ≡ cellAt (slots + k) xs bs
-  undone-spare k l = spare-cell k xs bs
+  unused : (k : ℕ) → eqb (markAt k xs) 1 ≡ false → isUsed (stretchAt (slots + k) xs) ≡ false
+  unfolding isUsed
+  unused k e = rw (← mark-is k xs) e
+
+  used : (k : ℕ) → markAt k xs ≡ 1 → isUsed (stretchAt k (drop liveNumbers xs)) ≡ true
+  unfolding isUsed
+  used k m = rw (spare-stretch k xs, ← mark-is k xs, m)
+
+  -- what stretch k goes back to is what its spare one holds
+  undone-spare : (k : ℕ) → k < slots → undoneCell k xs bs ≡ cellAt k (drop liveNumbers xs) (drop liveBytes bs)
+  undone-spare k l =
+      split (eqb (markAt k xs) 1)
+      (λ e. undone-saved k xs bs (eqb-true (markAt k xs) 1 e) ∙ sym (spare-cell k xs bs))
+      (λ e. undone-free k xs bs (r .marked k l) (eqb-false (markAt k xs) 1 e) ∙ sym (free-cell (slots + k) xs bs (unused k e)) ∙ sym (spare-cell k xs bs))
+
+  pub ready-undone : undoneCells xs bs ≡ cells (drop liveNumbers xs) (drop liveBytes bs)
+  ready-undone = undone-are xs bs (drop liveNumbers xs) (drop liveBytes bs) undone-spare
+
+  pub ready-undoable : Undoable xs bs
+  ready-undoable =
+      record {
+        saved = λ k l m. rw (spare-stretch k xs, spare-bytes k bs) at (r .staged .used k l (used k m));
+        distinct = rw ready-undone (r .staged .distinct);
+      }
+
+  -- the groups are those that were staged
+  pub undone-groups : (xs′ bs′ : List ℕ) → Undone xs bs xs′ bs′ → groupsOf xs′ bs′ ≡ groupsOf (drop liveNumbers xs) (drop liveBytes bs)
+  undone-groups xs′ bs′ u =
+      cells-groups xs′ bs′ _ (u .cells-are ∙ ready-undone) ∙ sym (cells-groups (drop liveNumbers xs) (drop liveBytes bs) _ refl)
