@@ -1,3 +1,5 @@
 -- Merge and join over areas: the groups that are staged, what the functions promise, and the laws.
 pub mod Staging
 pub mod StagingLaws
+pub mod Modes
+pub mod ModeLaws

@@ -7,3 +7,16 @@ pub struct Flags {
     pub clashed: bool,
     pub passed: bool,
 }
+
+// The three calls as modes of one work.
+pub enum Mode {
+    MergeAppend,
+    MergeRewrite,
+    Join,
+}
+
+// The number of a group that may get a table, where a place has one.
+pub enum Number {
+    None,
+    Of(u64),
+}

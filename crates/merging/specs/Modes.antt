@@ -1,0 +1,72 @@
+-- The three calls as modes of one work: what becomes of a group, what the rest becomes, and the refusal that a group may meet.
+use mathlib.Core.List.{List, [], _∷_, _++_}
+use mathlib.Core.Option.{Option}
+use mathlib.Core.Path.{_≡_}
+use mathlib.Core.Bool.{cond}
+use Prim.Native.Nat.{ℕ, zero, suc, _+_, _*_, _-_}
+use lib.Dec.{ltb}
+use lib.ListN.{getD, drop}
+use Rattle.rules.specs.Causes.{Cause, Result, filesGoBack, aboveLast}
+use Rattle.rules.specs.Items.{Append, Rewrite}
+use Rattle.rules.specs.Table.{Table}
+use Rattle.rules.specs.Context.{Kind, context, Context}
+use Rattle.rules_by_group.specs.Stage.{mergedAt, joinedAt}
+use Rattle.stretch.specs.Stretch.{isUsed, groupIn}
+use Rattle.groups.specs.Area.{slots, numbersInUse, stretchAt}
+use Rattle.contexts.specs.Contexts.{contextOf, Wf}
+use Rattle.merging.specs.declared.Mode.{Mode}
+use Rattle.merging.specs.declared.Mode.the-variants.{MergeAppend, MergeRewrite, Join}
+use Rattle.merging.specs.declared.Number as number
+
+-- the kinds of the older and of the newer context
+unfoldable pub olderKind : Mode → Kind
+olderKind MergeAppend = context Append
+olderKind MergeRewrite = context Rewrite
+olderKind Join = context Rewrite
+
+unfoldable pub newerKind : Mode → Kind
+newerKind MergeAppend = context Append
+newerKind MergeRewrite = context Rewrite
+newerKind Join = context Append
+
+-- what becomes of group g
+unfoldable pub groupBy : Mode → Context → Context → ℕ → Result (Option Table)
+groupBy MergeAppend newer c = mergedAt Append newer c
+groupBy MergeRewrite newer c = mergedAt Rewrite newer c
+groupBy Join newer c = joinedAt newer c
+
+-- what holds of the two areas: the older one, and the newer one, which is only read
+pub record Given (mode : Mode) (xs bs ys cs : List ℕ) : Type 0 where
+  pub wf : Wf xs bs
+  pub newer-wf : Wf ys cs
+  pub kind : contextOf xs bs .kind ≡ olderKind mode
+  pub newer-kind : contextOf ys cs .kind ≡ newerKind mode
+
+-- ---- the numbers to stage
+
+-- the group of stretch k, if it is used
+unfoldable pub stretchNumber : ℕ → List ℕ → List ℕ
+stretchNumber k xs = cond (isUsed (stretchAt k xs)) (groupIn (stretchAt k xs) ∷ []) []
+
+-- the group of tombstone j of the lists ys, if there are so many
+unfoldable pub tombstoneNumber : ℕ → List ℕ → List ℕ
+tombstoneNumber j ys = cond (ltb j (getD ys 1 0)) (getD ys (67 + j * 9) 0 ∷ []) []
+
+-- place i: the older stretches, the newer stretches, the newer tombstones
+unfoldable pub numberAt : List ℕ → List ℕ → ℕ → List ℕ
+numberAt xs ys i =
+    cond (ltb i 8) (stretchNumber i xs)
+    (cond (ltb i 16) (stretchNumber (i - 8) ys) (tombstoneNumber (i - 16) (drop numbersInUse ys)))
+
+-- the numbers of the first n places
+unfoldable pub firsts : (ℕ → List ℕ) → ℕ → List ℕ
+firsts f zero = []
+firsts f (suc n) = firsts f n ++ f n
+
+abbrev pub placeCount : ℕ
+placeCount = 80
+
+-- the number that was found, if any
+unfoldable pub numbersOf : number.Number → List ℕ
+numbersOf number.the-variants.None = []
+numbersOf (number.the-variants.Of g) = g ∷ []
