@@ -1,3 +1,5 @@
 -- The laws that the functions' proofs cite.
 pub mod Beginning
 pub mod Settling
+pub mod NumberWays
+pub mod CoverLaws
