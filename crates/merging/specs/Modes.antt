@@ -6,17 +6,21 @@ use mathlib.Core.Bool.{cond}
 use Prim.Native.Nat.{ℕ, zero, suc, _+_, _*_, _-_}
 use lib.Dec.{ltb}
 use lib.ListN.{getD, drop}
-use Rattle.rules.specs.Causes.{Cause, Result, filesGoBack, aboveLast}
+use Rattle.rules.specs.Causes.{Cause, Result}
 use Rattle.rules.specs.Items.{Append, Rewrite}
 use Rattle.rules.specs.Table.{Table}
 use Rattle.rules.specs.Context.{Kind, context, Context}
-use Rattle.rules_by_group.specs.Stage.{mergedAt, joinedAt}
+use Rattle.rules.specs.Calls.{clash, merge, join}
+use Rattle.rules_by_group.specs.Kept.{Kept}
+use Rattle.rules_by_group.specs.Stage.{noneStaged, stageAll, mergedRest, mergedAt, joinedRest, joinedAt, Covers}
 use Rattle.stretch.specs.Stretch.{isUsed, groupIn}
 use Rattle.groups.specs.Area.{slots, numbersInUse, stretchAt}
 use Rattle.contexts.specs.Contexts.{contextOf, Wf}
 use Rattle.merging.specs.declared.Mode.{Mode}
 use Rattle.merging.specs.declared.Mode.the-variants.{MergeAppend, MergeRewrite, Join}
+use Rattle.merging.specs.declared.Flags.{Flags}
 use Rattle.merging.specs.declared.Number as number
+use Rattle.merging.specs.Staging.{stagedIn}
 
 -- the kinds of the older and of the newer context
 unfoldable pub olderKind : Mode → Kind
@@ -35,12 +39,40 @@ groupBy MergeAppend newer c = mergedAt Append newer c
 groupBy MergeRewrite newer c = mergedAt Rewrite newer c
 groupBy Join newer c = joinedAt newer c
 
+-- all but the groups
+unfoldable pub restBy : Mode → Context → Context → Context
+restBy MergeAppend newer c = mergedRest newer (c .waiting) c
+restBy MergeRewrite newer c = mergedRest newer (c .waiting) c
+restBy Join newer c = joinedRest newer c
+
+-- what a group's refusal is; a join has none
+unfoldable pub clashBy : Mode → Cause
+clashBy MergeAppend = clash Append
+clashBy MergeRewrite = clash Rewrite
+clashBy Join = clash Append
+
+-- the rules' call
+unfoldable pub callBy : Mode → Context → Context → Result Context
+callBy MergeAppend newer c = merge newer c
+callBy MergeRewrite newer c = merge newer c
+callBy Join newer c = join newer c
+
 -- what holds of the two areas: the older one, and the newer one, which is only read
 pub record Given (mode : Mode) (xs bs ys cs : List ℕ) : Type 0 where
   pub wf : Wf xs bs
   pub newer-wf : Wf ys cs
+  pub kept : Kept (contextOf xs bs)
+  pub newer-kept : Kept (contextOf ys cs)
   pub kind : contextOf xs bs .kind ≡ olderKind mode
   pub newer-kind : contextOf ys cs .kind ≡ newerKind mode
+  -- nothing waits in the newer context
+  pub none-waits : contextOf ys cs .waiting ≡ []
+
+-- all groups are staged
+pub record Worked (mode : Mode) (f : Flags) (xs bs ys cs : List ℕ) : Type 0 where
+  pub numbers : List ℕ
+  pub cover : Covers numbers (contextOf ys cs) (contextOf xs bs)
+  pub staged : stagedIn f xs bs ≡ stageAll (groupBy mode (contextOf ys cs) (contextOf xs bs)) numbers noneStaged
 
 -- ---- the numbers to stage
 
