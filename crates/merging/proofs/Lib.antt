@@ -3,3 +3,4 @@ pub mod Beginning
 pub mod Settling
 pub mod NumberWays
 pub mod CoverLaws
+pub mod EndWays

@@ -2,9 +2,9 @@
 use mathlib.Core.List.{List, [], _∷_, _++_}
 use mathlib.Core.Option.{Option}
 use mathlib.Core.Path.{_≡_}
-use mathlib.Core.Bool.{cond}
-use Prim.Native.Nat.{ℕ, zero, suc, _+_, _*_, _-_}
-use lib.Dec.{ltb}
+use mathlib.Core.Bool.{Bool, cond, _&&_}
+use Prim.Native.Nat.{ℕ, zero, suc, _+_, _*_, _-_, _≤_}
+use lib.Dec.{leb, ltb}
 use lib.ListN.{getD, drop}
 use Rattle.rules.specs.Causes.{Cause, Result}
 use Rattle.rules.specs.Items.{Append, Rewrite}
@@ -15,6 +15,7 @@ use Rattle.rules_by_group.specs.Kept.{Kept}
 use Rattle.rules_by_group.specs.Stage.{noneStaged, stageAll, mergedRest, mergedAt, joinedRest, joinedAt, Covers}
 use Rattle.stretch.specs.Stretch.{isUsed, groupIn}
 use Rattle.groups.specs.Area.{slots, numbersInUse, stretchAt}
+use Rattle.lists.specs.declared.Counts.{Counts}
 use Rattle.contexts.specs.Contexts.{contextOf, Wf}
 use Rattle.merging.specs.declared.Mode.{Mode}
 use Rattle.merging.specs.declared.Mode.the-variants.{MergeAppend, MergeRewrite, Join}
@@ -73,6 +74,23 @@ pub record Worked (mode : Mode) (f : Flags) (xs bs ys cs : List ℕ) : Type 0 wh
   pub numbers : List ℕ
   pub cover : Covers numbers (contextOf ys cs) (contextOf xs bs)
   pub staged : stagedIn f xs bs ≡ stageAll (groupBy mode (contextOf ys cs) (contextOf xs bs)) numbers noneStaged
+
+-- ---- the limits of the lists
+
+-- whether lists of so many elements may become one; a join has no tombstones
+unfoldable pub countsFit : Mode → Counts → Counts → Bool
+countsFit MergeAppend o n = leb (o .tombstones + n .tombstones) 64 && leb (o .cleaned + n .cleaned) 64
+countsFit MergeRewrite o n = leb (o .tombstones + n .tombstones) 64 && leb (o .cleaned + n .cleaned) 64
+countsFit Join o n = leb (o .cleaned + n .cleaned) 64
+
+-- the numbers of elements that the lists of an area have
+unfoldable pub countsOf : List ℕ → Counts
+countsOf xs = record { tombstones = getD (drop numbersInUse xs) 1 0; cleaned = getD (drop numbersInUse xs) 2 0 }
+
+-- at most so many as there may be
+pub record Few (n : Counts) : Type 0 where
+  pub tombstones : n .tombstones ≤ 64
+  pub cleaned : n .cleaned ≤ 64
 
 -- ---- the numbers to stage
 
