@@ -24,13 +24,14 @@ use Rattle.rules.specs.Causes.{Result, ok, refused, Refusal, refuse, andThen, l
 use Rattle.rules.specs.Limits.{maxGroups}
 use Rattle.rules.specs.Table.{Table, emptyTable, made}
 use Rattle.rules.specs.Context.{tableFits}
-use Rattle.stretch.specs.Layout.{stretchWidth, bytesWidth}
+use Rattle.stretch.specs.Layout.{stretchWidth, bytesWidth, keysAt}
 use Rattle.stretch.specs.Stretch.{isUsed, madeHeader, tableIn}
 use Rattle.stretch.specs.Stretch as stretch
 use Rattle.stretch.specs.declared.Outcome.{Outcome}
 use Rattle.stretch.specs.declared.Outcome.the-variants.{Done, Refused}
 use Rattle.stretch.specs.Changes.{outcomeAs, limitedTable, Changed}
-use Rattle.stretch.specs.Laws.{changed-cell, make-cell}
+use Rattle.stretch.specs.Changes as any
+use Rattle.stretch.specs.Laws.{changed-short, changed-cell, make-cell}
 use Rattle.groups.specs.declared.Slot.the-variants.{At, Free, Full}
 use Rattle.groups.specs.Area.{slots, numbersInUse, bytesInUse, stretchAt, bytesAt, cellAt, cells, groupsOf, Wf, Only, AtSlot, FreeSlot, NoSlot, OnlySlot}
 use Rattle.groups.specs.AreaLaws.{length-cells, getD-cells, only-none, only-put, only-again, only-cells, only-wf}
@@ -108,16 +109,19 @@ unfolding madeHeader
 made-back k g xs p l h e =
     loan-put-in (k * stretchWidth) (k * stretchWidth + stretchWidth - k * stretchWidth) xs p 0 (k * stretchWidth) (madeHeader g) e (add-zero (k * stretchWidth)) (omega arith) (omega arith)
 
-pub changed-back : (by : Table → Result Table) (k : ℕ) (xs bs : List ℕ) (r : Outcome) (p b : List ℕ) → k < slots → numbersInUse ≤ length xs → bytesInUse ≤ length bs → Changed by (take (k * stretchWidth + stretchWidth - k * stretchWidth) (drop (k * stretchWidth) xs)) (take (k * bytesWidth + bytesWidth - k * bytesWidth) (drop (k * bytesWidth) bs)) r p b → ChangedAt by k xs bs r (putMid (k * stretchWidth) (k * stretchWidth + stretchWidth - k * stretchWidth) xs p) (putMid (k * bytesWidth) (k * bytesWidth + bytesWidth - k * bytesWidth) bs b)
+pub changed-back : (by : Table → Result Table) (k : ℕ) (xs bs : List ℕ) (r : Outcome) (p b : List ℕ) → k < slots → numbersInUse ≤ length xs → bytesInUse ≤ length bs → length p ≡ length (take (k * stretchWidth + stretchWidth - k * stretchWidth) (drop (k * stretchWidth) xs)) → length b ≡ length (take (k * bytesWidth + bytesWidth - k * bytesWidth) (drop (k * bytesWidth) bs)) → any.ChangedAt keysAt by (take (k * stretchWidth + stretchWidth - k * stretchWidth) (drop (k * stretchWidth) xs)) (take (k * bytesWidth + bytesWidth - k * bytesWidth) (drop (k * bytesWidth) bs)) r p b → ChangedAt by k xs bs r (putMid (k * stretchWidth) (k * stretchWidth + stretchWidth - k * stretchWidth) xs p) (putMid (k * bytesWidth) (k * bytesWidth + bytesWidth - k * bytesWidth) bs b)
 unfolding stretchAt bytesAt
-changed-back by k xs bs r p b l x y c =
-    let m = c .wf .numbers .numbers-are in
-    let n = c .wf .bytes-are in
+changed-back by k xs bs r p b l x y kp kb c =
+    let u : length (stretchAt k xs) ≡ stretchWidth = length-part (k * stretchWidth) stretchWidth xs (omega arith) in
+    let v : length (bytesAt k bs) ≡ bytesWidth = length-part (k * bytesWidth) bytesWidth bs (omega arith) in
+    let d : Changed by (stretchAt k xs) (bytesAt k bs) r p b = changed-short u v (rw (lent-numbers k xs) at kp) (rw (lent-bytes k bs) at kb) (rw (lent-numbers k xs, lent-bytes k bs) at c) in
+    let m = d .wf .numbers .numbers-are in
+    let n = d .wf .bytes-are in
     let s : stretchAt k (put xs (k * stretchWidth) p) ≡ p = part-put-same stretchWidth xs (k * stretchWidth) p m (omega arith) in
     let t : bytesAt k (put bs (k * bytesWidth) b) ≡ b = part-put-same bytesWidth bs (k * bytesWidth) b n (omega arith) in
     rw (loan-put (k * stretchWidth) _ xs p (m ∙ sym (width (k * stretchWidth) stretchWidth)), loan-put (k * bytesWidth) _ bs b (n ∙ sym (width (k * bytesWidth) bytesWidth)))
     (record {
-      changed = rw (s, t) (rw (lent-numbers k xs, lent-bytes k bs) at c);
+      changed = rw (s, t) d;
       only = record { numbers = rw s; bytes = rw t };
     })
 

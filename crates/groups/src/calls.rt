@@ -13,6 +13,7 @@ ghost use Rattle.groups.specs.Calls.{ChangedAt, ChangedGroup, RemovedGro
 use crate::Slot;
 use stretch::BYTES;
 use stretch::Change;
+use stretch::KEYS_AT;
 use stretch::LIMIT_PASSED;
 use stretch::Outcome;
 use stretch::STRETCH;
@@ -36,7 +37,15 @@ fn apply_at(
     let e = a + STRETCH;
     let c = k * BYTES;
     let d = c + BYTES;
-    stretch::apply(&mut xs[a..e], &mut bs[c..d], change, rows, key, value)
+    stretch::apply(
+        &mut xs[a..e],
+        &mut bs[c..d],
+        KEYS_AT,
+        change,
+        rows,
+        key,
+        value,
+    )
 }
 
 // Makes stretch k that of a group with nothing in it.

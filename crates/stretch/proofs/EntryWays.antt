@@ -2,13 +2,13 @@
 use mathlib.Core.Bool.{true}
 use mathlib.Core.List.{List}
 use mathlib.Core.Option.{Option}
-use mathlib.Core.Path.{_≡_, ap, _∙_}
-use Prim.Native.Nat.{ℕ, _/_, _≤_}
+use mathlib.Core.Path.{_≡_, refl, ap, _∙_}
+use Prim.Native.Nat.{ℕ, _-_, _/_, _≤_}
 use native.Mathlib.Omega.{arith}
 use lib.ListN.{length, take}
 use Rattle.cells.specs.Part.{put}
 use borrow.Rule.Slice.PartMut.{putMid}
-use Rattle.cells.specs.PartLaws.{length-part, length-put, put-part, loan-put}
+use Rattle.cells.specs.PartLaws.{length-put, put-part, loan-put}
 use Rattle.maps.specs.Lists.{every}
 use Rattle.pipe_log.specs.Rows.{window}
 use Rattle.rules.specs.Causes.{Result, ok}
@@ -29,102 +29,107 @@ use Rattle.memtable.specs.Views as memtable
 use Rattle.memtable.specs.SameLaws.{all-rewritten}
 use Rattle.stretch.specs.declared.Outcome.{Outcome}
 use Rattle.stretch.specs.declared.Outcome.the-variants.{Done}
-use Rattle.stretch.specs.Stretch.{headIn, keyCount, isCounted, headNumbers, entryRows, keyRows, tableIn, Wf}
-use Rattle.stretch.specs.StretchLaws.{Holds, own, with-entries, with-head, table-of, wf-of, front-put}
-use Rattle.stretch.specs.Changes.{Changed, laidOutcome, laidNumbers, movedOutcome, movedNumbers}
-use Rattle.stretch.proofs.Outcomes.{done-by, done-fitting, refused-by, refused-fitting}
-
-length-entries : (p : List ℕ) → length p ≡ 586 → length (entryRows p) ≡ 512
-unfolding entryRows
-length-entries p m = length-part 10 512 p (omega arith)
+use Rattle.stretch.specs.Stretch.{headIn, keyCount, isCounted, headNumbers, entryRowsAt, keyRowsAt, tableAt, WfAt}
+use Rattle.stretch.specs.StretchLaws.{Holds, own, length-entries, length-head, with-entries, with-head, table-of, wf-of, front-put}
+use Rattle.stretch.specs.Changes.{ChangedAt, laidOutcome, laidNumbers, movedOutcome, movedNumbers}
+use Rattle.stretch.proofs.Outcomes.{Kept, done-by, done-fitting, refused-by, refused-fitting}
 
 -- rows that came back as they were
-entries-back : (p ys : List ℕ) → length p ≡ 586 → ys ≡ entryRows p → put p 10 ys ≡ p
-unfolding entryRows
-entries-back p ys m e = rw e (put-part 10 512 p (omega arith))
+entries-back : (w : ℕ) (p ys : List ℕ) → 10 ≤ w → w ≤ length p → ys ≡ entryRowsAt w p → put p 10 ys ≡ p
+unfolding entryRowsAt
+entries-back w p ys f t e = rw e (put-part 10 (w - 10) p (omega arith))
 
 -- the stretch with the rows ys and the head g
 abbrev withBoth : List ℕ → List ℕ → Head → List ℕ
 withBoth p ys g = put (put p 10 ys) 2 (headNumbers g)
 
-module _ (p ys b : List ℕ) (w : Wf p b) (l : length ys ≡ 512) (g : Head) where
-  holds-both : Holds (withBoth p ys g) g ys (keyCount p) (keyRows p) (isCounted p)
+module _ (w : ℕ) (p ys b : List ℕ) (o : WfAt w p b) (l : length ys ≡ length (entryRowsAt w p)) (g : Head) where
+  holds-both : Holds w (withBoth p ys g) g ys (keyCount p) (keyRowsAt w p) (isCounted p)
   holds-both =
-      with-head (put p 10 ys) (headIn p) ys (keyCount p) (keyRows p) (isCounted p)
-      (with-entries p (headIn p) (entryRows p) (keyCount p) (keyRows p) (isCounted p) (own p (w .numbers .numbers-are)) ys l) g
+      with-head w (put p 10 ys) (headIn p) ys (keyCount p) (keyRowsAt w p) (isCounted p)
+      (with-entries w p (headIn p) (entryRowsAt w p) (keyCount p) (keyRowsAt w p) (isCounted p) (own w p (o .numbers .from) (o .numbers .to)) ys l) g
 
-  table-both : tableIn (withBoth p ys g) b ≡ tableOf g ys (keysIn (keyCount p) (keyRows p) b) (isCounted p)
-  table-both = table-of (withBoth p ys g) g ys (keyCount p) (keyRows p) (isCounted p) holds-both b
+  table-both : tableAt w (withBoth p ys g) b ≡ tableOf g ys (keysIn (keyCount p) (keyRowsAt w p) b) (isCounted p)
+  table-both = table-of w (withBoth p ys g) g ys (keyCount p) (keyRowsAt w p) (isCounted p) holds-both b
 
-  wf-both : memtable.Wf g ys → Wf (withBoth p ys g) b
-  wf-both e = wf-of (withBoth p ys g) g ys (keyCount p) (keyRows p) (isCounted p) holds-both b e (w .bytes-are) (w .keys)
+  wf-both : memtable.Wf g ys → WfAt w (withBoth p ys g) b
+  wf-both e = wf-of w (withBoth p ys g) g ys (keyCount p) (keyRowsAt w p) (isCounted p) holds-both b e (o .keys)
+
+  length-rows : length (put p 10 ys) ≡ length p
+  length-rows =
+      let f = o .numbers .from in
+      let t = o .numbers .to in
+      let k = length-entries w p f t in
+      length-put p 10 ys (omega arith)
+
+  kept-both : Kept p b (withBoth p ys g) b
+  kept-both =
+      let f = o .numbers .from in
+      let t = o .numbers .to in
+      let k = length-rows in
+      let n = length-head g in
+      record { numbers = length-put (put p 10 ys) 2 (headNumbers g) (omega arith) ∙ k; bytes = refl }
 
   front-both : take 2 (withBoth p ys g) ≡ take 2 p
   front-both =
-      let m = w .numbers .numbers-are in
-      let k : length (put p 10 ys) ≡ length p = length-put p 10 ys (omega arith) in
+      let f = o .numbers .from in
+      let t = o .numbers .to in
+      let k = length-rows in
       front-put (put p 10 ys) 2 (headNumbers g) (omega arith) (omega arith) ∙ front-put p 10 ys (omega arith) (omega arith)
 
 -- the stretch after the loan: ys is as long as what was lent
-module _ (p ys b : List ℕ) (w : Wf p b) (k : length ys ≡ length (entryRows p)) where
-  rows-kept : length ys ≡ 512
-  rows-kept = k ∙ length-entries p (w .numbers .numbers-are)
-
-  after-loan : putMid 10 512 p ys ≡ put p 10 ys
-  after-loan = loan-put 10 512 p ys rows-kept
+module _ (w : ℕ) (p ys b : List ℕ) (o : WfAt w p b) (k : length ys ≡ length (entryRowsAt w p)) where
+  after-loan : putMid 10 (w - 10) p ys ≡ put p 10 ys
+  after-loan = loan-put 10 (w - 10) p ys (k ∙ length-entries w p (o .numbers .from) (o .numbers .to))
 
   -- ys is what was lent
-  as-before : ys ≡ entryRows p → putMid 10 512 p ys ≡ p
-  as-before e = after-loan ∙ entries-back p ys (w .numbers .numbers-are) e
+  as-before : ys ≡ entryRowsAt w p → putMid 10 (w - 10) p ys ≡ p
+  as-before e = after-loan ∙ entries-back w p ys (o .numbers .from) (o .numbers .to) e
 
 -- rows laid over by a rule
-module _ (by : Table → Result Table) (p ys rows : List ℕ) (k : length ys ≡ length (entryRows p)) (r : Outcome) (p′ b : List ℕ) (w : Wf p b) where
-  laid-by : (a : Appended) → appendedOf a ys (keysIn (keyCount p) (keyRows p) b) (isCounted p) ≡ fitting 64 (by (tableIn p b)) → Laying by (headIn p) (entryRows p) rows a ys
-      → r ≡ laidOutcome a → p′ ≡ laidNumbers a (putMid 10 512 p ys) → Changed by p b r p′ b
+module _ (w : ℕ) (by : Table → Result Table) (p ys rows : List ℕ) (k : length ys ≡ length (entryRowsAt w p)) (r : Outcome) (p′ b : List ℕ) (o : WfAt w p b) where
+  laid-by : (a : Appended) → appendedOf a ys (keysIn (keyCount p) (keyRowsAt w p) b) (isCounted p) ≡ fitting (length (entryRowsAt w p) / 8) (by (tableAt w p b)) → Laying by (headIn p) (entryRowsAt w p) rows a ys
+      → r ≡ laidOutcome a → p′ ≡ laidNumbers a (putMid 10 (w - 10) p ys) → ChangedAt w by p b r p′ b
   laid-by (appended.Done g) x t e f =
-      let l = rows-kept p ys b w k in
-      rw (e, f, after-loan p ys b w k)
-      (done-fitting by p b (withBoth p ys g) b (wf-both p ys b w l g (t .wf)) (front-both p ys b w l g) (ap ok (table-both p ys b w l g) ∙ x))
-  laid-by appended.BelowFirst x t e f = rw (e, f ∙ as-before p ys b w k (t .laid)) (refused-fitting by p b w 13 x)
-  laid-by appended.AboveLast x t e f = rw (e, f ∙ as-before p ys b w k (t .laid)) (refused-fitting by p b w 14 x)
-  laid-by appended.Full x t e f = rw (e, f ∙ as-before p ys b w k (t .laid)) (refused-fitting by p b w 18 x)
+      rw (e, f, after-loan w p ys b o k)
+      (done-fitting w by p b o (withBoth p ys g) b (kept-both w p ys b o k g) (wf-both w p ys b o k g (t .wf)) (front-both w p ys b o k g) (ap ok (table-both w p ys b o k g) ∙ x))
+  laid-by appended.BelowFirst x t e f = rw (e, f ∙ as-before w p ys b o k (t .laid)) (refused-fitting w by p b o 13 x)
+  laid-by appended.AboveLast x t e f = rw (e, f ∙ as-before w p ys b o k (t .laid)) (refused-fitting w by p b o 14 x)
+  laid-by appended.Full x t e f = rw (e, f ∙ as-before w p ys b o k (t .laid)) (refused-fitting w by p b o 18 x)
 
-  pub laying : (a : Appended) → Laying by (headIn p) (entryRows p) rows a ys → r ≡ laidOutcome a → p′ ≡ laidNumbers a (putMid 10 512 p ys) → Changed by p b r p′ b
-  unfolding tableIn
-  laying a t e f =
-      laid-by a (rw (length-entries p (w .numbers .numbers-are)) at (t .rule (keysIn (keyCount p) (keyRows p) b) (isCounted p))) t e f
+  pub laying : (a : Appended) → Laying by (headIn p) (entryRowsAt w p) rows a ys → r ≡ laidOutcome a → p′ ≡ laidNumbers a (putMid 10 (w - 10) p ys) → ChangedAt w by p b r p′ b
+  unfolding tableAt
+  laying a t e f = laid-by a (t .rule (keysIn (keyCount p) (keyRowsAt w p) b) (isCounted p)) t e f
 
 -- entries rewritten
-module _ (gate : Option ℕ) (s : ℕ) (p ys rows : List ℕ) (k : length ys ≡ length (entryRows p)) (r : Outcome) (p′ b : List ℕ) (w : Wf p b) where
-  moved-by : (a : Rewritten) → rewrittenOf a ys (keysIn (keyCount p) (keyRows p) b) (isCounted p) ≡ rewritten gate (window s (length rows / 8) rows) (tableIn p b)
-      → Rewriting gate (headIn p) (entryRows p) s rows a ys → r ≡ movedOutcome a → p′ ≡ movedNumbers a (putMid 10 512 p ys)
-      → Changed (rewritten gate (window s (length rows / 8) rows)) p b r p′ b
+module _ (w : ℕ) (gate : Option ℕ) (s : ℕ) (p ys rows : List ℕ) (k : length ys ≡ length (entryRowsAt w p)) (r : Outcome) (p′ b : List ℕ) (o : WfAt w p b) where
+  moved-by : (a : Rewritten) → rewrittenOf a ys (keysIn (keyCount p) (keyRowsAt w p) b) (isCounted p) ≡ rewritten gate (window s (length rows / 8) rows) (tableAt w p b)
+      → Rewriting gate (headIn p) (entryRowsAt w p) s rows a ys → r ≡ movedOutcome a → p′ ≡ movedNumbers a (putMid 10 (w - 10) p ys)
+      → ChangedAt w (rewritten gate (window s (length rows / 8) rows)) p b r p′ b
   moved-by (answer.Done g) x t e f =
-      let l = rows-kept p ys b w k in
-      rw (e, f, after-loan p ys b w k)
-      (done-by (rewritten gate (window s (length rows / 8) rows)) p b (withBoth p ys g) b (wf-both p ys b w l g (t .wf)) (front-both p ys b w l g)
-      (ap ok (table-both p ys b w l g) ∙ x))
+      rw (e, f, after-loan w p ys b o k)
+      (done-by w (rewritten gate (window s (length rows / 8) rows)) p b o (withBoth p ys g) b (kept-both w p ys b o k g) (wf-both w p ys b o k g (t .wf)) (front-both w p ys b o k g)
+      (ap ok (table-both w p ys b o k g) ∙ x))
   moved-by answer.AppendLeft x t e f =
-      rw (e, f ∙ as-before p ys b w k (t .laid)) (refused-by (rewritten gate (window s (length rows / 8) rows)) p b w 15 x)
+      rw (e, f ∙ as-before w p ys b o k (t .laid)) (refused-by w (rewritten gate (window s (length rows / 8) rows)) p b o 15 x)
   moved-by answer.AlreadyRewritten x t e f =
-      rw (e, f ∙ as-before p ys b w k (t .laid)) (refused-by (rewritten gate (window s (length rows / 8) rows)) p b w 16 x)
+      rw (e, f ∙ as-before w p ys b o k (t .laid)) (refused-by w (rewritten gate (window s (length rows / 8) rows)) p b o 16 x)
 
-  pub moving : (a : Rewritten) → Rewriting gate (headIn p) (entryRows p) s rows a ys → r ≡ movedOutcome a → p′ ≡ movedNumbers a (putMid 10 512 p ys)
-      → Changed (rewritten gate (window s (length rows / 8) rows)) p b r p′ b
-  unfolding tableIn
-  moving a t e f = moved-by a (t .rule (keysIn (keyCount p) (keyRows p) b) (isCounted p)) t e f
+  pub moving : (a : Rewritten) → Rewriting gate (headIn p) (entryRowsAt w p) s rows a ys → r ≡ movedOutcome a → p′ ≡ movedNumbers a (putMid 10 (w - 10) p ys)
+      → ChangedAt w (rewritten gate (window s (length rows / 8) rows)) p b r p′ b
+  unfolding tableAt
+  moving a t e f = moved-by a (t .rule (keysIn (keyCount p) (keyRowsAt w p) b) (isCounted p)) t e f
 
 -- entries dropped
-pub compacting : (i : ℕ) (p ys : List ℕ) → length ys ≡ length (entryRows p) → (a : Compacted) (p′ b : List ℕ) → Wf p b → Compaction (headIn p) (entryRows p) i a ys
-    → p′ ≡ put (putMid 10 512 p ys) 2 (headNumbers (a .head)) → Changed (λ t. ok (compacted i t)) p b Done p′ b
-unfolding tableIn
-compacting i p ys k a p′ b w t f =
-    let l = rows-kept p ys b w k in
-    rw (f, after-loan p ys b w k)
-    (done-by (λ t. ok (compacted i t)) p b (withBoth p ys (a .head)) b (wf-both p ys b w l (a .head) (t .wf)) (front-both p ys b w l (a .head))
-    (ap ok (table-both p ys b w l (a .head) ∙ t .rule (keysIn (keyCount p) (keyRows p) b) (isCounted p))))
+pub compacting : (w i : ℕ) (p ys : List ℕ) → length ys ≡ length (entryRowsAt w p) → (a : Compacted) (p′ b : List ℕ) → WfAt w p b → Compaction (headIn p) (entryRowsAt w p) i a ys
+    → p′ ≡ put (putMid 10 (w - 10) p ys) 2 (headNumbers (a .head)) → ChangedAt w (λ t. ok (compacted i t)) p b Done p′ b
+unfolding tableAt
+compacting w i p ys k a p′ b o t f =
+    rw (f, after-loan w p ys b o k)
+    (done-by w (λ t. ok (compacted i t)) p b o (withBoth p ys (a .head)) b (kept-both w p ys b o k (a .head)) (wf-both w p ys b o k (a .head) (t .wf)) (front-both w p ys b o k (a .head))
+    (ap ok (table-both w p ys b o k (a .head) ∙ t .rule (keysIn (keyCount p) (keyRowsAt w p) b) (isCounted p))))
 
 -- where all entries are Rewrite ones, the head counts them all
-pub only-rewrites : (p b : List ℕ) → Wf p b → every isRewrite (tableIn p b .entries) ≡ true → headIn p .len ≤ headIn p .«rewrite_count»
-unfolding tableIn tableOf
-only-rewrites p b w e = all-rewritten (headIn p) (entryRows p) (w .numbers .entries) e
+pub only-rewrites : (w : ℕ) (p b : List ℕ) → WfAt w p b → every isRewrite (tableAt w p b .entries) ≡ true → headIn p .len ≤ headIn p .«rewrite_count»
+unfolding tableAt tableOf
+only-rewrites w p b o e = all-rewritten (headIn p) (entryRowsAt w p) (o .numbers .entries) e

@@ -3,128 +3,153 @@ use mathlib.Core.Bool.{false}
 use mathlib.Core.List.{List, [], _∷_}
 use mathlib.Core.Option.{Option, none, some}
 use mathlib.Core.Path.{_≡_, refl, sym, ap, _∙_}
-use Prim.Native.Nat.{ℕ, _*_}
+use Prim.Native.Nat.{ℕ, _-_, _*_, _/_, _≤_}
 use native.Mathlib.Omega.{arith}
 use lib.Dec.{leb, ltb}
 use lib.ListN.{length, take, set}
-use borrow.Author.Tests.{leb-true, le-leb, lt-leb, ltb-true}
+use borrow.Author.Tests.{lt-leb, ltb-true}
 use Rattle.cells.specs.Part.{put}
 use borrow.Rule.Slice.PartMut.{putMid}
-use Rattle.cells.specs.PartLaws.{length-part, length-put, put-part, loan-put, set-put}
+use Rattle.cells.specs.PartLaws.{length-put, put-part, loan-put, set-put}
 use Rattle.maps.specs.BoolLaws.{and-false}
 use Rattle.maps.specs.Lists.{orElse}
-use Rattle.maps.specs.Maps.{insert, bytes}
+use Rattle.maps.specs.Maps.{Map, insert, remove, bytes}
 use Rattle.maps.specs.OrderLaws.{split}
 use Rattle.rules.specs.Causes.{Refusal, ok, refused, andThen}
 use Rattle.rules.specs.Items.{LogQueue, Append, Rewrite, sameQueue}
-use Rattle.rules.specs.Context.{tableFits}
-use Rattle.rules.specs.Table.{Held, Table, withKeys, putKey, deleteKey, rewriteFile, rewrittenKey}
+use Rattle.rules.specs.Table.{Held, Table, withKeys, putKey, deleteKey, overKeys, rewriteFile, rewrittenKey}
 use Rattle.kvs.specs.declared.Outcome.the-variants as kvs
 use Rattle.kvs.specs.declared.Rewritten.the-variants.{Accepted, GoesBack}
 use Rattle.kvs.specs.Rows.{keysIn, fits}
 use Rattle.kvs.specs.Rows as rows
-use Rattle.kvs.specs.Calls.{roomFor, Stands, putRows, putBytes, PutKey, DeleteKey, rewrittenAs, moves, rewrittenRows, RewriteKey}
+use Rattle.kvs.specs.Merge.{mergedParts, MergeKeys}
+use Rattle.kvs.specs.Calls as calls
+use Rattle.kvs.specs.Calls.{roomFor, putRows, putBytes, PutKey, DeleteKey, rewrittenAs, moves, rewrittenRows, RewriteKey}
 use Rattle.kvs.specs.declared.Place.{Place}
 use Rattle.memtable.specs.Views.{tableOf}
 use Rattle.stretch.specs.declared.Outcome.the-variants.{Done, Refused}
-use Rattle.stretch.specs.Stretch.{headIn, keyCount, isCounted, entryRows, keyRows, tableIn, Wf}
-use Rattle.stretch.specs.StretchLaws.{Holds, own, with-keys, with-count, table-of, wf-of, front-put}
-use Rattle.stretch.specs.Changes.{limitedTable, Changed}
-use Rattle.stretch.proofs.Outcomes.{never, done-by, is-refused, refused-by}
+use Rattle.stretch.specs.Stretch.{headIn, keyCount, isCounted, entryRowsAt, keyRowsAt, tableAt, WfAt}
+use Rattle.stretch.specs.StretchLaws.{Holds, own, length-keys, with-keys, with-count, table-of, wf-of, front-put}
+use Rattle.stretch.specs.Changes.{roomAt, limitedAt, keysOver, ChangedAt}
+use Rattle.stretch.proofs.Outcomes.{Kept, never, done-by, is-refused, refused-by}
 
 -- rows that came back as they were
-keys-back : (p rows′ : List ℕ) → length p ≡ 586 → rows′ ≡ keyRows p → put p 522 rows′ ≡ p
-unfolding keyRows
-keys-back p rows′ m e = rw e (put-part 522 64 p (omega arith))
+keys-back : (w : ℕ) (p rows′ : List ℕ) → w ≤ length p → rows′ ≡ keyRowsAt w p → put p w rows′ ≡ p
+unfolding keyRowsAt
+keys-back w p rows′ m e = rw e (put-part w (length p - w) p (omega arith))
 
 -- the stretch after the loan: rows′ is as long as what was lent
-module _ (p b rows′ : List ℕ) (w : Wf p b) (k : length rows′ ≡ length (keyRows p)) where
-  rows-kept : length rows′ ≡ 64
-  unfolding keyRows
-  rows-kept = k ∙ length-part 522 64 p (omega (arith, w .numbers .numbers-are))
+module _ (w : ℕ) (p b rows′ : List ℕ) (o : WfAt w p b) (k : length rows′ ≡ length (keyRowsAt w p)) where
+  rows-kept : length rows′ ≡ length p - w
+  rows-kept = k ∙ length-keys w p (o .numbers .to)
 
-  after-loan : putMid 522 64 p rows′ ≡ put p 522 rows′
-  after-loan = loan-put 522 64 p rows′ rows-kept
+  length-rows : length (put p w rows′) ≡ length p
+  length-rows = let l = rows-kept in let t = o .numbers .to in length-put p w rows′ (omega arith)
+
+  after-loan : putMid w (length p - w) p rows′ ≡ put p w rows′
+  after-loan = loan-put w (length p - w) p rows′ rows-kept
 
   -- the number of keys is written then
-  after-count : (m : ℕ) → set (putMid 522 64 p rows′) 8 m ≡ put (put p 522 rows′) 8 (m ∷ [])
+  after-count : (m : ℕ) → set (putMid w (length p - w) p rows′) 8 m ≡ put (put p w rows′) 8 (m ∷ [])
   after-count m =
-      let l = rows-kept in
-      let n : length (put p 522 rows′) ≡ length p = length-put p 522 rows′ (omega (arith, w .numbers .numbers-are)) in
-      rw after-loan (set-put (put p 522 rows′) 8 m (omega (arith, w .numbers .numbers-are)))
+      let n = length-rows in
+      let f = o .numbers .from in
+      let t = o .numbers .to in
+      rw after-loan (set-put (put p w rows′) 8 m (omega arith))
 
   -- rows′ is what was lent
-  as-before : rows′ ≡ keyRows p → putMid 522 64 p rows′ ≡ p
-  as-before e = after-loan ∙ keys-back p rows′ (w .numbers .numbers-are) e
+  as-before : rows′ ≡ keyRowsAt w p → putMid w (length p - w) p rows′ ≡ p
+  as-before e = after-loan ∙ keys-back w p rows′ (o .numbers .to) e
 
-module _ (p b rows′ b′ : List ℕ) (w : Wf p b) (l : length rows′ ≡ 64) where
-  holds-rows : Holds (put p 522 rows′) (headIn p) (entryRows p) (keyCount p) rows′ (isCounted p)
-  holds-rows = with-keys p (headIn p) (entryRows p) (keyCount p) (keyRows p) (isCounted p) (own p (w .numbers .numbers-are)) rows′ l
+module _ (w : ℕ) (p b rows′ b′ : List ℕ) (o : WfAt w p b) (l : length rows′ ≡ length (keyRowsAt w p)) where
+  holds-rows : Holds w (put p w rows′) (headIn p) (entryRowsAt w p) (keyCount p) rows′ (isCounted p)
+  holds-rows = with-keys w p (headIn p) (entryRowsAt w p) (keyCount p) (keyRowsAt w p) (isCounted p) (own w p (o .numbers .from) (o .numbers .to)) rows′ l
 
-  front-rows : take 2 (put p 522 rows′) ≡ take 2 p
-  front-rows = front-put p 522 rows′ (omega arith) (omega (arith, w .numbers .numbers-are))
+  front-rows : take 2 (put p w rows′) ≡ take 2 p
+  front-rows = let f = o .numbers .from in front-put p w rows′ (omega arith) (o .numbers .to)
 
   -- the stretch with m keys in the rows
   module _ (m : ℕ) where
-    holds-keys : Holds (put (put p 522 rows′) 8 (m ∷ [])) (headIn p) (entryRows p) m rows′ (isCounted p)
-    holds-keys = with-count (put p 522 rows′) (headIn p) (entryRows p) (keyCount p) rows′ (isCounted p) holds-rows m
+    holds-keys : Holds w (put (put p w rows′) 8 (m ∷ [])) (headIn p) (entryRowsAt w p) m rows′ (isCounted p)
+    holds-keys = with-count w (put p w rows′) (headIn p) (entryRowsAt w p) (keyCount p) rows′ (isCounted p) holds-rows m
 
-    wf-keys : rows.Wf m rows′ b′ → length b′ ≡ 1024 → Wf (put (put p 522 rows′) 8 (m ∷ [])) b′
-    wf-keys k n = wf-of (put (put p 522 rows′) 8 (m ∷ [])) (headIn p) (entryRows p) m rows′ (isCounted p) holds-keys b′ (w .numbers .entries) n k
+    wf-keys : rows.Wf m rows′ b′ → WfAt w (put (put p w rows′) 8 (m ∷ [])) b′
+    wf-keys k = wf-of w (put (put p w rows′) 8 (m ∷ [])) (headIn p) (entryRowsAt w p) m rows′ (isCounted p) holds-keys b′ (o .numbers .entries) k
 
-    table-keys : tableIn (put (put p 522 rows′) 8 (m ∷ [])) b′ ≡ withKeys (keysIn m rows′ b′) (tableIn p b)
-    unfolding tableIn tableOf withKeys
-    table-keys = table-of (put (put p 522 rows′) 8 (m ∷ [])) (headIn p) (entryRows p) m rows′ (isCounted p) holds-keys b′
+    table-keys : tableAt w (put (put p w rows′) 8 (m ∷ [])) b′ ≡ withKeys (keysIn m rows′ b′) (tableAt w p b)
+    unfolding tableAt tableOf withKeys
+    table-keys = table-of w (put (put p w rows′) 8 (m ∷ [])) (headIn p) (entryRowsAt w p) m rows′ (isCounted p) holds-keys b′
 
-    front-keys : take 2 (put (put p 522 rows′) 8 (m ∷ [])) ≡ take 2 p
+    front-keys : take 2 (put (put p w rows′) 8 (m ∷ [])) ≡ take 2 p
     front-keys =
-        let k : length (put p 522 rows′) ≡ length p = length-put p 522 rows′ (omega (arith, w .numbers .numbers-are)) in
-        front-put (put p 522 rows′) 8 (m ∷ []) (omega arith) (omega (arith, w .numbers .numbers-are)) ∙ front-rows
+        let k = length-rows w p b rows′ o l in
+        let f = o .numbers .from in
+        let t = o .numbers .to in
+        front-put (put p w rows′) 8 (m ∷ []) (omega arith) (omega arith) ∙ front-rows
+
+    kept-keys : length b′ ≡ length b → Kept p b (put (put p w rows′) 8 (m ∷ [])) b′
+    kept-keys n =
+        let k = length-rows w p b rows′ o l in
+        let f = o .numbers .from in
+        let t = o .numbers .to in
+        record { numbers = length-put (put p w rows′) 8 (m ∷ []) (omega arith) ∙ k; bytes = n }
+
+-- ---- keys changed by a function of the map
+
+module _ (w : ℕ) (p b rows′ b′ : List ℕ) (o : WfAt w p b) (l : length rows′ ≡ length (keyRowsAt w p)) (by : Map (List ℕ) Held → Map (List ℕ) Held) where
+  keys-done : (m : ℕ) → length b′ ≡ length b → calls.Holds m rows′ b′ (by (keysIn (keyCount p) (keyRowsAt w p) b))
+      → ChangedAt w (λ t. ok (withKeys (by (t .keys)) t)) p b Done (set (putMid w (length p - w) p rows′) 8 m) b′
+  unfolding tableAt tableOf
+  keys-done m n t =
+      rw (after-count w p b rows′ o l m)
+      (done-by w (λ t. ok (withKeys (by (t .keys)) t)) p b o (put (put p w rows′) 8 (m ∷ [])) b′ (kept-keys w p b rows′ b′ o l m n) (wf-keys w p b rows′ b′ o l m (t .wf)) (front-keys w p b rows′ b′ o l m)
+      (ap ok (table-keys w p b rows′ b′ o l m ∙ ap (λ x. withKeys x (tableAt w p b)) (t .is))))
+
+  -- keys for which there are no rows
+  too-many : kvs.Full ≡ roomFor (length (by (keysIn (keyCount p) (keyRowsAt w p) b))) (keyRowsAt w p) b → roomAt w p b (withKeys (by (tableAt w p b .keys)) (tableAt w p b)) ≡ false
+  unfolding roomAt withKeys roomFor tableAt tableOf
+  too-many f =
+      let c = length (by (keysIn (keyCount p) (keyRowsAt w p) b)) in
+      split (fits c (keyRowsAt w p) b)
+      (λ y. let z : _≡_ {A = ℕ} 0 1 = (let g : kvs.Full ≡ kvs.Done c = rw y at f in cc) in absurd (omega arith))
+      (λ y. rw y (and-false (leb (length (tableAt w p b .entries)) (length (entryRowsAt w p) / 8))))
+
+  keys-full : kvs.Full ≡ roomFor (length (by (keysIn (keyCount p) (keyRowsAt w p) b))) (keyRowsAt w p) b → rows′ ≡ keyRowsAt w p → b′ ≡ b
+      → ChangedAt w (λ t. ok (withKeys (by (t .keys)) t)) p b (Refused 18) (putMid w (length p - w) p rows′) b′
+  unfolding limitedAt andThen
+  keys-full f r e =
+      rw (as-before w p b rows′ o l r, e) (is-refused w (λ t. ok (withKeys (by (t .keys)) t)) p b o 18 (rw (too-many f)))
 
 -- ---- `put`
 
--- a key for which there is no row is one too many
-too-many : (k : List ℕ) (h : Held) (n : ℕ) (rows b : List ℕ) (t : Table) → length rows ≡ 64 → length b ≡ 1024 → t .keys ≡ keysIn n rows b
-    → kvs.Full ≡ roomFor (length (insert bytes k h (keysIn n rows b))) rows b → tableFits (putKey k h t) ≡ false
-unfolding tableFits putKey withKeys roomFor fits
-too-many k h n rows b t l m e f =
-    let c = length (insert bytes k h (keysIn n rows b)) in
-    rw e
-    (split (leb c 16)
-    (λ y.
-    let u = leb-true c 16 y in
-    let z : _≡_ {A = ℕ} 0 1 = (let g : kvs.Full ≡ kvs.Done c = rw (le-leb (c * 4) (length rows) (omega arith), le-leb (c * 64) (length b) (omega arith)) at f in cc) in
-    absurd (omega arith))
-    (λ y. rw y (and-false (leb (length (t .entries)) 64))))
+module _ (w : ℕ) (p b rows′ b′ : List ℕ) (o : WfAt w p b) (l : length rows′ ≡ length (keyRowsAt w p)) (k : List ℕ) (h : Held) where
+  pub put-done : (m : ℕ) → length b′ ≡ length b → PutKey (keyCount p) (keyRowsAt w p) b k h (kvs.Done m) rows′ b′
+      → ChangedAt w (λ t. ok (putKey k h t)) p b Done (set (putMid w (length p - w) p rows′) 8 m) b′
+  unfolding calls.Stands putKey
+  put-done m n t = keys-done w p b rows′ b′ o l (insert bytes k h) m n (t .stands)
 
-module _ (p b rows′ b′ : List ℕ) (w : Wf p b) (l : length rows′ ≡ length (keyRows p)) (k : List ℕ) (h : Held) where
-  pub put-done : (m : ℕ) → length b′ ≡ length b → PutKey (keyCount p) (keyRows p) b k h (kvs.Done m) rows′ b′
-      → Changed (λ t. ok (putKey k h t)) p b Done (set (putMid 522 64 p rows′) 8 m) b′
-  unfolding Stands putKey tableIn tableOf
-  put-done m n t =
-      let j = rows-kept p b rows′ w l in
-      rw (after-count p b rows′ w l m)
-      (done-by (λ t. ok (putKey k h t)) p b (put (put p 522 rows′) 8 (m ∷ [])) b′ (wf-keys p b rows′ b′ w j m (t .stands .wf) (n ∙ w .bytes-are)) (front-keys p b rows′ b′ w j m)
-      (ap ok (table-keys p b rows′ b′ w j m ∙ ap (λ x. withKeys x (tableIn p b)) (t .stands .is))))
-
-  pub put-full : PutKey (keyCount p) (keyRows p) b k h kvs.Full rows′ b′ → Changed (λ t. ok (putKey k h t)) p b (Refused 18) (putMid 522 64 p rows′) b′
-  unfolding putRows putBytes limitedTable andThen keyRows tableIn tableOf
-  put-full t =
-      let m = w .numbers .numbers-are in
-      rw (as-before p b rows′ w l (t .rows-are), t .bytes-are)
-      (is-refused (λ t. ok (putKey k h t)) p b w 18
-      (rw (too-many k h (keyCount p) (keyRows p) b (tableIn p b) (length-part 522 64 p (omega arith)) (w .bytes-are) refl (t .answer))))
+  pub put-full : PutKey (keyCount p) (keyRowsAt w p) b k h kvs.Full rows′ b′ → ChangedAt w (λ t. ok (putKey k h t)) p b (Refused 18) (putMid w (length p - w) p rows′) b′
+  unfolding putRows putBytes putKey
+  put-full t = keys-full w p b rows′ b′ o l (insert bytes k h) (t .answer) (t .rows-are) (t .bytes-are)
 
 -- ---- `delete`
 
-pub deleting : (p b rows′ b′ : List ℕ) → Wf p b → length rows′ ≡ length (keyRows p) → length b′ ≡ length b → (k : List ℕ) (m : ℕ) → DeleteKey (keyCount p) (keyRows p) b k m rows′ b′
-    → Changed (λ t. ok (deleteKey k t)) p b Done (set (putMid 522 64 p rows′) 8 m) b′
-unfolding deleteKey tableIn tableOf
-deleting p b rows′ b′ w l n k m t =
-    let j = rows-kept p b rows′ w l in
-    rw (after-count p b rows′ w l m)
-    (done-by (λ t. ok (deleteKey k t)) p b (put (put p 522 rows′) 8 (m ∷ [])) b′ (wf-keys p b rows′ b′ w j m (t .holds .wf) (n ∙ w .bytes-are)) (front-keys p b rows′ b′ w j m)
-    (ap ok (table-keys p b rows′ b′ w j m ∙ ap (λ x. withKeys x (tableIn p b)) (t .holds .is))))
+pub deleting : (w : ℕ) (p b rows′ b′ : List ℕ) → WfAt w p b → length rows′ ≡ length (keyRowsAt w p) → length b′ ≡ length b → (k : List ℕ) (m : ℕ) → DeleteKey (keyCount p) (keyRowsAt w p) b k m rows′ b′
+    → ChangedAt w (λ t. ok (deleteKey k t)) p b Done (set (putMid w (length p - w) p rows′) 8 m) b′
+unfolding deleteKey
+deleting w p b rows′ b′ o l n k m t = keys-done w p b rows′ b′ o l (remove bytes k) m n (t .holds)
+
+-- ---- `lay_keys`
+
+module _ (w : ℕ) (p b rows′ b′ : List ℕ) (o : WfAt w p b) (l : length rows′ ≡ length (keyRowsAt w p)) (newer : Map (List ℕ) Held) where
+  pub merge-done : (m : ℕ) → length b′ ≡ length b → MergeKeys (keyCount p) (keyRowsAt w p) b newer (kvs.Done m) rows′ b′
+      → ChangedAt w (keysOver newer) p b Done (set (putMid w (length p - w) p rows′) 8 m) b′
+  unfolding calls.Stands keysOver
+  merge-done m n t = keys-done w p b rows′ b′ o l (λ x. overKeys x newer) m n (t .stands)
+
+  pub merge-full : MergeKeys (keyCount p) (keyRowsAt w p) b newer kvs.Full rows′ b′ → ChangedAt w (keysOver newer) p b (Refused 18) (putMid w (length p - w) p rows′) b′
+  unfolding mergedParts keysOver
+  merge-full t = keys-full w p b rows′ b′ o l (λ x. overKeys x newer) (t .answer) (t .rows-are) (t .bytes-are)
 
 -- ---- `rewrite_key`
 
@@ -145,21 +170,21 @@ unfolding orElse rewrittenRows
 stays k gate s t i rows none e = refl
 stays k gate s t i rows (some h) e = rw (no-move k gate s t (h .file .queue) h refl e)
 
-module _ (p b rows′ : List ℕ) (w : Wf p b) (l : length rows′ ≡ length (keyRows p)) (k : List ℕ) (gate : Option ℕ) (s : ℕ) where
-  pub rewrite-done : RewriteKey (keyCount p) (keyRows p) b k gate s Accepted rows′ → Changed (rewrittenKey k gate s) p b Done (putMid 522 64 p rows′) b
-  unfolding rewrittenAs tableIn tableOf withKeys
+module _ (w : ℕ) (p b rows′ : List ℕ) (o : WfAt w p b) (l : length rows′ ≡ length (keyRowsAt w p)) (k : List ℕ) (gate : Option ℕ) (s : ℕ) where
+  pub rewrite-done : RewriteKey (keyCount p) (keyRowsAt w p) b k gate s Accepted rows′ → ChangedAt w (rewrittenKey k gate s) p b Done (putMid w (length p - w) p rows′) b
+  unfolding rewrittenAs tableAt tableOf withKeys
   rewrite-done t =
-      let j = rows-kept p b rows′ w l in
-      let q = put p 522 rows′ in
-      let o = holds-rows p b rows′ b w j in
-      rw (after-loan p b rows′ w l)
-      (done-by (rewrittenKey k gate s) p b q b
-      (wf-of q (headIn p) (entryRows p) (keyCount p) rows′ (isCounted p) o b (w .numbers .entries) (w .bytes-are) (t .wf))
-      (front-rows p b rows′ b w j)
-      (ap ok (table-of q (headIn p) (entryRows p) (keyCount p) rows′ (isCounted p) o b) ∙ sym (t .answer (tableIn p b) refl)))
+      let q = put p w rows′ in
+      let h = holds-rows w p b rows′ b o l in
+      rw (after-loan w p b rows′ o l)
+      (done-by w (rewrittenKey k gate s) p b o q b
+      (record { numbers = length-rows w p b rows′ o l; bytes = refl })
+      (wf-of w q (headIn p) (entryRowsAt w p) (keyCount p) rows′ (isCounted p) h b (o .numbers .entries) (t .wf))
+      (front-rows w p b rows′ b o l)
+      (ap ok (table-of w q (headIn p) (entryRowsAt w p) (keyCount p) rows′ (isCounted p) h b) ∙ sym (t .answer (tableAt w p b) refl)))
 
-  pub rewrite-back : RewriteKey (keyCount p) (keyRows p) b k gate s GoesBack rows′ → Changed (rewrittenKey k gate s) p b (Refused 17) (putMid 522 64 p rows′) b
-  unfolding rewrittenAs rewrittenKey tableIn tableOf
+  pub rewrite-back : RewriteKey (keyCount p) (keyRowsAt w p) b k gate s GoesBack rows′ → ChangedAt w (rewrittenKey k gate s) p b (Refused 17) (putMid w (length p - w) p rows′) b
+  unfolding rewrittenAs rewrittenKey tableAt tableOf
   rewrite-back t =
-      let e = t .answer (tableIn p b) refl in
-      rw (as-before p b rows′ w l (t .rows-are ∙ stays k gate s (tableIn p b) _ (keyRows p) _ e)) (refused-by (rewrittenKey k gate s) p b w 17 (sym e))
+      let e = t .answer (tableAt w p b) refl in
+      rw (as-before w p b rows′ o l (t .rows-are ∙ stays k gate s (tableAt w p b) _ (keyRowsAt w p) _ e)) (refused-by w (rewrittenKey k gate s) p b o 17 (sym e))

@@ -2,3 +2,4 @@
 pub mod Outcomes
 pub mod EntryWays
 pub mod KeyWays
+pub mod SpanWays

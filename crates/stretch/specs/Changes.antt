@@ -1,16 +1,19 @@
 -- What an item does to its group's table, as the rules' change of a table, and what a stretch is after it.
-use mathlib.Core.Bool.{cond, true}
+use mathlib.Core.Bool.{Bool, cond, true, _&&_}
 use mathlib.Core.List.{List}
 use mathlib.Core.Path.{_≡_}
 use Prim.Native.Nat.{ℕ, _/_, _≤_}
+use lib.Dec.{leb}
 use lib.ListN.{length, take}
 use Rattle.maps.specs.Lists.{every}
+use Rattle.maps.specs.Maps.{Map}
 use Rattle.pipe_log.specs.Numbers.{gateOf}
 use Rattle.pipe_log.specs.Rows.{window}
 use Rattle.rules.specs.Causes.{Result, ok, refused, refuse, andThen, limitPassed}
 use Rattle.rules.specs.Items.{isRewrite}
-use Rattle.rules.specs.Table.{Table, appended, replayedRewrite, rewritten, compacted, putKey, deleteKey, rewrittenKey}
+use Rattle.rules.specs.Table.{Held, Table, withKeys, overKeys, appended, replayedRewrite, rewritten, compacted, putKey, deleteKey, rewrittenKey}
 use Rattle.rules.specs.Context.{tableFits}
+use Rattle.kvs.specs.Rows.{fits}
 use Rattle.kvs.specs.Calls.{heldBy}
 use Rattle.memtable.specs.Appends.{Lent}
 use Rattle.stretch.specs.declared.Change.{Change}
@@ -22,7 +25,7 @@ use Rattle.memtable.specs.declared.Appended.{Appended}
 use Rattle.memtable.specs.declared.Appended.the-variants as appended
 use Rattle.memtable.specs.declared.Rewritten.{Rewritten}
 use Rattle.memtable.specs.declared.Rewritten.the-variants as rewritten
-use Rattle.stretch.specs.Stretch.{headNumbers, tableIn, Wf}
+use Rattle.stretch.specs.Stretch.{headNumbers, entryRowsAt, keyRowsAt, tableAt, WfAt, tableIn, Wf}
 
 -- the rules' change of a table; `rows` are a list's entries, `key` and `value` those of a key change
 unfoldable pub ruleOf : Change → List ℕ → List ℕ → List ℕ → Table → Result Table
@@ -46,6 +49,10 @@ Ready change.Delete rows key value t = Unit {0}
 Ready (change.RewriteKey gate seq) rows key value t = Unit {0}
 Ready change.Make rows key value t = Unit {0}
 
+-- a newer table's keys laid over
+unfoldable pub keysOver : Map (List ℕ) Held → Table → Result Table
+keysOver newer t = ok (withKeys (overKeys (t .keys) newer) t)
+
 -- a table that passes a limit is refused by 18
 unfoldable pub limitedTable : Result Table → Result Table
 limitedTable r = andThen r (λ t. cond (tableFits t) (ok t) (refuse limitPassed))
@@ -55,7 +62,24 @@ abbrev pub outcomeAs : {A : Type 0} → Outcome → A → Result A
 outcomeAs Done a = ok a
 outcomeAs (Refused n) a = refused (record { number = n; place = mathlib.Core.Option.none })
 
--- a stretch p with its bytes b changed by a rule; p′ and b′ are at exit
+-- whether a stretch with its bytes has room for a table
+unfoldable pub roomAt : ℕ → List ℕ → List ℕ → Table → Bool
+roomAt w p b t = leb (length (t .entries)) (length (entryRowsAt w p) / 8) && fits (length (t .keys)) (keyRowsAt w p) b
+
+-- a table for which there is no room is refused by 18
+unfoldable pub limitedAt : ℕ → List ℕ → List ℕ → Result Table → Result Table
+limitedAt w p b r = andThen r (λ t. cond (roomAt w p b t) (ok t) (refuse limitPassed))
+
+-- a stretch p of any width with its bytes b changed by a rule; p′ and b′ are at exit
+pub record ChangedAt (w : ℕ) (by : Table → Result Table) (p b : List ℕ) (r : Outcome) (p′ b′ : List ℕ) : Type 0 where
+  pub rule : outcomeAs r (tableAt w p′ b′) ≡ limitedAt w p b (by (tableAt w p b))
+  -- used and the group's number stay
+  pub front : take 2 p′ ≡ take 2 p
+  -- refused: all as it was
+  pub left : (n : ℕ) → r ≡ Refused n → (p′ ≡ p) × (b′ ≡ b)
+  pub wf : WfAt w p′ b′
+
+-- the same of a group's stretch
 pub record Changed (by : Table → Result Table) (p b : List ℕ) (r : Outcome) (p′ b′ : List ℕ) : Type 0 where
   pub rule : outcomeAs r (tableIn p′ b′) ≡ limitedTable (by (tableIn p b))
   -- used and the group's number stay

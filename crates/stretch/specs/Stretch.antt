@@ -4,7 +4,7 @@ use mathlib.Core.Bool.{Bool, cond}
 use mathlib.Core.List.{List, [], _∷_}
 use mathlib.Core.Option.{none, some}
 use mathlib.Core.Path.{_≡_}
-use Prim.Native.Nat.{ℕ}
+use Prim.Native.Nat.{ℕ, _-_, _≤_}
 use lib.Dec.{eqb}
 use lib.ListN.{length, getD}
 use Rattle.cells.specs.Part.{part}
@@ -52,7 +52,30 @@ headNumbers h = h .«first_index» ∷ h .len ∷ h .«rewrite_count» ∷ spanN
 unfoldable pub madeHeader : ℕ → List ℕ
 madeHeader g = 1 ∷ g ∷ 0 ∷ 0 ∷ 0 ∷ 0 ∷ 0 ∷ 0 ∷ 0 ∷ 1 ∷ []
 
--- ---- the rows
+-- ---- a stretch of any width, whose rows of keys begin at place w
+
+unfoldable pub entryRowsAt : ℕ → List ℕ → List ℕ
+entryRowsAt w p = part entriesAt (w - entriesAt) p
+
+unfoldable pub keyRowsAt : ℕ → List ℕ → List ℕ
+keyRowsAt w p = part w (length p - w) p
+
+-- the table that it stands for, with its bytes
+unfoldable pub tableAt : ℕ → List ℕ → List ℕ → Table
+tableAt w p b = tableOf (headIn p) (entryRowsAt w p) (keysIn (keyCount p) (keyRowsAt w p) b) (isCounted p)
+
+-- what holds of its numbers between calls
+pub record NumbersAt (w : ℕ) (p : List ℕ) : Type 0 where
+  pub from : entriesAt ≤ w
+  pub to : w ≤ length p
+  pub entries : memtable.Wf (headIn p) (entryRowsAt w p)
+
+-- what holds of it with its bytes
+pub record WfAt (w : ℕ) (p b : List ℕ) : Type 0 where
+  pub numbers : NumbersAt w p
+  pub keys : kvs.Wf (keyCount p) (keyRowsAt w p) b
+
+-- ---- a group's stretch, of 586 numbers and 1,024 bytes
 
 unfoldable pub entryRows : List ℕ → List ℕ
 entryRows p = part entriesAt entryNumbers p
@@ -60,8 +83,7 @@ entryRows p = part entriesAt entryNumbers p
 unfoldable pub keyRows : List ℕ → List ℕ
 keyRows p = part keysAt keyNumbers p
 
--- ---- what a stretch with its bytes stands for
-
+-- what it stands for
 unfoldable pub tableIn : List ℕ → List ℕ → Table
 tableIn p b = tableOf (headIn p) (entryRows p) (keysIn (keyCount p) (keyRows p) b) (isCounted p)
 

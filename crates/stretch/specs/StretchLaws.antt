@@ -1,13 +1,13 @@
 -- A stretch taken apart into what it holds, and what it holds after a head, rows or a number of keys are laid in. Assumes nothing.
 use mathlib.Core.Bool.{Bool, cond}
 use mathlib.Core.List.{List, [], _∷_}
-use mathlib.Core.Path.{_≡_, refl, _∙_}
-use Prim.Native.Nat.{ℕ, _+_, _≤_, _<_}
+use mathlib.Core.Path.{_≡_, refl, sym, ap, _∙_}
+use Prim.Native.Nat.{ℕ, _+_, _-_, _≤_, _<_}
 use native.Mathlib.Omega.{arith}
 use lib.Dec.{eqb}
 use lib.ListN.{length, getD, take}
 use Rattle.cells.specs.Part.{put}
-use Rattle.cells.specs.PartLaws.{length-put, take-put, getD-put-in, getD-put-before, getD-put-after, part-put-same, part-put-before, part-put-after}
+use Rattle.cells.specs.PartLaws.{length-part, length-put, take-put, getD-put-in, getD-put-before, getD-put-after, part-put-same, part-put-before, part-put-after}
 use Rattle.kvs.specs.Rows.{keysIn}
 use Rattle.kvs.specs.Rows as kvs
 use Rattle.memtable.specs.declared.AtomicGroup.{AtomicGroup}
@@ -15,20 +15,29 @@ use Rattle.memtable.specs.declared.AtomicGroup.the-variants as group
 use Rattle.memtable.specs.declared.Head.{Head}
 use Rattle.memtable.specs.Views.{tableOf}
 use Rattle.memtable.specs.Views as memtable
-use Rattle.stretch.specs.Layout.{stretchWidth, bytesWidth, entryNumbers, keyNumbers}
-use Rattle.stretch.specs.Stretch.{spanIn, headIn, keyCount, isCounted, spanNumbers, headNumbers, entryRows, keyRows, tableIn, Wf}
+use Rattle.stretch.specs.Stretch.{spanIn, headIn, keyCount, isCounted, spanNumbers, headNumbers, entryRowsAt, keyRowsAt, tableAt, WfAt}
 
 -- the head, the rows of entries, the number of keys, their rows and the mark of counting that the numbers hold
-pub record Holds (q : List ℕ) (h : Head) (xs : List ℕ) (n : ℕ) (rows : List ℕ) (c : Bool) : Type 0 where
-  pub numbers-are : length q ≡ stretchWidth
+pub record Holds (w : ℕ) (q : List ℕ) (h : Head) (xs : List ℕ) (n : ℕ) (rows : List ℕ) (c : Bool) : Type 0 where
+  pub from : 10 ≤ w
+  pub to : w ≤ length q
   pub head : headIn q ≡ h
-  pub entries : entryRows q ≡ xs
+  pub entries : entryRowsAt w q ≡ xs
   pub count : keyCount q ≡ n
-  pub keys : keyRows q ≡ rows
+  pub keys : keyRowsAt w q ≡ rows
   pub counted : isCounted q ≡ c
 
-pub own : (p : List ℕ) → length p ≡ stretchWidth → Holds p (headIn p) (entryRows p) (keyCount p) (keyRows p) (isCounted p)
-own p l = record { numbers-are = l; head = refl; entries = refl; count = refl; keys = refl; counted = refl }
+pub own : (w : ℕ) (p : List ℕ) → 10 ≤ w → w ≤ length p → Holds w p (headIn p) (entryRowsAt w p) (keyCount p) (keyRowsAt w p) (isCounted p)
+own w p a b = record { from = a; to = b; head = refl; entries = refl; count = refl; keys = refl; counted = refl }
+
+-- how long the rows are
+pub length-entries : (w : ℕ) (p : List ℕ) → 10 ≤ w → w ≤ length p → length (entryRowsAt w p) ≡ w - 10
+unfolding entryRowsAt
+length-entries w p a b = length-part 10 (w - 10) p (omega arith)
+
+pub length-keys : (w : ℕ) (p : List ℕ) → w ≤ length p → length (keyRowsAt w p) ≡ length p - w
+unfolding keyRowsAt
+length-keys w p b = length-part w (length p - w) p (omega arith)
 
 -- ---- the numbers of a head
 
@@ -76,74 +85,92 @@ head-put q h l =
 
 -- ---- what is laid in
 
-module _ (q : List ℕ) (h : Head) (xs : List ℕ) (n : ℕ) (rows : List ℕ) (c : Bool) (w : Holds q h xs n rows c) where
-  pub with-head : (g : Head) → Holds (put q 2 (headNumbers g)) g xs n rows c
-  unfolding entryRows keyRows keyCount isCounted
+-- what is laid in before the rows of keys leaves them
+keys-after : (w : ℕ) (q : List ℕ) (at : ℕ) (s : List ℕ) → at + length s ≤ w → w ≤ length q → keyRowsAt w (put q at s) ≡ keyRowsAt w q
+unfolding keyRowsAt
+keys-after w q at s a b = rw (length-put q at s (omega arith)) (part-put-after w (length q - w) q at s a (omega arith))
+
+module _ (w : ℕ) (q : List ℕ) (h : Head) (xs : List ℕ) (n : ℕ) (rows : List ℕ) (c : Bool) (o : Holds w q h xs n rows c) where
+  pub with-head : (g : Head) → Holds w (put q 2 (headNumbers g)) g xs n rows c
+  unfolding entryRowsAt keyCount isCounted
   with-head g =
       let s = headNumbers g in
       let l : length s ≡ 6 = length-head g in
-      let m : length q ≡ 586 = w .numbers-are in
+      let a = o .from in
+      let b = o .to in
+      let m : length (put q 2 s) ≡ length q = length-put q 2 s (omega arith) in
       record {
-        numbers-are = length-put q 2 s (omega arith) ∙ m;
+        from = a;
+        to = omega arith;
         head = head-put q g (omega arith);
-        entries = part-put-after 10 512 q 2 s (omega arith) (omega arith) ∙ w .entries;
-        count = getD-put-after q 2 s 8 0 (omega arith) (omega arith) ∙ w .count;
-        keys = part-put-after 522 64 q 2 s (omega arith) (omega arith) ∙ w .keys;
-        counted = rw (getD-put-after q 2 s 9 0 (omega arith) (omega arith)) (w .counted);
+        entries = part-put-after 10 (w - 10) q 2 s (omega arith) (omega arith) ∙ o .entries;
+        count = getD-put-after q 2 s 8 0 (omega arith) (omega arith) ∙ o .count;
+        keys = keys-after w q 2 s (omega arith) b ∙ o .keys;
+        counted = rw (getD-put-after q 2 s 9 0 (omega arith) (omega arith)) (o .counted);
       }
 
-  pub with-entries : (ys : List ℕ) → length ys ≡ entryNumbers → Holds (put q 10 ys) h ys n rows c
-  unfolding entryRows keyRows keyCount isCounted
+  pub with-entries : (ys : List ℕ) → length ys ≡ length xs → Holds w (put q 10 ys) h ys n rows c
+  unfolding entryRowsAt keyCount isCounted
   with-entries ys l =
-      let m : length q ≡ 586 = w .numbers-are in
+      let a = o .from in
+      let b = o .to in
+      let k : length ys ≡ w - 10 = l ∙ ap length (sym (o .entries)) ∙ length-entries w q a b in
+      let m : length (put q 10 ys) ≡ length q = length-put q 10 ys (omega arith) in
       record {
-        numbers-are = length-put q 10 ys (omega arith) ∙ m;
-        head = head-same q (put q 10 ys) (λ i b. getD-put-before q 10 ys i 0 (omega arith) (omega arith)) ∙ w .head;
-        entries = part-put-same 512 q 10 ys l (omega arith);
-        count = getD-put-before q 10 ys 8 0 (omega arith) (omega arith) ∙ w .count;
-        keys = part-put-after 522 64 q 10 ys (omega arith) (omega arith) ∙ w .keys;
-        counted = rw (getD-put-before q 10 ys 9 0 (omega arith) (omega arith)) (w .counted);
+        from = a;
+        to = omega arith;
+        head = head-same q (put q 10 ys) (λ i d. getD-put-before q 10 ys i 0 (omega arith) (omega arith)) ∙ o .head;
+        entries = part-put-same (w - 10) q 10 ys k (omega arith);
+        count = getD-put-before q 10 ys 8 0 (omega arith) (omega arith) ∙ o .count;
+        keys = keys-after w q 10 ys (omega arith) b ∙ o .keys;
+        counted = rw (getD-put-before q 10 ys 9 0 (omega arith) (omega arith)) (o .counted);
       }
 
-  pub with-count : (m : ℕ) → Holds (put q 8 (m ∷ [])) h xs m rows c
-  unfolding entryRows keyRows keyCount isCounted
+  pub with-count : (m : ℕ) → Holds w (put q 8 (m ∷ [])) h xs m rows c
+  unfolding entryRowsAt keyCount isCounted
   with-count m =
       let s : List ℕ = m ∷ [] in
-      let k : length q ≡ 586 = w .numbers-are in
+      let a = o .from in
+      let b = o .to in
+      let k : length (put q 8 s) ≡ length q = length-put q 8 s (omega arith) in
       record {
-        numbers-are = length-put q 8 s (omega arith) ∙ k;
-        head = head-same q (put q 8 s) (λ i b. getD-put-before q 8 s i 0 b (omega arith)) ∙ w .head;
-        entries = part-put-after 10 512 q 8 s (omega arith) (omega arith) ∙ w .entries;
+        from = a;
+        to = omega arith;
+        head = head-same q (put q 8 s) (λ i d. getD-put-before q 8 s i 0 d (omega arith)) ∙ o .head;
+        entries = part-put-after 10 (w - 10) q 8 s (omega arith) (omega arith) ∙ o .entries;
         count = getD-put-in q 8 s 0 0 (omega arith) (omega arith);
-        keys = part-put-after 522 64 q 8 s (omega arith) (omega arith) ∙ w .keys;
-        counted = rw (getD-put-after q 8 s 9 0 (omega arith) (omega arith)) (w .counted);
+        keys = keys-after w q 8 s (omega arith) b ∙ o .keys;
+        counted = rw (getD-put-after q 8 s 9 0 (omega arith) (omega arith)) (o .counted);
       }
 
-  pub with-keys : (r : List ℕ) → length r ≡ keyNumbers → Holds (put q 522 r) h xs n r c
-  unfolding entryRows keyRows keyCount isCounted
+  pub with-keys : (r : List ℕ) → length r ≡ length rows → Holds w (put q w r) h xs n r c
+  unfolding entryRowsAt keyRowsAt keyCount isCounted
   with-keys r l =
-      let m : length q ≡ 586 = w .numbers-are in
+      let a = o .from in
+      let b = o .to in
+      let k : length r ≡ length q - w = l ∙ ap length (sym (o .keys)) ∙ length-keys w q b in
+      let m : length (put q w r) ≡ length q = length-put q w r (omega arith) in
       record {
-        numbers-are = length-put q 522 r (omega arith) ∙ m;
-        head = head-same q (put q 522 r) (λ i b. getD-put-before q 522 r i 0 (omega arith) (omega arith)) ∙ w .head;
-        entries = part-put-before 10 512 q 522 r (omega arith) (omega arith) ∙ w .entries;
-        count = getD-put-before q 522 r 8 0 (omega arith) (omega arith) ∙ w .count;
-        keys = part-put-same 64 q 522 r l (omega arith);
-        counted = rw (getD-put-before q 522 r 9 0 (omega arith) (omega arith)) (w .counted);
+        from = a;
+        to = omega arith;
+        head = head-same q (put q w r) (λ i d. getD-put-before q w r i 0 (omega arith) b) ∙ o .head;
+        entries = part-put-before 10 (w - 10) q w r (omega arith) b ∙ o .entries;
+        count = getD-put-before q w r 8 0 (omega arith) b ∙ o .count;
+        keys = rw m (part-put-same (length q - w) q w r k b);
+        counted = rw (getD-put-before q w r 9 0 (omega arith) b) (o .counted);
       }
 
   -- ---- what the stretch stands for
 
-  pub table-of : (b : List ℕ) → tableIn q b ≡ tableOf h xs (keysIn n rows b) c
-  unfolding tableIn
-  table-of b = rw (w .head, w .entries, w .count, w .keys, w .counted)
+  pub table-of : (b : List ℕ) → tableAt w q b ≡ tableOf h xs (keysIn n rows b) c
+  unfolding tableAt
+  table-of b = rw (o .head, o .entries, o .count, o .keys, o .counted)
 
-  pub wf-of : (b : List ℕ) → memtable.Wf h xs → length b ≡ bytesWidth → kvs.Wf n rows b → Wf q b
-  wf-of b e l k =
+  pub wf-of : (b : List ℕ) → memtable.Wf h xs → kvs.Wf n rows b → WfAt w q b
+  wf-of b e k =
       record {
-        numbers = record { numbers-are = w .numbers-are; entries = rw (w .head, w .entries) e };
-        bytes-are = l;
-        keys = rw (w .count, w .keys) k;
+        numbers = record { from = o .from; to = o .to; entries = rw (o .head, o .entries) e };
+        keys = rw (o .count, o .keys) k;
       }
 
 -- used and the group's number stay where something is laid in behind them

@@ -1,4 +1,4 @@
-// Changes of a group's entries, each by the head's own method on the rows of the stretch. They see no bytes.
+// Changes of a group's entries, each by the head's own method on the rows of the stretch before `keys_at`. They see no bytes.
 ghost use mathlib.Core.List.{List};
 ghost use mathlib.Core.Path.{_≡_};
 ghost use Prim.Native.Nat.{ℕ, _/_, _≤_};
@@ -8,14 +8,13 @@ ghost use Rattle.pipe_log.specs.Rows.{window};
 ghost use Rattle.rules.specs.Causes.{ok};
 ghost use Rattle.rules.specs.Table.{appended, replayedRewrite, rewritten, compacted};
 ghost use Rattle.memtable.specs.Appends.{Lent};
-ghost use Rattle.stretch.specs.Stretch.{headIn, NumbersWf, Wf};
-ghost use Rattle.stretch.specs.Changes.{Changed, laidOutcome, laidNumbers, movedOutcome, movedNumbers};
+ghost use Rattle.stretch.specs.Stretch.{headIn, NumbersAt, WfAt};
+ghost use Rattle.stretch.specs.Changes.{ChangedAt, laidOutcome, laidNumbers, movedOutcome, movedNumbers};
 use crate::ABOVE_LAST;
 use crate::ALREADY_REWRITTEN;
 use crate::APPEND_LEFT;
 use crate::BELOW_FIRST;
 use crate::ENTRIES_AT;
-use crate::KEYS_AT;
 use crate::LIMIT_PASSED;
 use crate::Outcome;
 use crate::header::head_in;
@@ -41,29 +40,39 @@ fn settle_laid(p: &mut [u64], answer: Appended) -> Outcome
 }
 
 // Appends entries of the Append queue, live or replayed.
-pub fn append(p: &mut [u64], first: u64, rows: &[u64], live: bool) -> Outcome
-    requires { ⌜ NumbersWf (now p) ⌝ }
+pub fn append(p: &mut [u64], keys_at: usize, first: u64, rows: &[u64], live: bool) -> Outcome
+    requires { ⌜ NumbersAt «keys_at» (now p) ⌝ }
     requires { ⌜ Lent 0 first (now rows) ⌝ }
-    ensures { λ r. ⌜ ((b : List ℕ) → Wf (now (p .entry)) b → Changed (appended live (window first (length (now (rows .entry)) / 8) (now (rows .entry)))) (now (p .entry)) b r (now (p .exit)) b) ⌝ }
+    ensures { λ r. ⌜ ((b : List ℕ) → WfAt «keys_at» (now (p .entry)) b → ChangedAt «keys_at» (appended live (window first (length (now (rows .entry)) / 8) (now (rows .entry)))) (now (p .entry)) b r (now (p .exit)) b) ⌝ }
 {
     let head = head_in(p);
     let a = ENTRIES_AT;
-    let e = KEYS_AT;
-    let answer = head.append(&mut p[a..e], first, rows, live);
+    let answer = head.append(&mut p[a..keys_at], first, rows, live);
     settle_laid(p, answer)
 }
 
 // Replays entries of the Rewrite queue on a group that has no others.
-pub fn replay_rewrite(p: &mut [u64], first: u64, rows: &[u64]) -> Outcome
-    requires { ⌜ NumbersWf (now p) ⌝ }
+pub fn replay_rewrite(p: &mut [u64], keys_at: usize, first: u64, rows: &[u64]) -> Outcome
+    requires { ⌜ NumbersAt «keys_at» (now p) ⌝ }
     requires { ⌜ Lent 1 first (now rows) ⌝ }
     requires { ⌜ headIn (now p) .len ≤ headIn (now p) .«rewrite_count» ⌝ }
-    ensures { λ r. ⌜ ((b : List ℕ) → Wf (now (p .entry)) b → Changed (λ t. ok (replayedRewrite (window first (length (now (rows .entry)) / 8) (now (rows .entry))) t)) (now (p .entry)) b r (now (p .exit)) b) ⌝ }
+    ensures { λ r. ⌜ ((b : List ℕ) → WfAt «keys_at» (now (p .entry)) b → ChangedAt «keys_at» (λ t. ok (replayedRewrite (window first (length (now (rows .entry)) / 8) (now (rows .entry))) t)) (now (p .entry)) b r (now (p .exit)) b) ⌝ }
 {
     let head = head_in(p);
     let a = ENTRIES_AT;
-    let e = KEYS_AT;
-    let answer = head.replay_rewrite(&mut p[a..e], first, rows);
+    let answer = head.replay_rewrite(&mut p[a..keys_at], first, rows);
+    settle_laid(p, answer)
+}
+
+// Lays entries of the Append queue over those of the group, a gap dropping all: the join.
+pub fn join(p: &mut [u64], keys_at: usize, first: u64, rows: &[u64]) -> Outcome
+    requires { ⌜ NumbersAt «keys_at» (now p) ⌝ }
+    requires { ⌜ Lent 0 first (now rows) ⌝ }
+    ensures { λ r. ⌜ ((b : List ℕ) → WfAt «keys_at» (now (p .entry)) b → ChangedAt «keys_at» (λ t. ok (replayedRewrite (window first (length (now (rows .entry)) / 8) (now (rows .entry))) t)) (now (p .entry)) b r (now (p .exit)) b) ⌝ }
+{
+    let head = head_in(p);
+    let a = ENTRIES_AT;
+    let answer = head.merge_append_table(&mut p[a..keys_at], first, rows);
     settle_laid(p, answer)
 }
 
@@ -83,27 +92,25 @@ fn settle_rewritten(p: &mut [u64], answer: Rewritten) -> Outcome
 }
 
 // Rewrites entries where the rows overlap them.
-pub fn rewrite(p: &mut [u64], first: u64, rows: &[u64], gate: Gate) -> Outcome
-    requires { ⌜ NumbersWf (now p) ⌝ }
+pub fn rewrite(p: &mut [u64], keys_at: usize, first: u64, rows: &[u64], gate: Gate) -> Outcome
+    requires { ⌜ NumbersAt «keys_at» (now p) ⌝ }
     requires { ⌜ Lent 1 first (now rows) ⌝ }
-    ensures { λ r. ⌜ ((b : List ℕ) → Wf (now (p .entry)) b → Changed (rewritten (gateOf gate) (window first (length (now (rows .entry)) / 8) (now (rows .entry)))) (now (p .entry)) b r (now (p .exit)) b) ⌝ }
+    ensures { λ r. ⌜ ((b : List ℕ) → WfAt «keys_at» (now (p .entry)) b → ChangedAt «keys_at» (rewritten (gateOf gate) (window first (length (now (rows .entry)) / 8) (now (rows .entry)))) (now (p .entry)) b r (now (p .exit)) b) ⌝ }
 {
     let head = head_in(p);
     let a = ENTRIES_AT;
-    let e = KEYS_AT;
-    let answer = head.rewrite(&mut p[a..e], first, rows, gate);
+    let answer = head.rewrite(&mut p[a..keys_at], first, rows, gate);
     settle_rewritten(p, answer)
 }
 
 // Drops the entries below an index.
-pub fn compact(p: &mut [u64], index: u64) -> Outcome
-    requires { ⌜ NumbersWf (now p) ⌝ }
-    ensures { λ r. ⌜ ((b : List ℕ) → Wf (now (p .entry)) b → Changed (λ t. ok (compacted index t)) (now (p .entry)) b r (now (p .exit)) b) ⌝ }
+pub fn compact(p: &mut [u64], keys_at: usize, index: u64) -> Outcome
+    requires { ⌜ NumbersAt «keys_at» (now p) ⌝ }
+    ensures { λ r. ⌜ ((b : List ℕ) → WfAt «keys_at» (now (p .entry)) b → ChangedAt «keys_at» (λ t. ok (compacted index t)) (now (p .entry)) b r (now (p .exit)) b) ⌝ }
 {
     let head = head_in(p);
     let a = ENTRIES_AT;
-    let e = KEYS_AT;
-    let answer = head.compact_to(&mut p[a..e], index);
+    let answer = head.compact_to(&mut p[a..keys_at], index);
     let next = answer.head;
     write_head(p, next);
     Outcome::Done

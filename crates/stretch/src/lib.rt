@@ -4,15 +4,22 @@ mod changes;
 mod entries;
 mod header;
 mod keys;
+mod spans;
 
 pub use changes::apply;
+pub use entries::append;
+pub use entries::join;
+pub use entries::replay_rewrite;
 pub use header::head_in;
 pub use header::make;
 pub use header::write_head;
+pub use keys::lay_keys;
 use pipe_log::Gate;
 use pipe_log::LogQueue;
+pub use spans::set_span;
+pub use spans::write_span;
 
-// The layout of a stretch.
+// The layout of a group's stretch.
 pub const ENTRIES_AT: usize = 10;
 
 pub const KEYS_AT: usize = 522;
@@ -40,6 +47,8 @@ pub enum Outcome {
 }
 
 // Document 01's numbers of the causes that a change meets.
+pub const FILES_GO_BACK: u64 = 8;
+
 pub const BELOW_FIRST: u64 = 13;
 
 pub const ABOVE_LAST: u64 = 14;

@@ -1,5 +1,6 @@
 -- `groups::calls::apply_at` meets its contract. Assumes nothing.
 use Rattle.stretch.specs.Changes.{ruleOf}
+use Rattle.stretch.specs.Laws.{wf-any, table-short}
 use Rattle.groups.proofs.Applying.{lent-numbers, lent-bytes, changed-back}
 use borrow.Author.Needs.{needs}
 use Rattle.groups.proofs.calls.apply_at.Statement.{statement}
@@ -42,7 +43,8 @@ apply-requires : tie.Need-apply-requires
 apply-requires c κs =
     let start = c .before .before .before .before .before .before .before in
     rw (lent-numbers (start .args .k) (start .args .xs .now), lent-bytes (start .args .k) (start .args .bs .now))
-    (start .pre .0 .used (start .args .k) (start .pre .1 .0 .0) (start .pre .1 .0 .1), start .pre .1 .1)
+    (let w = start .pre .0 .used (start .args .k) (start .pre .1 .0 .0) (start .pre .1 .0 .1) in
+    (wf-any _ _ w, rw (table-short _ _ (w .numbers .numbers-are)) (start .pre .1 .1)))
 
 same-length : tie.Need-same-length
 same-length c = search needs
@@ -54,7 +56,7 @@ returns : tie.Need-returns
 returns c =
     let start = c .before .before .before .before .before .before .before .before .before .before .before .before in
     let apply = c .before .before .before .before .apply in
-    changed-back (ruleOf (start .args .change) (start .args .rows .now) (start .args .key .now) (start .args .value .now)) (start .args .k) (start .args .xs .now) (start .args .bs .now) _ _ _ (start .pre .1 .0 .0) (start .pre .0 .numbers-fit) (start .pre .0 .bytes-fit) (apply .ensures)
+    changed-back (ruleOf (start .args .change) (start .args .rows .now) (start .args .key .now) (start .args .value .now)) (start .args .k) (start .args .xs .now) (start .args .bs .now) _ _ _ (start .pre .1 .0 .0) (start .pre .0 .numbers-fit) (start .pre .0 .bytes-fit) (apply .kept .0) (apply .kept .1 .0) (apply .ensures)
 
 pub apply-at-spec : {M : Type 1} → statement M
 apply-at-spec =

@@ -24,7 +24,7 @@ unfolding Ready
 replay-rewrite-requires c κs =
     let start = c .before .before .before .before .before .before .before .before .before in
     let change2 = c .before .before .change2 in
-    let ready = rw (change2 .given .1) at (start .pre .1) in (start .pre .0 .numbers, (ready .0, only-rewrites _ _ (start .pre .0) (ready .1)))
+    let ready = rw (change2 .given .1) at (start .pre .1) in (start .pre .0 .numbers, (ready .0, only-rewrites _ _ _ (start .pre .0) (ready .1)))
 
 enum-known-change-3 : tie.Need-enum-known-change-3
 enum-known-change-3 c = search needs
@@ -154,7 +154,7 @@ returns-8 : tie.Need-returns-8
 unfolding ruleOf
 returns-8 c =
     let start = c .before .before .before .before .before .before .before in
-    rw (c .enum-told2 .given .1) (made (start .args .p .now) (start .args .b .now) (start .pre .0))
+    rw (c .enum-told2 .given .1) (made _ (start .args .p .now) (start .args .b .now) (start .pre .0))
 
 pub apply-spec : {M : Type 1} → statement M
 apply-spec =

@@ -1,6 +1,6 @@
 -- `stretch::entries::append` meets its contract. Assumes nothing.
 use Rattle.cells.specs.Part.{part}
-use Rattle.stretch.specs.Stretch.{entryRows}
+use Rattle.stretch.specs.Stretch.{entryRowsAt}
 use Rattle.stretch.proofs.EntryWays.{laying}
 use borrow.Author.Needs.{needs}
 use Rattle.stretch.proofs.entries.append.Statement.{statement}
@@ -22,7 +22,7 @@ part-append-end : tie.Need-part-append-end
 part-append-end c = search needs
 
 append-requires : tie.Need-append-requires
-unfolding entryRows part
+unfolding entryRowsAt part
 append-requires c κs =
     let start = c .before .before .before .before .before in
     let head-in = c .before .head-in in
@@ -35,13 +35,13 @@ same-length : tie.Need-same-length
 same-length c = search needs
 
 returns : tie.Need-returns
-unfolding entryRows part
+unfolding entryRowsAt part
 returns c =
     let start = c .before .before .before .before .before .before .before .before .before .before .before .before in
     let head-in = c .before .before .before .before .before .before .before .before .head-in in
     let append = c .before .before .before .before .before .before .append in
     let settle-laid = c .before .before .settle-laid in
-    λ b w. laying _ (start .args .p .now) (append .last .1 .0) (start .args .rows .now) (append .kept .1 .0) _ _ b w _ (rw (head-in .ensures) at (append .ensures)) (settle-laid .ensures .0) (settle-laid .ensures .1)
+    λ b w. laying _ _ (start .args .p .now) (append .last .1 .0) (start .args .rows .now) (append .kept .1 .0) _ _ b w _ (rw (head-in .ensures) at (append .ensures)) (settle-laid .ensures .0) (settle-laid .ensures .1)
 
 pub append-spec : {M : Type 1} → statement M
 append-spec =

@@ -1,6 +1,6 @@
 -- `stretch::entries::compact` meets its contract. Assumes nothing.
 use Rattle.cells.specs.Part.{part}
-use Rattle.stretch.specs.Stretch.{entryRows}
+use Rattle.stretch.specs.Stretch.{entryRowsAt}
 use Rattle.stretch.proofs.EntryWays.{compacting}
 use borrow.Author.Needs.{needs}
 use Rattle.stretch.proofs.entries.compact.Statement.{statement}
@@ -22,7 +22,7 @@ part-compact-to-end : tie.Need-part-compact-to-end
 part-compact-to-end c = search needs
 
 compact-to-requires : tie.Need-compact-to-requires
-unfolding entryRows part
+unfolding entryRowsAt part
 compact-to-requires c κs =
     let start = c .before .before .before .before in
     let head-in = c .before .head-in in
@@ -35,13 +35,13 @@ same-length : tie.Need-same-length
 same-length c = search needs
 
 returns : tie.Need-returns
-unfolding entryRows part
+unfolding entryRowsAt part
 returns c =
     let start = c .before .before .before .before .before .before .before .before .before .before .before .before in
     let head-in = c .before .before .before .before .before .before .before .before .before .head-in in
     let compact-to = c .before .before .before .before .before .before .before .compact-to in
     let write-head = c .before .before .write-head in
-    λ b w. compacting _ (start .args .p .now) (compact-to .last .1 .0) (compact-to .kept .1 .0) _ _ b w (rw (head-in .ensures) at (compact-to .ensures)) (write-head .ensures)
+    λ b w. compacting _ _ (start .args .p .now) (compact-to .last .1 .0) (compact-to .kept .1 .0) _ _ b w (rw (head-in .ensures) at (compact-to .ensures)) (write-head .ensures)
 
 pub compact-spec : {M : Type 1} → statement M
 compact-spec =

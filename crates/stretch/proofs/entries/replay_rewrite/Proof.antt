@@ -1,6 +1,6 @@
 -- `stretch::entries::replay_rewrite` meets its contract. Assumes nothing.
 use Rattle.cells.specs.Part.{part}
-use Rattle.stretch.specs.Stretch.{entryRows}
+use Rattle.stretch.specs.Stretch.{entryRowsAt}
 use Rattle.stretch.proofs.EntryWays.{laying}
 use borrow.Author.Needs.{needs}
 use Rattle.stretch.proofs.entries.replay_rewrite.Statement.{statement}
@@ -22,7 +22,7 @@ part-replay-rewrite-end : tie.Need-part-replay-rewrite-end
 part-replay-rewrite-end c = search needs
 
 replay-rewrite-requires : tie.Need-replay-rewrite-requires
-unfolding entryRows part
+unfolding entryRowsAt part
 replay-rewrite-requires c κs =
     let start = c .before .before .before .before .before in
     let head-in = c .before .head-in in
@@ -35,13 +35,13 @@ same-length : tie.Need-same-length
 same-length c = search needs
 
 returns : tie.Need-returns
-unfolding entryRows part
+unfolding entryRowsAt part
 returns c =
     let start = c .before .before .before .before .before .before .before .before .before .before .before .before in
     let head-in = c .before .before .before .before .before .before .before .before .head-in in
     let replay-rewrite = c .before .before .before .before .before .before .replay-rewrite in
     let settle-laid = c .before .before .settle-laid in
-    λ b w. laying _ (start .args .p .now) (replay-rewrite .last .1 .0) (start .args .rows .now) (replay-rewrite .kept .1 .0) _ _ b w _ (rw (head-in .ensures) at (replay-rewrite .ensures)) (settle-laid .ensures .0) (settle-laid .ensures .1)
+    λ b w. laying _ _ (start .args .p .now) (replay-rewrite .last .1 .0) (start .args .rows .now) (replay-rewrite .kept .1 .0) _ _ b w _ (rw (head-in .ensures) at (replay-rewrite .ensures)) (settle-laid .ensures .0) (settle-laid .ensures .1)
 
 pub replay-rewrite-spec : {M : Type 1} → statement M
 replay-rewrite-spec =

@@ -1,6 +1,6 @@
 -- `stretch::entries::rewrite` meets its contract. Assumes nothing.
 use Rattle.cells.specs.Part.{part}
-use Rattle.stretch.specs.Stretch.{entryRows}
+use Rattle.stretch.specs.Stretch.{entryRowsAt}
 use Rattle.stretch.proofs.EntryWays.{moving}
 use borrow.Author.Needs.{needs}
 use Rattle.stretch.proofs.entries.rewrite.Statement.{statement}
@@ -22,7 +22,7 @@ part-rewrite-end : tie.Need-part-rewrite-end
 part-rewrite-end c = search needs
 
 rewrite-requires : tie.Need-rewrite-requires
-unfolding entryRows part
+unfolding entryRowsAt part
 rewrite-requires c κs =
     let start = c .before .before .before .before .before in
     let head-in = c .before .head-in in
@@ -35,13 +35,13 @@ same-length : tie.Need-same-length
 same-length c = search needs
 
 returns : tie.Need-returns
-unfolding entryRows part
+unfolding entryRowsAt part
 returns c =
     let start = c .before .before .before .before .before .before .before .before .before .before .before .before in
     let head-in = c .before .before .before .before .before .before .before .before .head-in in
     let rewrite = c .before .before .before .before .before .before .rewrite in
     let settle-rewritten = c .before .before .settle-rewritten in
-    λ b w. moving _ _ (start .args .p .now) (rewrite .last .1 .0) (start .args .rows .now) (rewrite .kept .1 .0) _ _ b w _ (rw (head-in .ensures) at (rewrite .ensures)) (settle-rewritten .ensures .0) (settle-rewritten .ensures .1)
+    λ b w. moving _ _ _ (start .args .p .now) (rewrite .last .1 .0) (start .args .rows .now) (rewrite .kept .1 .0) _ _ b w _ (rw (head-in .ensures) at (rewrite .ensures)) (settle-rewritten .ensures .0) (settle-rewritten .ensures .1)
 
 pub rewrite-spec : {M : Type 1} → statement M
 rewrite-spec =

@@ -1,6 +1,6 @@
 -- `stretch::keys::delete` meets its contract. Assumes nothing.
 use Rattle.cells.specs.Part.{part}
-use Rattle.stretch.specs.Stretch.{keyCount, keyRows}
+use Rattle.stretch.specs.Stretch.{keyCount, keyRowsAt}
 use Rattle.stretch.proofs.KeyWays.{deleting}
 use borrow.Author.Needs.{needs}
 use Rattle.stretch.proofs.keys.delete.Statement.{statement}
@@ -22,7 +22,7 @@ part-delete-end : tie.Need-part-delete-end
 part-delete-end c = search needs
 
 delete-requires : tie.Need-delete-requires
-unfolding keyCount keyRows part
+unfolding keyCount keyRowsAt part
 delete-requires c κs =
     let start = c .before .before .before .before .before .before in
     start .pre .keys
@@ -37,11 +37,11 @@ same-length-2 : tie.Need-same-length-2
 same-length-2 c = search needs
 
 returns : tie.Need-returns
-unfolding keyCount keyRows part
+unfolding keyCount keyRowsAt part
 returns c =
     let start = c .before .before .before .before .before .before .before .before .before .before .before in
     let delete = c .before .before .before .before .delete in
-    deleting (start .args .p .now) (start .args .b .now) _ _ (start .pre) (delete .kept .1 .0) (delete .kept .1 .1 .0) _ _ (delete .ensures)
+    deleting _ (start .args .p .now) (start .args .b .now) _ _ (start .pre) (delete .kept .1 .0) (delete .kept .1 .1 .0) _ _ (delete .ensures)
 
 pub delete-spec : {M : Type 1} → statement M
 delete-spec =

@@ -1,6 +1,6 @@
 -- `stretch::keys::put` meets its contract. Assumes nothing.
 use Rattle.cells.specs.Part.{part}
-use Rattle.stretch.specs.Stretch.{keyCount, keyRows}
+use Rattle.stretch.specs.Stretch.{keyCount, keyRowsAt}
 use Rattle.stretch.proofs.KeyWays.{put-done, put-full}
 use borrow.Author.Needs.{needs}
 use Rattle.stretch.proofs.keys.put.Statement.{statement}
@@ -22,7 +22,7 @@ part-put-end : tie.Need-part-put-end
 part-put-end c = search needs
 
 put-requires : tie.Need-put-requires
-unfolding keyCount keyRows part
+unfolding keyCount keyRowsAt part
 put-requires c κs =
     let start = c .before .before .before .before .before .before .before in
     (start .pre .0 .keys, start .pre .1)
@@ -40,11 +40,11 @@ same-length-2 : tie.Need-same-length-2
 same-length-2 c = search needs
 
 returns : tie.Need-returns
-unfolding keyCount keyRows part
+unfolding keyCount keyRowsAt part
 returns c =
     let start = c .before .before .before .before .before .before .before .before .before .before .before .before .before .before in
     let put = c .before .before .before .before .before .before .put in
-    put-full (start .args .p .now) (start .args .b .now) _ _ (start .pre .0) (put .kept .1 .0) _ _ (rw (c .enum-told .given .1) at (put .ensures))
+    put-full _ (start .args .p .now) (start .args .b .now) _ _ (start .pre .0) (put .kept .1 .0) _ _ (rw (c .enum-told .given .1) at (put .ensures))
 
 slice-write-p : tie.Need-slice-write-p
 slice-write-p c = search needs
@@ -56,12 +56,12 @@ same-length-4 : tie.Need-same-length-4
 same-length-4 c = search needs
 
 returns-2 : tie.Need-returns-2
-unfolding keyCount keyRows part
+unfolding keyCount keyRowsAt part
 returns-2 c =
     let start = c .before .before .before .before .before .before .before .before .before .before .before .before .before .before .before in
     let put = c .before .before .before .before .before .before .before .put in
     let answer = c .before .answer in
-    put-done (start .args .p .now) (start .args .b .now) _ _ (start .pre .0) (put .kept .1 .0) _ _ _ (put .kept .1 .1 .0) (rw (answer .given .1) at (put .ensures))
+    put-done _ (start .args .p .now) (start .args .b .now) _ _ (start .pre .0) (put .kept .1 .0) _ _ _ (put .kept .1 .1 .0) (rw (answer .given .1) at (put .ensures))
 
 pub put-spec : {M : Type 1} → statement M
 put-spec =

@@ -1,6 +1,6 @@
 -- `stretch::keys::rewrite_key` meets its contract. Assumes nothing.
 use Rattle.cells.specs.Part.{part}
-use Rattle.stretch.specs.Stretch.{keyCount, keyRows}
+use Rattle.stretch.specs.Stretch.{keyCount, keyRowsAt}
 use Rattle.stretch.proofs.KeyWays.{rewrite-done, rewrite-back}
 use borrow.Author.Needs.{needs}
 use Rattle.stretch.proofs.keys.rewrite_key.Statement.{statement}
@@ -22,7 +22,7 @@ part-rewrite-key-end : tie.Need-part-rewrite-key-end
 part-rewrite-key-end c = search needs
 
 rewrite-key-requires : tie.Need-rewrite-key-requires
-unfolding keyCount keyRows part
+unfolding keyCount keyRowsAt part
 rewrite-key-requires c κs =
     let start = c .before .before .before .before .before in
     start .pre .keys
@@ -37,23 +37,23 @@ same-length : tie.Need-same-length
 same-length c = search needs
 
 returns : tie.Need-returns
-unfolding keyCount keyRows part
+unfolding keyCount keyRowsAt part
 returns c =
     let start = c .before .before .before .before .before .before .before .before .before .before in
     let rewrite-key = c .before .before .before .before .rewrite-key in
     let enum-told = c .enum-told in
-    rewrite-done (start .args .p .now) (start .args .b .now) _ (start .pre) (rewrite-key .kept .1 .0) _ _ _ (rw (enum-told .given .1) at (rewrite-key .ensures))
+    rewrite-done _ (start .args .p .now) (start .args .b .now) _ (start .pre) (rewrite-key .kept .1 .0) _ _ _ (rw (enum-told .given .1) at (rewrite-key .ensures))
 
 same-length-2 : tie.Need-same-length-2
 same-length-2 c = search needs
 
 returns-2 : tie.Need-returns-2
-unfolding keyCount keyRows part
+unfolding keyCount keyRowsAt part
 returns-2 c =
     let start = c .before .before .before .before .before .before .before .before .before .before in
     let rewrite-key = c .before .before .before .before .rewrite-key in
     let enum-told2 = c .enum-told2 in
-    rewrite-back (start .args .p .now) (start .args .b .now) _ (start .pre) (rewrite-key .kept .1 .0) _ _ _ (rw (enum-told2 .given .1) at (rewrite-key .ensures))
+    rewrite-back _ (start .args .p .now) (start .args .b .now) _ (start .pre) (rewrite-key .kept .1 .0) _ _ _ (rw (enum-told2 .given .1) at (rewrite-key .ensures))
 
 pub rewrite-key-spec : {M : Type 1} → statement M
 rewrite-key-spec =
