@@ -12,6 +12,11 @@ pub const NUMBERS: usize = 18977;
 
 pub const BYTES: usize = 43008;
 
+// Where the numbers of the waiting parts stand.
+const WAITING_FROM: usize = 10019;
+
+const WAITING_TO: usize = 11765;
+
 // Where a refusal was met: at no item, or at the item with this position, counted from 0.
 pub enum Position {
     None,
@@ -42,6 +47,9 @@ pub fn fresh(xs: &mut [u64], bs: &mut [u8], queue: LogQueue)
     ensures { λ _. ⌜ FreshArea queue (now (xs .exit)) (now (bs .exit)) ⌝ }
 {
     clear_groups(xs);
+    let from = WAITING_FROM;
+    let to = WAITING_TO;
+    waiting::clear(&mut xs[from..to], waiting::CELLS);
     let a = groups::NUMBERS;
     lists::clear(&mut xs[a..], queue);
 }

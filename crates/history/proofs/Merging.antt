@@ -6,8 +6,9 @@ use mathlib.Core.List.{List, [], _∷_, _++_, append-nil}
 use mathlib.Core.Option.{Option, none, some}
 use Prim.Native.Nat.{ℕ}
 use Rattle.maps.specs.Lists.{every, first, mapOption, orElse}
-use Rattle.maps.specs.Maps.{Map, lookup, numbers}
-use Rattle.maps.specs.MapLaws.{ascending-nil, laid}
+use Rattle.maps.specs.Maps.{Pair, Map, lookup, numbers}
+use Rattle.maps.specs.OrderLaws.{numbersLawful}
+use Rattle.maps.specs.MapLaws.{ascending-nil, laid, every-intro}
 use Rattle.rules.specs.Causes.{ok, inOrder}
 use Rattle.rules.specs.Items.{Append, EntryIndex}
 use Rattle.rules.specs.Checks.{consecutive}
@@ -16,7 +17,7 @@ use Rattle.rules.specs.Context.{context, Part, Context, withGroups, limited}
 use Rattle.rules.specs.Calls.{clashes, mergeTable, merge}
 use Rattle.rules_by_group.specs.Group.{tombed, layOver}
 use Rattle.rules_by_group.specs.Stage.{waitingAfter, finishedTombs, mergedRest, mergedAt}
-use Rattle.rules_by_group.specs.Kept.{KeptBy, Kept}
+use Rattle.rules_by_group.specs.Kept.{entryBy, KeptBy, Kept}
 use Rattle.rules_by_group.specs.KindLaws.{kept-by}
 use Rattle.rules_by_group.specs.ItemLaws.{limited-fits}
 use Rattle.rules_by_group.specs.MergeLaws.{unfinished, merge-of-groups}
@@ -45,6 +46,7 @@ good-kept c g =
       waiting-ascends = rw (g .none-waits) (ascending-nil (List Part) numbers);
       own-items = rw (g .none-waits) (unfold every in refl);
       shapes = rw (g .none-waits) (unfold every in refl);
+      own-entries = rw (g .is-append) (every-intro numbers numbersLawful (λ (x : Pair ℕ Table). every (entryBy (context Append)) (x .val .entries)) (c .groups) (g .ascend) (λ k t e. unfold entryBy in good-table t (rw e at (g .tables k)) .append-entries));
       tombstones-only = g .tombs;
       by-kind = kept-by c (context Append) (g .is-append) (unfold KeptBy in (g .none-waits, g .cleaned-is));
     }

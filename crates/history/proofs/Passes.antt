@@ -2,7 +2,7 @@
 -- Assumes nothing.
 use mathlib.Core.Path.{_≡_, refl, sym, _∙_}
 use mathlib.Core.Logic.{inl, inr}
-use mathlib.Core.Bool.{Bool, true, false, not, _&&_, _||_, true≢false}
+use mathlib.Core.Bool.{Bool, true, false, not, _||_, true≢false}
 use mathlib.Core.List.{List, [], _∷_, _++_}
 use mathlib.Core.Option.{Option, none, some}
 use Prim.Native.Nat.{ℕ, suc}
@@ -12,27 +12,19 @@ use Rattle.maps.specs.Lists.{every, any, orElse, findFrom}
 use Rattle.maps.specs.OrderLaws.{split}
 use Rattle.rules.specs.Limits.{maxItems}
 use Rattle.rules.specs.Causes.{Cause, tooLong, incomplete, outOfRange, wrongQueue, Refusal, ok, inOrder}
-use Rattle.rules.specs.Items.{Append, FileId, EntryIndex, sameQueue, hasFile, fileOf, put, del, Content, entries, command, kv, LogItem, Batch, Placed, placedFrom, isReserved, writes, replayAppend, isLiveRewrite}
+use Rattle.rules.specs.Items.{Append, FileId, sameQueue, hasFile, fileOf, put, del, Content, entries, command, kv, LogItem, Batch, Placed, placedFrom, isReserved, writes, replayAppend, isLiveRewrite}
 use Rattle.rules.specs.Checks.{consecutive, long, isIncomplete, isOutOfRange, isOtherQueue, otherFile, lacksValue, lacksFile, meets3, orNext, unlessReserved, checks}
 use Rattle.rules.specs.Context.{context, isContext, Context, fresh, limited, step, run}
 use Rattle.rules.specs.Calls.{checked, runBatch, replayBatch, replay, merge}
-use Rattle.maps.specs.BoolLaws.{both, neither-left, neither-right}
+use Rattle.maps.specs.BoolLaws.{neither-left, neither-right}
 use Rattle.rules_by_group.specs.ResultLaws.{ok-inj, andThen-of}
+use Rattle.rules_by_group.specs.RunLaws.{queue-files}
 use Rattle.history.proofs.Basics.{some-not-none}
 use Rattle.history.proofs.Group.{Fit, FitPut}
 use Rattle.history.proofs.Contexts.{FitIf, GoodContext, good-step, LeavesAt, Related, related-start, related-step}
 use Rattle.history.proofs.Merging.{merge-related}
 
 -- ---- the checks
-
--- each entry has a file, and a file that is there is of the Append queue
-append-files : (es : List EntryIndex) → any (λ e. not (hasFile (e .entries))) es ≡ false → any (λ e. hasFile (e .entries) && not (sameQueue (fileOf e .queue) Append)) es ≡ false → every (λ e. sameQueue (fileOf e .queue) Append) es ≡ true
-unfolding any every
-append-files [] h k = refl
-append-files (e ∷ es) h k =
-    let has = not-false (hasFile (e .entries)) (neither-left (not (hasFile (e .entries))) (any (λ x. not (hasFile (x .entries))) es) h) in
-    let queue = neither-left (hasFile (e .entries) && not (sameQueue (fileOf e .queue) Append)) (any (λ x. hasFile (x .entries) && not (sameQueue (fileOf x .queue) Append)) es) k in
-    both (not-false (sameQueue (fileOf e .queue) Append) (rw has at queue)) (append-files es (neither-right (not (hasFile (e .entries))) (any (λ x. not (hasFile (x .entries))) es) h) (neither-right (hasFile (e .entries) && not (sameQueue (fileOf e .queue) Append)) (any (λ x. hasFile (x .entries) && not (sameQueue (fileOf x .queue) Append)) es) k))
 
 fit-put : (k : List ℕ) (v : Option (List ℕ)) (f : Option FileId) → isIncomplete replayAppend (kv k (put v f)) ≡ false → isOtherQueue replayAppend (kv k (put v f)) ≡ false → FitPut v f
 unfolding isIncomplete isOtherQueue isLiveRewrite lacksValue lacksFile otherFile writes orElse FitPut
@@ -48,7 +40,7 @@ fit-of (entries es) h q = (window, files)
     window = unfold isIncomplete in not-false (consecutive es) (neither-right (any (λ e. not (hasFile (e .entries))) es) (not (consecutive es)) h)
 
     files : every (λ e. sameQueue (fileOf e .queue) Append) es ≡ true
-    files = unfold isIncomplete isOtherQueue writes in append-files es (neither-left (any (λ e. not (hasFile (e .entries))) es) (not (consecutive es)) h) q
+    files = unfold isIncomplete isOtherQueue writes in queue-files Append es (neither-left (any (λ e. not (hasFile (e .entries))) es) (not (consecutive es)) h) q
 fit-of (command c) h q = tt
 fit-of (kv k (put v f)) h q = fit-put k v f h q
 fit-of (kv k del) h q = tt

@@ -8,29 +8,40 @@ use native.Mathlib.Omega.{arith}
 use lib.ListN.{length, getD, take, drop}
 use borrow.Rule.Slice.PartAt.{part-to-end}
 use Rattle.maps.specs.Lists.{orElse}
-use Rattle.rules.specs.Causes.{Refusal, Result, refused, left}
+use Rattle.rules.specs.Causes.{Refusal, Result, ok, refused, left}
 use Rattle.rules.specs.Items.{FileId, Append, Rewrite, sameQueue, placedFrom, Batch, Call, replayAppend, liveAppend, liveRewrite}
 use Rattle.rules.specs.Checks.{checks}
-use Rattle.rules.specs.Context.{Context, Kind, isContext, isIndex, withGroups, limited, run}
+use Rattle.rules.specs.Context.{Context, Kind, isContext, isIndex, withGroups, withWaiting, limited, run}
 use Rattle.rules.specs.Calls.{checked, runBatch, replayBatch, replay, write, append, rewrite}
+use Rattle.rules_by_group.specs.Kept.{Kept}
+use Rattle.rules_by_group.specs.ResultLaws.{refused-not-ok}
+use Rattle.rules_by_group.specs.KeptLaws.{replay-kept, append-kept, rewrite-kept}
 use Rattle.log_batch.specs.Lent.{itemsOf, batchOf}
 use Rattle.lists.specs.Rest.{kindOf}
 use Rattle.lists.specs.Laws.{rest-kind}
 use Rattle.contexts.specs.declared.Answer.{Answer}
 use Rattle.contexts.specs.declared.Answer.the-variants as answer
 use Rattle.contexts.specs.declared.Position.the-variants as position
-use Rattle.contexts.specs.Contexts.{contextOf, Wf, answerAs, positionOf, Called}
+use Rattle.contexts.specs.Contexts.{restAt, contextOf, Formed, Wf, answerAs, positionOf, Answered, Called}
+use Rattle.contexts.specs.AreaLaws.{formed-of, answered-called}
 
 -- a call that refuses at once
-pub refused-called : (to : Context → Result Context) (xs bs : List ℕ) (r : Answer) (f : Refusal) → Wf xs bs → to (contextOf xs bs) ≡ refused f → answerAs r (contextOf xs bs) ≡ refused f → Called to xs bs r xs bs
+refused-answered : (to : Context → Result Context) (xs bs : List ℕ) (r : Answer) (f : Refusal) → Formed xs bs → to (contextOf xs bs) ≡ refused f → answerAs r (contextOf xs bs) ≡ refused f → Answered to xs bs r xs bs
 unfolding left
-refused-called to xs bs r f w e a =
-    record { answers = a ∙ sym e; leaves = sym (ap (left (contextOf xs bs)) e); wf = w }
+refused-answered to xs bs r f w e a =
+    record { answers = a ∙ sym e; leaves = sym (ap (left (contextOf xs bs)) e); formed = w }
 
 -- a call that is another one on this area
-pub same-called : (to as′ : Context → Result Context) (xs bs : List ℕ) (r : Answer) (ys ds : List ℕ) → to (contextOf xs bs) ≡ as′ (contextOf xs bs) → Called as′ xs bs r ys ds → Called to xs bs r ys ds
-same-called to as′ xs bs r ys ds e k =
-    record { answers = k .answers ∙ sym e; leaves = k .leaves ∙ ap (left (contextOf xs bs)) (sym e); wf = k .wf }
+same-answered : (to as′ : Context → Result Context) (xs bs : List ℕ) (r : Answer) (ys ds : List ℕ) → to (contextOf xs bs) ≡ as′ (contextOf xs bs) → Answered as′ xs bs r ys ds → Answered to xs bs r ys ds
+same-answered to as′ xs bs r ys ds e k =
+    record { answers = k .answers ∙ sym e; leaves = k .leaves ∙ ap (left (contextOf xs bs)) (sym e); formed = k .formed }
+
+refused-called : (to : Context → Result Context) (xs bs : List ℕ) (r : Answer) (f : Refusal) → Wf xs bs → to (contextOf xs bs) ≡ refused f → answerAs r (contextOf xs bs) ≡ refused f → Called to xs bs r xs bs
+refused-called to xs bs r f w e a =
+    answered-called to xs bs r xs bs w (λ d k. absurd (refused-not-ok (sym e ∙ k))) (refused-answered to xs bs r f (formed-of xs bs w) e a)
+
+same-called : (to as′ : Context → Result Context) (xs bs : List ℕ) (r : Answer) (ys ds : List ℕ) → Wf xs bs → ((d : Context) → to (contextOf xs bs) ≡ ok d → Kept d) → to (contextOf xs bs) ≡ as′ (contextOf xs bs) → Answered as′ xs bs r ys ds → Called to xs bs r ys ds
+same-called to as′ xs bs r ys ds w k e a = answered-called to xs bs r ys ds w k (same-answered to as′ xs bs r ys ds e a)
 
 -- ---- the checks
 
@@ -41,21 +52,21 @@ module _ (c : Call) (file : FileId) (items es ds : List ℕ) (xs bs : List ℕ) 
   abbrev writes-it : Context → Result Context
   writes-it x = checked c batch (runBatch c batch x)
 
-  pub checks-refuse : (n p : ℕ) → Wf xs bs → some (record { number = n; place = some p }) ≡ checks c (itemsOf items es ds) → Called writes-it xs bs (answer.Refused n (position.At p)) xs bs
+  pub checks-refuse : (n p : ℕ) → Formed xs bs → some (record { number = n; place = some p }) ≡ checks c (itemsOf items es ds) → Answered writes-it xs bs (answer.Refused n (position.At p)) xs bs
   unfolding checked batchOf orElse answerAs positionOf
   checks-refuse n p w e =
-      refused-called writes-it xs bs (answer.Refused n (position.At p)) (record { number = n; place = some p }) w (rw (← e)) refl
+      refused-answered writes-it xs bs (answer.Refused n (position.At p)) (record { number = n; place = some p }) w (rw (← e)) refl
 
-  pub checks-pass : (r : Answer) (ys fs : List ℕ) → none ≡ checks c (itemsOf items es ds) → Called (run limited c (placedFrom 0 (itemsOf items es ds))) xs bs r ys fs → Called writes-it xs bs r ys fs
+  pub checks-pass : (r : Answer) (ys fs : List ℕ) → none ≡ checks c (itemsOf items es ds) → Answered (run limited c (placedFrom 0 (itemsOf items es ds))) xs bs r ys fs → Answered writes-it xs bs r ys fs
   unfolding checked runBatch batchOf orElse
   checks-pass r ys fs e k =
-      same-called writes-it (run limited c (placedFrom 0 (itemsOf items es ds))) xs bs r ys fs (rw (← e)) k
+      same-answered writes-it (run limited c (placedFrom 0 (itemsOf items es ds))) xs bs r ys fs (rw (← e)) k
 
 -- ---- the kind
 
 module _ (xs bs : List ℕ) (k : Kind) (e : k ≡ kindOf (getD (take (length xs - 9376) (drop 9376 xs)) 0 0)) where
   kind-is : contextOf xs bs .kind ≡ k
-  unfolding contextOf withGroups
+  unfolding contextOf restAt withGroups withWaiting
   kind-is = rest-kind (drop 9376 xs) (drop 16384 bs) ∙ sym (rw (part-to-end xs 9376) at e)
 
   module _ (file : FileId) (items es ds : List ℕ) where
@@ -64,20 +75,20 @@ module _ (xs bs : List ℕ) (k : Kind) (e : k ≡ kindOf (getD (take (length xs 
     replay-wrong seq w f =
         refused-called (replay (batchOf (record { queue = Append; seq = seq }) items es ds)) xs bs (answer.Refused 1 position.None) _ w (rw (kind-is, f)) refl
 
-    pub replay-right : (seq : ℕ) (r : Answer) (ys fs : List ℕ) → isContext Append k ≡ true → Called (writes-it replayAppend (record { queue = Append; seq = seq }) items es ds xs bs) xs bs r ys fs → Called (replay (batchOf (record { queue = Append; seq = seq }) items es ds)) xs bs r ys fs
+    pub replay-right : (seq : ℕ) (r : Answer) (ys fs : List ℕ) → Wf xs bs → isContext Append k ≡ true → Answered (writes-it replayAppend (record { queue = Append; seq = seq }) items es ds xs bs) xs bs r ys fs → Called (replay (batchOf (record { queue = Append; seq = seq }) items es ds)) xs bs r ys fs
     unfolding replay replayBatch batchOf
-    replay-right seq r ys fs y c =
-        same-called _ (writes-it replayAppend (record { queue = Append; seq = seq }) items es ds xs bs) xs bs r ys fs (rw (kind-is, y)) c
+    replay-right seq r ys fs w y c =
+        same-called _ (writes-it replayAppend (record { queue = Append; seq = seq }) items es ds xs bs) xs bs r ys fs w (λ d e. replay-kept (batchOf (record { queue = Append; seq = seq }) items es ds) (contextOf xs bs) d (w .kept) e) (rw (kind-is, y)) c
 
     pub append-wrong : Wf xs bs → (isIndex k && sameQueue (file .queue) Append) ≡ false → Called (append (batchOf file items es ds)) xs bs (answer.Refused 1 position.None) xs bs
     unfolding append write batchOf answerAs positionOf
     append-wrong w f =
         refused-called (append (batchOf file items es ds)) xs bs (answer.Refused 1 position.None) _ w (rw (kind-is, f)) refl
 
-    pub append-right : (r : Answer) (ys fs : List ℕ) → (isIndex k && sameQueue (file .queue) Append) ≡ true → Called (writes-it liveAppend file items es ds xs bs) xs bs r ys fs → Called (append (batchOf file items es ds)) xs bs r ys fs
+    pub append-right : (r : Answer) (ys fs : List ℕ) → Wf xs bs → (isIndex k && sameQueue (file .queue) Append) ≡ true → Answered (writes-it liveAppend file items es ds xs bs) xs bs r ys fs → Called (append (batchOf file items es ds)) xs bs r ys fs
     unfolding append write batchOf
-    append-right r ys fs y c =
-        same-called _ (writes-it liveAppend file items es ds xs bs) xs bs r ys fs (rw (kind-is, y)) c
+    append-right r ys fs w y c =
+        same-called _ (writes-it liveAppend file items es ds xs bs) xs bs r ys fs w (λ d e. append-kept (batchOf file items es ds) (contextOf xs bs) d (w .kept) e) (rw (kind-is, y)) c
 
     module _ (gate : _) where
       pub rewrite-wrong : Wf xs bs → (isIndex k && sameQueue (file .queue) Rewrite) ≡ false → Called (rewrite gate (batchOf file items es ds)) xs bs (answer.Refused 1 position.None) xs bs
@@ -85,10 +96,10 @@ module _ (xs bs : List ℕ) (k : Kind) (e : k ≡ kindOf (getD (take (length xs 
       rewrite-wrong w f =
           refused-called (rewrite gate (batchOf file items es ds)) xs bs (answer.Refused 1 position.None) _ w (rw (kind-is, f)) refl
 
-      pub rewrite-right : (r : Answer) (ys fs : List ℕ) → (isIndex k && sameQueue (file .queue) Rewrite) ≡ true → Called (writes-it (liveRewrite gate (file .seq)) file items es ds xs bs) xs bs r ys fs → Called (rewrite gate (batchOf file items es ds)) xs bs r ys fs
+      pub rewrite-right : (r : Answer) (ys fs : List ℕ) → Wf xs bs → (isIndex k && sameQueue (file .queue) Rewrite) ≡ true → Answered (writes-it (liveRewrite gate (file .seq)) file items es ds xs bs) xs bs r ys fs → Called (rewrite gate (batchOf file items es ds)) xs bs r ys fs
       unfolding rewrite write batchOf
-      rewrite-right r ys fs y c =
-          same-called _ (writes-it (liveRewrite gate (file .seq)) file items es ds xs bs) xs bs r ys fs (rw (kind-is, y)) c
+      rewrite-right r ys fs w y c =
+          same-called _ (writes-it (liveRewrite gate (file .seq)) file items es ds xs bs) xs bs r ys fs w (λ d e. rewrite-kept gate (batchOf file items es ds) (contextOf xs bs) d (w .kept) e) (rw (kind-is, y)) c
 
 -- the numbers behind the groups begin with the kind
 pub zero-below : (l : List ℕ) → length l ≡ 9601 → 0 < length l

@@ -1,12 +1,11 @@
 -- What the calls add to the lists, as the contracts say it. Assumes nothing.
 use mathlib.Core.Bool.{Bool, true, false}
-use mathlib.Core.List.{List, [], _∷_, _++_, append-nil}
+use mathlib.Core.List.{List, [], _∷_, _++_}
 use mathlib.Core.Path.{_≡_, refl, sym, ap, _∙_}
 use Prim.Native.Nat.{ℕ, _-_, _≤_, _<_}
 use native.Mathlib.Omega.{arith}
 use lib.Dec.{ltb}
 use lib.ListN.{length, getD, take, drop, length-drop}
-use lib.Seq.{length-take-le, take-at, drop-at, drop-length}
 use borrow.Rule.Slice.PartAt.{part-to-end}
 use borrow.Rule.Slice.PartMut.{putMid}
 use borrow.Author.Tests.{ltb-true}
@@ -15,7 +14,7 @@ use Rattle.rules.specs.Context.{Context, withTombstones, withCleaned}
 use Rattle.log_batch.specs.declared.item.LogItem as lent
 use Rattle.lists.specs.Rest.{restOf, Wf}
 use Rattle.lists.specs.Calls.{TombstoneAdded, CleanedAdded}
-use Rattle.lists.specs.Laws.{lengths, keeps-all, keeps-then}
+use Rattle.lists.specs.Laws.{lengths, behind-all, behind-then, keeps-all, keeps-then}
 use Rattle.contexts.specs.AreaLaws.{before-back, behind-back}
 use Rattle.index.specs.Steps.{oneMoreIf, roomIf}
 use Rattle.index.specs.Growth.{listsWith, RoomFor, ListsGrown, AreaGrown}
@@ -47,13 +46,13 @@ module _ (it : LogItem) (ys cs : List ℕ) where
   -- nothing is added
   pub none-grown : (t : Bool) → t ≡ false → Wf ys cs → ListsGrown t false it ys cs ys cs
   unfolding listsWith oneMoreIf
-  none-grown t e w = record { rest = rw e; keeps = keeps-all ys cs; wf = w }
+  none-grown t e w = record { rest = rw e; keeps = keeps-all ys cs; behind = behind-all ys cs; wf = w }
 
   module _ (ys′ cs′ : List ℕ) where
     -- a tombstone is added
     pub tombstone-grown : (t : Bool) → t ≡ true → TombstoneAdded it ys cs ys′ cs′ → ListsGrown t false it ys cs ys′ cs′
     unfolding listsWith oneMoreIf withTombstones restOf
-    tombstone-grown t e a = record { rest = rw e (a .rest); keeps = a .keeps; wf = a .wf }
+    tombstone-grown t e a = record { rest = rw e (a .rest); keeps = a .keeps; behind = a .behind; wf = a .wf }
 
     module _ (t : Bool) (g : ListsGrown t false it ys cs ys′ cs′) where
       -- the number of cleaned numbers stays
@@ -82,6 +81,7 @@ module _ (it : LogItem) (ys cs : List ℕ) where
           record {
             rest = a .rest ∙ rw e (ap (λ (c : Context). withCleaned (c .cleaned ++ (it .group ∷ [])) c) (g .rest));
             keeps = keeps-then ys cs ys′ cs′ ys″ cs′ (g .keeps) (a .keeps);
+            behind = behind-then ys cs ys′ cs′ ys″ cs′ (g .behind) (a .behind);
             wf = a .wf;
           }
 

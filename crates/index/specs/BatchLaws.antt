@@ -12,7 +12,7 @@ use Rattle.rules.specs.Causes.{Result, ok, refused, andThen, inOrder}
 use Rattle.rules.specs.Items.{LogItem, Call, Placed, placedFrom}
 use Rattle.rules.specs.Checks.{checks}
 use Rattle.rules.specs.Table.{Table}
-use Rattle.rules.specs.Context.{Context, withGroups, limited, step, run}
+use Rattle.rules.specs.Context.{Part, Context, withGroups, withWaiting, limited, step, run}
 use Rattle.log_batch.specs.declared.item.LogItem as lent
 use Rattle.log_batch.specs.declared.open.Opened.{Opened, the-variants.Item, the-variants.Refused as Refused′}
 use Rattle.log_batch.specs.Lent.{rowCount, openedRow, itemAt, itemsFrom, itemsOf, itemOf}
@@ -25,10 +25,12 @@ use Rattle.groups.specs.AreaLaws.{same-groups, same-stretch}
 use Rattle.groups.specs.Undo.{liveNumbers, undoneCells, Begun, Undone}
 use Rattle.lists.specs.Rest.{restOf, cutTo}
 use Rattle.lists.specs.Rest as lists
-use Rattle.lists.specs.Laws.{back-now}
+use Rattle.lists.specs.Laws.{lists-cut, back-now}
+use Rattle.waiting.specs.Layout.{waitingOf}
 use Rattle.groups.specs.Laws.{front-groups, front-wf}
 use Rattle.deeds.specs.DeedLaws.{passed-clear}
-use Rattle.contexts.specs.Contexts.{contextOf, Wf}
+use Rattle.contexts.specs.Contexts.{waitingNumbers, waitingBytes, restAt, contextOf, Formed, RoomKept}
+use Rattle.contexts.specs.AreaLaws.{behind-room, lists-room, room-wf, room-waiting}
 use Rattle.index.specs.Runs.{ItemReady, backTo, BackKept, Going, WentBack}
 
 -- ---- an item of a batch that passed the checks
@@ -53,32 +55,41 @@ opened-never c xs es bs i g p h e = let o = passed-opens c xs es bs p i h in ref
 
 -- ---- under way
 
+-- the parts that wait
+abbrev waits : List ℕ → List ℕ → Map ℕ (List Part)
+waits xs bs = waitingOf (waitingNumbers xs) (waitingBytes bs)
+
 -- a batch begins: it goes back to where it is
-module _ (xs bs ys : List ℕ) (w : Wf xs bs) (b : Begun xs bs ys) where
+module _ (xs bs ys : List ℕ) (w : Formed xs bs) (b : Begun xs bs ys) where
   abbrev rest : List ℕ
   rest = drop numbersInUse xs
 
-  pub begun-wf : Wf ys bs
-  begun-wf = record { groups = b .wf; rest = rw (b .behind) (w .rest) }
+  begun-room : RoomKept xs bs ys bs
+  begun-room = behind-room xs bs ys bs (b .behind) refl
+
+  pub begun-formed : Formed ys bs
+  begun-formed = record { groups = b .wf; rest = rw (b .behind) (w .rest); waiting = room-wf xs bs ys bs begun-room (w .waiting) }
 
   begun-groups : groupsOf ys bs ≡ groupsOf xs bs
   begun-groups = same-groups (λ j l. record { numbers = same-stretch j liveNumbers ys xs (omega arith) (b .live); bytes = refl })
 
   pub begun-context : contextOf ys bs ≡ contextOf xs bs
-  unfolding contextOf
+  unfolding contextOf restAt
   begun-context =
-      ap (λ (m : Map ℕ Table). withGroups m (restOf (drop numbersInUse ys) (drop bytesInUse bs))) begun-groups
-      ∙ ap (λ (l : List ℕ). withGroups (groupsOf xs bs) (restOf l (drop bytesInUse bs))) (b .behind)
+      ap (λ (m : Map ℕ Table). withGroups m (restAt ys bs)) begun-groups
+      ∙ ap (λ (v : Map ℕ (List Part)). withGroups (groupsOf xs bs) (withWaiting v (restOf (drop numbersInUse ys) (drop bytesInUse bs)))) (room-waiting xs bs ys bs begun-room)
+      ∙ ap (λ (l : List ℕ). withGroups (groupsOf xs bs) (withWaiting (waits xs bs) (restOf l (drop bytesInUse bs)))) (b .behind)
 
   pub begun-going : Going (getD rest 1 0) (getD rest 2 0) (contextOf xs bs) ys bs
-  unfolding backTo contextOf groupsOf
+  unfolding backTo contextOf restAt groupsOf
   begun-going =
       let now = back-now rest (drop bytesInUse bs) (w .rest) in
       record {
         back =
-            ap (λ (m : Map ℕ Table). withGroups m (restOf (cutTo (getD rest 1 0) (getD rest 2 0) (drop numbersInUse ys)) (drop bytesInUse bs))) (ap mapOf (b .undone))
-            ∙ ap (λ (l : List ℕ). withGroups (groupsOf xs bs) (restOf (cutTo (getD rest 1 0) (getD rest 2 0) l) (drop bytesInUse bs))) (b .behind)
-            ∙ ap (withGroups (groupsOf xs bs)) (now .rest);
+            ap (λ (m : Map ℕ Table). withGroups m (withWaiting (waits ys bs) (restOf (cutTo (getD rest 1 0) (getD rest 2 0) (drop numbersInUse ys)) (drop bytesInUse bs)))) (ap mapOf (b .undone))
+            ∙ ap (λ (v : Map ℕ (List Part)). withGroups (groupsOf xs bs) (withWaiting v (restOf (cutTo (getD rest 1 0) (getD rest 2 0) (drop numbersInUse ys)) (drop bytesInUse bs)))) (room-waiting xs bs ys bs begun-room)
+            ∙ ap (λ (l : List ℕ). withGroups (groupsOf xs bs) (withWaiting (waits xs bs) (restOf (cutTo (getD rest 1 0) (getD rest 2 0) l) (drop bytesInUse bs)))) (b .behind)
+            ∙ ap (λ (r : Context). withGroups (groupsOf xs bs) (withWaiting (waits xs bs) r)) (now .rest);
         undoable = b .undoable;
         lists-wf = rw (b .behind) (now .wf);
         tombstones-grow = rw (b .behind) (omega arith);
@@ -92,8 +103,9 @@ going-on t n c xs bs ys ds g k =
     let b = k .lists-keep .back t n _ (g .tombstones-grow) (g .cleaned-grow) (record { rest = refl; wf = g .lists-wf }) in
     record {
       back =
-          ap (λ (m : Map ℕ Table). withGroups m (restOf (cutTo t n (drop numbersInUse ys)) (drop bytesInUse ds))) (ap mapOf (k .undo .undone))
-          ∙ ap (withGroups (mapOf (undoneCells xs bs))) (b .rest)
+          ap (λ (m : Map ℕ Table). withGroups m (withWaiting (waits ys ds) (restOf (cutTo t n (drop numbersInUse ys)) (drop bytesInUse ds)))) (ap mapOf (k .undo .undone))
+          ∙ ap (λ (v : Map ℕ (List Part)). withGroups (mapOf (undoneCells xs bs)) (withWaiting v (restOf (cutTo t n (drop numbersInUse ys)) (drop bytesInUse ds)))) (room-waiting xs bs ys ds (k .room))
+          ∙ ap (λ (r : Context). withGroups (mapOf (undoneCells xs bs)) (withWaiting (waits xs bs) r)) (b .rest)
           ∙ g .back;
       undoable = k .undo .undoable;
       lists-wf = b .wf;
@@ -102,16 +114,18 @@ going-on t n c xs bs ys ds g k =
     }
 
 -- an area goes back: the stretches, and then the lists
-pub gone-back : (t n : ℕ) (xs bs ys ds zs : List ℕ) → lists.Wf (cutTo t n (drop numbersInUse xs)) (drop bytesInUse bs) → Undone xs bs ys ds → take numbersInUse zs ≡ take numbersInUse ys → drop numbersInUse zs ≡ cutTo t n (drop numbersInUse ys) → WentBack t n xs bs zs ds
-unfolding contextOf backTo groupsOf
-gone-back t n xs bs ys ds zs l u f e =
+pub gone-back : (t n : ℕ) (xs bs ys ds zs : List ℕ) → Formed xs bs → lists.Wf (cutTo t n (drop numbersInUse xs)) (drop bytesInUse bs) → Undone xs bs ys ds → take numbersInUse zs ≡ take numbersInUse ys → drop numbersInUse zs ≡ cutTo t n (drop numbersInUse ys) → WentBack t n xs bs zs ds
+unfolding contextOf restAt backTo groupsOf
+gone-back t n xs bs ys ds zs w l u f e =
     let c : drop numbersInUse zs ≡ cutTo t n (drop numbersInUse xs) = e ∙ ap (cutTo t n) (u .behind) in
+    let room = lists-room xs bs zs ds (rw (c, u .behind-bytes) (lists-cut t n (drop numbersInUse xs) (w .rest .numbers-are) (drop bytesInUse bs))) in
     record {
       context-is =
-          ap (λ (m : Map ℕ Table). withGroups m (restOf (drop numbersInUse zs) (drop bytesInUse ds))) (front-groups zs ds ys ds f refl ∙ ap mapOf (u .cells-are))
-          ∙ ap (λ (r : List ℕ). withGroups (mapOf (undoneCells xs bs)) (restOf r (drop bytesInUse ds))) c
-          ∙ ap (λ (r : List ℕ). withGroups (mapOf (undoneCells xs bs)) (restOf (cutTo t n (drop numbersInUse xs)) r)) (u .behind-bytes);
-      wf = record { groups = front-wf ys ds zs ds (sym f) refl (u .wf); rest = rw (c, u .behind-bytes) l };
+          ap (λ (m : Map ℕ Table). withGroups m (restAt zs ds)) (front-groups zs ds ys ds f refl ∙ ap mapOf (u .cells-are))
+          ∙ ap (λ (v : Map ℕ (List Part)). withGroups (mapOf (undoneCells xs bs)) (withWaiting v (restOf (drop numbersInUse zs) (drop bytesInUse ds)))) (room-waiting xs bs zs ds room)
+          ∙ ap (λ (r : List ℕ). withGroups (mapOf (undoneCells xs bs)) (withWaiting (waits xs bs) (restOf r (drop bytesInUse ds)))) c
+          ∙ ap (λ (r : List ℕ). withGroups (mapOf (undoneCells xs bs)) (withWaiting (waits xs bs) (restOf (cutTo t n (drop numbersInUse xs)) r))) (u .behind-bytes);
+      formed = record { groups = front-wf ys ds zs ds (sym f) refl (u .wf); rest = rw (c, u .behind-bytes) l; waiting = room-wf xs bs zs ds room (w .waiting) };
     }
 
 -- ---- the run of the items from item i on

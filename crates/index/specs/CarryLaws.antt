@@ -18,6 +18,7 @@ use Rattle.stretch.specs.declared.Outcome.the-variants.{Done, Refused}
 use Rattle.groups.specs.Area.{numbersInUse, bytesInUse, groupsOf}
 use Rattle.groups.specs.Undo.{Undoable}
 use Rattle.lists.specs.Rest as lists
+use Rattle.waiting.specs.Layout.{waitingOf}
 use Rattle.deeds.specs.declared.Deed as deed
 use Rattle.index.specs.Steps.{addsTombstone, addsCleaned, roomIf, listsHaveRoom}
 use Rattle.deeds.specs.Deeds.{rowsIn, keyIn, valueIn, deedOf}
@@ -25,7 +26,7 @@ use Rattle.deeds.specs.DeedLaws.{DeedSays, deed-says}
 use Rattle.index.specs.Acts.{deedOn, Acted}
 use Rattle.deeds.specs.Deeds.{DeedReady}
 use Rattle.index.specs.ItemLaws.{deed-ready}
-use Rattle.contexts.specs.Contexts.{contextOf, Wf}
+use Rattle.contexts.specs.Contexts.{waitingNumbers, waitingBytes, restAt, contextOf, Formed}
 use Rattle.index.specs.Growth.{RoomFor, AreaGrown}
 use Rattle.index.specs.GrowthLaws.{room-is, no-entries}
 use Rattle.index.specs.Runs.{ItemReady, Stepped}
@@ -55,16 +56,16 @@ module _ (c : call.Call) (it : lent.LogItem) (es ds : List ℕ) (ready : ItemRea
   pub does-ready : isRewriteReplay (callOf c) ≡ false → (t : Table) → DeedReady does rows key value t
   does-ready f t = deed-ready (callOf c) item rows key value t (λ y. absurd (clash (sym f ∙ y))) does says
 
-  module _ (last : Bool) (xs bs : List ℕ) (w : Wf xs bs) (u : Undoable xs bs) (t n r : Bool)
+  module _ (last : Bool) (xs bs : List ℕ) (w : Formed xs bs) (u : Undoable xs bs) (t n r : Bool)
       (et : t ≡ addsTombstone (callOf c) item) (en : n ≡ addsCleaned (callOf c) item)
       (er : r ≡ (roomIf t (getD (take (length xs - numbersInUse) (drop numbersInUse xs)) 1 0) 64 && roomIf n (getD (take (length xs - numbersInUse) (drop numbersInUse xs)) 2 0) 64)) where
     room-told : r ≡ (roomIf t (getD (drop numbersInUse xs) 1 0) 64 && roomIf n (getD (drop numbersInUse xs) 2 0) 64)
     room-told = rw (part-to-end xs numbersInUse) at er
 
     room-of : listsHaveRoom (callOf c) item (contextOf xs bs) ≡ r
-    unfolding contextOf
+    unfolding contextOf restAt
     room-of =
-        room-is (callOf c) item (drop numbersInUse xs) (drop bytesInUse bs) (groupsOf xs bs) (w .rest)
+        room-is (callOf c) item (drop numbersInUse xs) (drop bytesInUse bs) (groupsOf xs bs) (waitingOf (waitingNumbers xs) (waitingBytes bs)) (w .rest)
         ∙ rw (← et, ← en) (sym room-told)
 
     pub carried-no-room : r ≡ false → Stepped (callOf c) item last xs bs (Refused 18) xs bs

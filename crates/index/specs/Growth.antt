@@ -10,7 +10,7 @@ use Rattle.log_batch.specs.declared.item.LogItem as lent
 use Rattle.stores.specs.Written as stores
 use Rattle.groups.specs.Area.{numbersInUse, bytesInUse}
 use Rattle.lists.specs.Rest.{restOf, Wf}
-use Rattle.lists.specs.Calls.{Keeps}
+use Rattle.lists.specs.Calls.{Behind, Keeps}
 use Rattle.index.specs.Steps.{oneMoreIf, roomIf}
 
 -- the lists with a tombstone and a cleaned number more, if they are added
@@ -28,6 +28,7 @@ pub record RoomFor (t n : Bool) (it : lent.LogItem) (ys : List ℕ) : Type 0 whe
 pub record ListsGrown (t n : Bool) (it : LogItem) (ys cs ys′ cs′ : List ℕ) : Type 0 where
   pub rest : restOf ys′ cs′ ≡ listsWith t n it (restOf ys cs)
   pub keeps : Keeps ys cs ys′ cs′
+  pub behind : Behind ys cs ys′ cs′
   pub wf : Wf ys′ cs′
 
 -- the area after it: the groups are as they were

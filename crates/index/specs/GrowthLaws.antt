@@ -9,7 +9,7 @@ use Rattle.maps.specs.BoolLaws.{clash, both-right}
 use Rattle.maps.specs.Maps.{Map}
 use Rattle.rules.specs.Items.{LogItem, isTombstone, Call}
 use Rattle.rules.specs.Table.{Table}
-use Rattle.rules.specs.Context.{Context, withGroups, keeps}
+use Rattle.rules.specs.Context.{Part, Context, withGroups, withWaiting, keeps}
 use Rattle.log_batch.specs.declared.item.LogItem as lent
 use Rattle.log_batch.specs.declared.item.LogItemContent as content
 use Rattle.log_batch.specs.Lent.{contentOf, itemOf}
@@ -30,9 +30,9 @@ unfolding listsWith withGroups
 with-groups t n it m x = refl
 
 -- the counts tell whether there is room
-pub room-is : (c : Call) (it : LogItem) (ys cs : List ℕ) (m : Map ℕ Table) → Wf ys cs → listsHaveRoom c it (withGroups m (restOf ys cs)) ≡ (roomIf (addsTombstone c it) (getD ys 1 0) 64 && roomIf (addsCleaned c it) (getD ys 2 0) 64)
-unfolding listsHaveRoom withGroups restOf
-room-is c it ys cs m w = let l = lengths ys cs w in rw (l .0, l .1)
+pub room-is : (c : Call) (it : LogItem) (ys cs : List ℕ) (m : Map ℕ Table) (v : Map ℕ (List Part)) → Wf ys cs → listsHaveRoom c it (withGroups m (withWaiting v (restOf ys cs))) ≡ (roomIf (addsTombstone c it) (getD ys 1 0) 64 && roomIf (addsCleaned c it) (getD ys 2 0) 64)
+unfolding listsHaveRoom withGroups withWaiting restOf
+room-is c it ys cs m v w = let l = lengths ys cs w in rw (l .0, l .1)
 
 tombstone-bare : (x : content.LogItemContent) (es bs : List ℕ) → isTombstone (contentOf x es bs) ≡ true → stores.countOf x ≡ 0
 unfolding isTombstone contentOf

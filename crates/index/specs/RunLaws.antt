@@ -2,63 +2,54 @@
 use mathlib.Core.Bool.{Bool, true, false}
 use mathlib.Core.List.{List}
 use mathlib.Core.Path.{_≡_, refl, sym, ap, _∙_}
-use Prim.Native.Nat.{ℕ, _≤_}
-use native.Mathlib.Omega.{arith}
-use lib.ListN.{length, drop}
-use borrow.Author.Tests.{le-leb}
-use Rattle.maps.specs.BoolLaws.{both}
-use Rattle.maps.specs.Lists.{sum}
+use Prim.Native.Nat.{ℕ}
+use lib.ListN.{drop}
 use Rattle.maps.specs.Maps.{Map}
 use Rattle.rules.specs.Causes.{ok, andThen, placed}
 use Rattle.rules.specs.Items.{LogItem, Call}
 use Rattle.rules.specs.Table.{Table}
-use Rattle.rules.specs.Context.{withGroups, fits, waitingFits}
+use Rattle.rules.specs.Context.{Part, Context, withGroups, withWaiting}
 use Rattle.stretch.specs.declared.Outcome.the-variants.{Done, Refused}
 use Rattle.groups.specs.Area.{numbersInUse, bytesInUse, groupsOf}
 use Rattle.groups.specs.Undo.{Undoable}
-use Rattle.groups.specs.Laws.{groups-fit, front-groups, front-wf, front-undone, front-undoable}
-use Rattle.lists.specs.Rest.{tombstonesIn, cleanedIn, restOf}
+use Rattle.groups.specs.Laws.{front-groups, front-wf, front-undone, front-undoable}
+use Rattle.lists.specs.Rest.{restOf}
 use Rattle.lists.specs.Rest as lists
 use Rattle.lists.specs.Calls.{Keeps}
-use Rattle.lists.specs.Laws.{lengths, keeps-all, keeps-then}
+use Rattle.lists.specs.Laws.{keeps-all, keeps-then}
+use Rattle.waiting.specs.Layout.{waitingOf}
 use Rattle.deeds.specs.declared.Deed as deed
 use Rattle.index.specs.Steps.{addsTombstone, addsCleaned, grown, listsHaveRoom}
 use Rattle.index.specs.Acts.{deedOn, BehindKept, Acted}
 use Rattle.index.specs.ActLaws.{done-not-refused}
 use Rattle.deeds.specs.DeedLaws.{DeedSays}
 use Rattle.index.specs.ItemLaws.{step-room, step-no-room}
-use Rattle.contexts.specs.Contexts.{contextOf, Wf}
+use Rattle.contexts.specs.Contexts.{waitingNumbers, waitingBytes, restAt, contextOf, Formed, RoomKept}
+use Rattle.contexts.specs.AreaLaws.{behind-room, lists-room, room-all, room-then, room-wf, room-waiting, context-fits}
 use Rattle.index.specs.Growth.{listsWith, AreaGrown}
 use Rattle.index.specs.Runs.{BackKept, Stepped}
-
--- an area that is well formed passes no limit
-pub context-fits : (xs bs : List ℕ) → Wf xs bs → fits (contextOf xs bs) ≡ true
-unfolding fits contextOf withGroups restOf waitingFits sum
-context-fits xs bs w =
-    let g = groups-fit xs bs (w .groups) in
-    let l = lengths (drop numbersInUse xs) (drop bytesInUse bs) (w .rest) in
-    let t : length (tombstonesIn (drop numbersInUse xs) (drop bytesInUse bs)) ≤ 64 = omega (arith, l) in
-    let n : length (cleanedIn (drop numbersInUse xs)) ≤ 64 = omega (arith, l) in
-    both (both (both (both (le-leb _ 8 (g .0)) (g .1)) (le-leb _ 64 t)) (le-leb _ 64 n)) refl
 
 -- what lies behind the groups is as it was, and so are the lists
 lists-stay : (xs bs ys ds : List ℕ) → BehindKept xs bs ys ds → Keeps (drop numbersInUse xs) (drop bytesInUse bs) (drop numbersInUse ys) (drop bytesInUse ds)
 lists-stay xs bs ys ds b = rw (b .numbers, b .bytes) (keeps-all (drop numbersInUse xs) (drop bytesInUse bs))
 
+room-stays : (xs bs ys ds : List ℕ) → BehindKept xs bs ys ds → RoomKept xs bs ys ds
+room-stays xs bs ys ds b = behind-room xs bs ys ds (b .numbers) (b .bytes)
+
 rest-wf : (xs bs ys ds : List ℕ) → BehindKept xs bs ys ds → lists.Wf (drop numbersInUse xs) (drop bytesInUse bs) → lists.Wf (drop numbersInUse ys) (drop bytesInUse ds)
 rest-wf xs bs ys ds b w = rw (b .numbers, b .bytes) w
 
-module _ (c : Call) (it : LogItem) (last : Bool) (rows key value : List ℕ) (d : deed.Deed) (xs bs : List ℕ) (w : Wf xs bs) (u : Undoable xs bs)
+module _ (c : Call) (it : LogItem) (last : Bool) (rows key value : List ℕ) (d : deed.Deed) (xs bs : List ℕ) (w : Formed xs bs) (u : Undoable xs bs)
     (says : DeedSays d c (it .content) rows key value) where
   -- no room in the lists
   pub stepped-no-room : listsHaveRoom c it (contextOf xs bs) ≡ false → Stepped c it last xs bs (Refused 18) xs bs
   stepped-no-room n =
-      let same : BackKept xs bs xs bs = record { undo = record { undone = refl; undoable = u }; lists-keep = keeps-all _ _ } in
+      let same : BackKept xs bs xs bs = record { undo = record { undone = refl; undoable = u }; lists-keep = keeps-all _ _; room = room-all xs bs } in
       record {
         rule = λ p. sym (step-no-room c it p (contextOf xs bs) (context-fits xs bs w) rows key value d says n);
         left = λ m e. same;
         kept = λ f. same;
-        wf = w;
+        formed = w;
       }
 
   module _ (y : listsHaveRoom c it (contextOf xs bs) ≡ true) (ys ds : List ℕ) where
@@ -66,12 +57,13 @@ module _ (c : Call) (it : LogItem) (last : Bool) (rows key value : List ℕ) (d 
     pub stepped-refused : (n : ℕ) → Acted (deedOn d (it .group) rows key value) last xs bs (Refused n) ys ds → Stepped c it last xs bs (Refused n) ys ds
     unfolding placed andThen contextOf withGroups
     stepped-refused n a =
-        let back : BackKept xs bs ys ds = record { undo = a .left-undo n refl; lists-keep = lists-stay xs bs ys ds (a .behind) } in
+        let room = room-stays xs bs ys ds (a .behind) in
+        let back : BackKept xs bs ys ds = record { undo = a .left-undo n refl; lists-keep = lists-stay xs bs ys ds (a .behind); room = room } in
         record {
           rule = λ p. rw (step-room c it p (contextOf xs bs) (context-fits xs bs w) rows key value d says y, ← a .rule);
           left = λ m e. back;
           kept = λ f. back;
-          wf = record { groups = a .wf; rest = rest-wf xs bs ys ds (a .behind) (w .rest) };
+          formed = record { groups = a .wf; rest = rest-wf xs bs ys ds (a .behind) (w .rest); waiting = room-wf xs bs ys ds room (w .waiting) };
         }
 
     -- the groups are changed, and the lists grow
@@ -86,11 +78,15 @@ module _ (c : Call) (it : LogItem) (last : Bool) (rows key value : List ℕ) (d 
           ∙ ap (λ (l : List ℕ). listsWith (addsTombstone c it) (addsCleaned c it) it (restOf l (drop bytesInUse ds))) (a .behind .numbers)
           ∙ ap (λ (l : List ℕ). listsWith (addsTombstone c it) (addsCleaned c it) it (restOf (drop numbersInUse xs) l)) (a .behind .bytes)
 
+      changed-room : RoomKept xs bs zs es
+      changed-room = room-then xs bs ys ds zs es (room-stays xs bs ys ds (a .behind)) (lists-room ys ds zs es (g .lists-grown .behind))
+
       changed-context : contextOf zs es ≡ grown c it (withGroups (groupsOf ys ds) (contextOf xs bs))
-      unfolding contextOf withGroups listsWith grown
+      unfolding contextOf restAt withGroups withWaiting listsWith grown
       changed-context =
-          ap (λ (m : Map ℕ Table). withGroups m (restOf (drop numbersInUse zs) (drop bytesInUse es))) changed-groups
-          ∙ ap (withGroups (groupsOf ys ds)) changed-rest
+          ap (λ (m : Map ℕ Table). withGroups m (restAt zs es)) changed-groups
+          ∙ ap (λ (v : Map ℕ (List Part)). withGroups (groupsOf ys ds) (withWaiting v (restOf (drop numbersInUse zs) (drop bytesInUse es)))) (room-waiting xs bs zs es changed-room)
+          ∙ ap (λ (r : Context). withGroups (groupsOf ys ds) (withWaiting (waitingOf (waitingNumbers xs) (waitingBytes bs)) r)) changed-rest
 
       after-act : BackKept xs bs ys ds → BackKept xs bs zs es
       after-act b =
@@ -101,6 +97,7 @@ module _ (c : Call) (it : LogItem) (last : Bool) (rows key value : List ℕ) (d 
                   undoable = front-undoable ys ds zs es (sym (g .front)) (sym (g .front-bytes)) (b .undo .undoable);
                 };
             lists-keep = keeps-then _ _ _ _ _ _ (b .lists-keep) (g .lists-grown .keeps);
+            room = room-then xs bs ys ds zs es (b .room) (lists-room ys ds zs es (g .lists-grown .behind));
           }
 
       pub stepped-done : Stepped c it last xs bs Done zs es
@@ -111,10 +108,11 @@ module _ (c : Call) (it : LogItem) (last : Bool) (rows key value : List ℕ) (d 
                 ap ok changed-context
                 ∙ rw (step-room c it p (contextOf xs bs) (context-fits xs bs w) rows key value d says y, ← a .rule);
             left = λ n e. absurd (done-not-refused n e);
-            kept = λ f. after-act (record { undo = a .kept f; lists-keep = lists-stay xs bs ys ds (a .behind) });
-            wf =
+            kept = λ f. after-act (record { undo = a .kept f; lists-keep = lists-stay xs bs ys ds (a .behind); room = room-stays xs bs ys ds (a .behind) });
+            formed =
                 record {
                   groups = front-wf ys ds zs es (sym (g .front)) (sym (g .front-bytes)) (a .wf);
                   rest = g .lists-grown .wf;
+                  waiting = room-wf xs bs zs es changed-room (w .waiting);
                 };
           }

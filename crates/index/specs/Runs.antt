@@ -8,7 +8,7 @@ use lib.ListN.{drop, getD, length}
 use Rattle.maps.specs.Cells.{mapOf}
 use Rattle.rules.specs.Causes.{Result, ok, refused}
 use Rattle.rules.specs.Items.{LogItem, Call, isReserved}
-use Rattle.rules.specs.Context.{Context, withGroups, limited, step}
+use Rattle.rules.specs.Context.{Context, withGroups, withWaiting, limited, step}
 use Rattle.log_batch.specs.declared.item.LogItem as lent
 use Rattle.log_batch.specs.Lent.{itemOf}
 use Rattle.log_batch.specs.OpenLaws.{Bare}
@@ -20,8 +20,9 @@ use Rattle.groups.specs.Undo.{undoneCells, Undoable}
 use Rattle.lists.specs.Rest.{restOf, cutTo}
 use Rattle.lists.specs.Rest as lists
 use Rattle.lists.specs.Calls.{Keeps}
+use Rattle.waiting.specs.Layout.{waitingOf}
 use Rattle.index.specs.Acts.{UndoKept}
-use Rattle.contexts.specs.Contexts.{contextOf, Wf}
+use Rattle.contexts.specs.Contexts.{waitingNumbers, waitingBytes, contextOf, Formed, RoomKept}
 use Rattle.deeds.specs.DeedLaws.{Clear}
 
 -- what is known of an item of a batch that passed the checks
@@ -37,19 +38,22 @@ outcomeAt p (Refused n) c = refused (record { number = n; place = p })
 
 -- the context that an area goes back to, with t tombstones and n cleaned numbers
 unfoldable pub backTo : ℕ → ℕ → List ℕ → List ℕ → Context
-backTo t n xs bs = withGroups (mapOf (undoneCells xs bs)) (restOf (cutTo t n (drop numbersInUse xs)) (drop bytesInUse bs))
+backTo t n xs bs =
+    withGroups (mapOf (undoneCells xs bs))
+    (withWaiting (waitingOf (waitingNumbers xs) (waitingBytes bs)) (restOf (cutTo t n (drop numbersInUse xs)) (drop bytesInUse bs)))
 
 -- what an area goes back to is as it was
 pub record BackKept (xs bs xs′ bs′ : List ℕ) : Type 0 where
   pub undo : UndoKept xs bs xs′ bs′
   pub lists-keep : Keeps (drop numbersInUse xs) (drop bytesInUse bs) (drop numbersInUse xs′) (drop bytesInUse bs′)
+  pub room : RoomKept xs bs xs′ bs′
 
 -- one item: the rules' step. Refused, the context is as it was; and unless it was the last item, the batch can go back.
 pub record Stepped (c : Call) (it : LogItem) (last : Bool) (xs bs : List ℕ) (r : Outcome) (xs′ bs′ : List ℕ) : Type 0 where
   pub rule : (p : Option ℕ) → outcomeAt p r (contextOf xs′ bs′) ≡ step limited c (record { item = it; place = p }) (contextOf xs bs)
   pub left : (n : ℕ) → r ≡ Refused n → BackKept xs bs xs′ bs′
   pub kept : last ≡ false → BackKept xs bs xs′ bs′
-  pub wf : Wf xs′ bs′
+  pub formed : Formed xs′ bs′
 
 -- a batch under way, which began with t tombstones and n cleaned numbers in context c
 pub record Going (t n : ℕ) (c : Context) (xs bs : List ℕ) : Type 0 where
@@ -62,4 +66,4 @@ pub record Going (t n : ℕ) (c : Context) (xs bs : List ℕ) : Type 0 where
 -- an area that has gone back
 pub record WentBack (t n : ℕ) (xs bs xs′ bs′ : List ℕ) : Type 0 where
   pub context-is : contextOf xs′ bs′ ≡ backTo t n xs bs
-  pub wf : Wf xs′ bs′
+  pub formed : Formed xs′ bs′

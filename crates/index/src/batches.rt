@@ -13,7 +13,7 @@ ghost use Rattle.log_batch.specs.Judged.{callOf};
 ghost use Rattle.groups.specs.Undo.{Undoable};
 ghost use Rattle.lists.specs.Rest.{cutTo};
 ghost use Rattle.lists.specs.Rest as lists·rest;
-ghost use Rattle.contexts.specs.Contexts.{Wf, Called};
+ghost use Rattle.contexts.specs.Contexts.{Formed, Answered};
 ghost use Rattle.index.specs.Runs.{Stepped, WentBack};
 use crate::items::carry_out;
 use contexts::Answer;
@@ -38,7 +38,7 @@ fn turn(
     i: usize,
     last: bool,
 ) -> Outcome
-    requires { ⌜ Wf (now xs) (now bs) ⌝ }
+    requires { ⌜ Formed (now xs) (now bs) ⌝ }
     requires { ⌜ Undoable (now xs) (now bs) ⌝ }
     requires { ⌜ i < rowCount (now items) ⌝ }
     requires { ⌜ checks (callOf call) (itemsOf (now items) (now entries) (now bytes)) ≡ none ⌝ }
@@ -54,7 +54,7 @@ fn turn(
 
 // Takes an area back to where a batch began, which had so many tombstones and cleaned numbers.
 fn go_back(xs: &mut [u64], bs: &mut [u8], counts: Counts)
-    requires { ⌜ Wf (now xs) (now bs) ⌝ }
+    requires { ⌜ Formed (now xs) (now bs) ⌝ }
     requires { ⌜ Undoable (now xs) (now bs) ⌝ }
     requires { ⌜ lists·rest.Wf (cutTo (counts .tombstones) (counts .cleaned) (drop 9376 (now xs))) (drop 16384 (now bs)) ⌝ }
     ensures { λ _. ⌜ WentBack (counts .tombstones) (counts .cleaned) (now (xs .entry)) (now (bs .entry)) (now (xs .exit)) (now (bs .exit)) ⌝ }
@@ -73,10 +73,10 @@ fn run_items(
     entries: &[u64],
     bytes: &[u8],
 ) -> Answer
-    requires { ⌜ Wf (now xs) (now bs) ⌝ }
+    requires { ⌜ Formed (now xs) (now bs) ⌝ }
     requires { ⌜ checks (callOf call) (itemsOf (now items) (now entries) (now bytes)) ≡ none ⌝ }
     requires { ⌜ isRewriteReplay (callOf call) ≡ false ⌝ }
-    ensures { λ r. ⌜ Called (run limited (callOf call) (placedFrom 0 (itemsOf (now (items .entry)) (now (entries .entry)) (now (bytes .entry))))) (now (xs .entry)) (now (bs .entry)) r (now (xs .exit)) (now (bs .exit)) ⌝ }
+    ensures { λ r. ⌜ Answered (run limited (callOf call) (placedFrom 0 (itemsOf (now (items .entry)) (now (entries .entry)) (now (bytes .entry))))) (now (xs .entry)) (now (bs .entry)) r (now (xs .exit)) (now (bs .exit)) ⌝ }
 {
     let a = groups::NUMBERS;
     let counts = lists::counts_in(&xs[a..]);
@@ -106,9 +106,9 @@ pub fn write(
     entries: &[u64],
     bytes: &[u8],
 ) -> Answer
-    requires { ⌜ Wf (now xs) (now bs) ⌝ }
+    requires { ⌜ Formed (now xs) (now bs) ⌝ }
     requires { ⌜ isRewriteReplay (callOf call) ≡ false ⌝ }
-    ensures { λ r. ⌜ ((file : FileId) → Called (λ c. checked (callOf call) (batchOf file (now (items .entry)) (now (entries .entry)) (now (bytes .entry))) (runBatch (callOf call) (batchOf file (now (items .entry)) (now (entries .entry)) (now (bytes .entry))) c)) (now (xs .entry)) (now (bs .entry)) r (now (xs .exit)) (now (bs .exit))) ⌝ }
+    ensures { λ r. ⌜ ((file : FileId) → Answered (λ c. checked (callOf call) (batchOf file (now (items .entry)) (now (entries .entry)) (now (bytes .entry))) (runBatch (callOf call) (batchOf file (now (items .entry)) (now (entries .entry)) (now (bytes .entry))) c)) (now (xs .entry)) (now (bs .entry)) r (now (xs .exit)) (now (bs .exit))) ⌝ }
 {
     let answer = check(call, items, entries, bytes);
     match answer {

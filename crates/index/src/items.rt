@@ -9,7 +9,7 @@ ghost use Rattle.groups.specs.Area as groups·area;
 ghost use Rattle.groups.specs.Undo.{Undoable};
 ghost use Rattle.index.specs.Acts.{Acted, deedOn};
 ghost use Rattle.deeds.specs.Deeds.{deedOf, rowsIn, keyIn, valueIn};
-ghost use Rattle.contexts.specs.Contexts.{Wf};
+ghost use Rattle.contexts.specs.Contexts.{Formed};
 ghost use Rattle.index.specs.Runs.{ItemReady, Stepped};
 use crate::acts::act;
 use crate::growth::adds_cleaned;
@@ -60,7 +60,7 @@ pub fn carry_out(
     bytes: &[u8],
     last: bool,
 ) -> Outcome
-    requires { ⌜ Wf (now xs) (now bs) ⌝ }
+    requires { ⌜ Formed (now xs) (now bs) ⌝ }
     requires { ⌜ Undoable (now xs) (now bs) ⌝ }
     requires { ⌜ ItemReady (callOf call) item (now entries) (now bytes) ⌝ }
     requires { ⌜ isRewriteReplay (callOf call) ≡ false ⌝ }

@@ -6,11 +6,11 @@ use mathlib.Core.List.{List, [], _∷_, _++_}
 use Prim.Native.Nat.{ℕ, _+_, _/_, _≤_, _<_}
 use native.Mathlib.Omega.{arith}
 use lib.ListN.{length, getD, set, take, drop, length-set}
-use lib.Seq.{getD-set-same, getD-set-other}
+use lib.Seq.{getD-set-same, getD-set-other, drop-set-lt}
 use borrow.Rule.Slice.PartMut.{putMid}
 use borrow.Author.Tests.{lt-ltb}
 use Rattle.cells.specs.Part.{part, put}
-use Rattle.cells.specs.PartLaws.{length-part, part-none, part-snoc, part-set-before, part-set-after, length-put, set-put, put-append, getD-put-before, part-put-same, part-put-before, loan-put, loan-front}
+use Rattle.cells.specs.PartLaws.{length-part, part-none, part-snoc, part-set-before, part-set-after, length-put, set-put, put-append, getD-put-before, part-put-same, part-put-before, drop-put, loan-put, loan-front}
 use Rattle.pipe_log.specs.Numbers.{queueNumber}
 use Rattle.rules.specs.Items as rules
 use Rattle.rules.specs.Context.{context, fresh, withTombstones, withCleaned, entriesIn}
@@ -21,7 +21,7 @@ use Rattle.stores.specs.Written.{countOf}
 use Rattle.stores.specs.Stores.{Area, area, storeItems, entriesBefore, Stored, hasRoom, Added}
 use Rattle.stores.specs.StoreLaws.{kept-all, entries-count}
 use Rattle.lists.specs.Rest.{kindOf, tombstoneStore, tombstoneArea, tombstonesIn, cleanedIn, restOf, Wf, cutTo}
-use Rattle.lists.specs.Calls.{Fresh, TombstoneAdded, CleanedAdded}
+use Rattle.lists.specs.Calls.{Behind, Fresh, TombstoneAdded, CleanedAdded}
 use Rattle.lists.proofs.FrontLaws.{storeOf, store-is, area-is, tombstones-are, cleaned-are, rest-is, Fronts, places-fit, keeps-fronts}
 
 -- ---- cut
@@ -58,10 +58,11 @@ none-stored ys cs e f =
 
 module _ (ys cs : List ℕ) (e : length ys ≡ 9601) (f : length cs ≡ 26624) (q : rules.LogQueue) (k : getD ys 0 0 ≡ queueNumber q) (t : getD ys 1 0 ≡ 0) (n : getD ys 2 0 ≡ 0) where
   -- lists of no elements are a fresh context's
-  fresh-lists : Fresh q ys cs
+  fresh-lists : (xs : List ℕ) → drop 643 ys ≡ drop 643 xs → Fresh q xs cs ys
   unfolding fresh
-  fresh-lists =
+  fresh-lists xs b =
       record {
+        behind = record { numbers = b; bytes = refl };
         rest =
             rest-is ys cs _ [] [] k (tombstones-are ys cs (storeOf 0) (tombstoneArea ys cs) (store-is ys 0 t) refl ∙ no-tombstones _) (cleaned-are ys 0 [] n (part-none 3 ys))
             ∙ rw (queue-kind q);
@@ -74,7 +75,7 @@ module _ (ys cs : List ℕ) (e : length ys ≡ 9601) (f : length cs ≡ 26624) (
             };
       }
 
-pub cleared : (ys : List ℕ) (q : rules.LogQueue) (k : ℕ) → length ys ≡ 9601 → k ≡ queueNumber q → (cs : List ℕ) → length cs ≡ 26624 → Fresh q (set (set (set ys 0 k) 1 0) 2 0) cs
+pub cleared : (ys : List ℕ) (q : rules.LogQueue) (k : ℕ) → length ys ≡ 9601 → k ≡ queueNumber q → (cs : List ℕ) → length cs ≡ 26624 → Fresh q ys cs (set (set (set ys 0 k) 1 0) 2 0)
 cleared ys q k e f cs h =
     let a = set ys 0 k in
     let b = set a 1 0 in
@@ -83,7 +84,8 @@ cleared ys q k e f cs h =
     fresh-lists (set b 2 0) cs (length-set b 2 0 ∙ lb) h q
     (getD-set-other b 2 0 0 0 (λ z. omega arith) ∙ getD-set-other a 1 0 0 0 (λ z. omega arith) ∙ getD-set-same ys 0 k 0 (omega arith) ∙ f)
     (getD-set-other b 2 1 0 0 (λ z. omega arith) ∙ getD-set-same a 1 0 0 (omega arith))
-    (getD-set-same b 2 0 0 (omega arith))
+    (getD-set-same b 2 0 0 (omega arith)) ys
+    (drop-set-lt 643 b 2 0 (omega arith) ∙ drop-set-lt 643 a 1 0 (omega arith) ∙ drop-set-lt 643 ys 0 k (omega arith))
 
 -- ---- add_cleaned
 
@@ -156,6 +158,7 @@ module _ (ys : List ℕ) (g : ℕ) (e : length ys ≡ 9601) (h : getD ys 2 0 < 6
       record {
         rest = cleaned-rest;
         keeps = keeps-fronts ys cs after cs e cleaned-fronts;
+        behind = record { numbers = drop-set-lt 643 numbered 2 (count + 1) (omega arith) ∙ drop-set-lt 643 ys (3 + count) g (omega arith); bytes = refl };
         wf =
             record {
               numbers-are = cleaned-fronts .numbers-are;
@@ -247,12 +250,23 @@ module _ (ys cs xs bs : List ℕ) (it : rules.LogItem) (w : Wf ys cs) (a : Added
       (tombstones-are told bytes _ _ told-store told-area ∙ a .items)
       (cleaned-are told (getD ys 2 0) _ (before-rows 2 (λ z. omega arith) (omega arith)) told-cleaned)
 
+  told-behind : Behind ys cs told bytes
+  told-behind =
+      let n = w .numbers-are in
+      let r = length-rows in
+      let b = length-bytes in
+      record {
+        numbers = drop-set-lt 643 laid 1 (getD ys 1 0 + 1) (omega arith) ∙ drop-put 643 ys 67 xs (omega arith) (omega arith);
+        bytes = drop-put 4096 cs 0 bs (omega arith) (omega arith);
+      }
+
   tombstone-put : TombstoneAdded it ys cs told bytes
   tombstone-put =
       let f = tombstone-fronts in
       record {
         rest = tombstone-rest;
         keeps = keeps-fronts ys cs told bytes (w .numbers-are) f;
+        behind = told-behind;
         wf =
             record {
               numbers-are = f .numbers-are;

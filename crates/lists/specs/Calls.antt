@@ -2,21 +2,27 @@
 use mathlib.Core.List.{List, [], _∷_, _++_}
 use mathlib.Core.Path.{_≡_}
 use Prim.Native.Nat.{ℕ, _+_, _≤_}
-use lib.ListN.{getD}
+use lib.ListN.{getD, drop}
 use Rattle.rules.specs.Items.{LogQueue, LogItem}
 use Rattle.rules.specs.Context.{Kind, context, index, Context, fresh, withTombstones, withCleaned}
 use Rattle.lists.specs.declared.Kind as kind
-use Rattle.lists.specs.Rest.{tombstonesIn, cleanedIn, restOf, Wf, cutTo}
+use Rattle.lists.specs.Rest.{listNumbers, listBytes, tombstonesIn, cleanedIn, restOf, Wf, cutTo}
 
 -- what an area stands for, as the rules' kind
 unfoldable pub kindAs : kind.Kind → Kind
 kindAs (kind.the-variants.Context q) = context q
 kindAs kind.the-variants.Index = index
 
+-- what lies behind the lists is as it was
+pub record Behind (ys cs ys′ cs′ : List ℕ) : Type 0 where
+  pub numbers : drop listNumbers ys′ ≡ drop listNumbers ys
+  pub bytes : drop listBytes cs′ ≡ drop listBytes cs
+
 -- the lists are those of a fresh context
-pub record Fresh (q : LogQueue) (ys cs : List ℕ) : Type 0 where
-  pub rest : restOf ys cs ≡ fresh q
-  pub wf : Wf ys cs
+pub record Fresh (q : LogQueue) (ys cs ys′ : List ℕ) : Type 0 where
+  pub rest : restOf ys′ cs ≡ fresh q
+  pub behind : Behind ys cs ys′ cs
+  pub wf : Wf ys′ cs
 
 -- cut back to t tombstones and n cleaned numbers the lists are those of r
 pub record Back (t n : ℕ) (r : Context) (ys cs : List ℕ) : Type 0 where
@@ -32,9 +38,11 @@ pub record Keeps (ys cs ys′ cs′ : List ℕ) : Type 0 where
 pub record TombstoneAdded (it : LogItem) (ys cs ys′ cs′ : List ℕ) : Type 0 where
   pub rest : restOf ys′ cs′ ≡ withTombstones (tombstonesIn ys cs ++ (it ∷ [])) (restOf ys cs)
   pub keeps : Keeps ys cs ys′ cs′
+  pub behind : Behind ys cs ys′ cs′
   pub wf : Wf ys′ cs′
 
 pub record CleanedAdded (g : ℕ) (ys cs ys′ : List ℕ) : Type 0 where
   pub rest : restOf ys′ cs ≡ withCleaned (cleanedIn ys ++ (g ∷ [])) (restOf ys cs)
   pub keeps : Keeps ys cs ys′ cs
+  pub behind : Behind ys cs ys′ cs
   pub wf : Wf ys′ cs

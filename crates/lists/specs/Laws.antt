@@ -1,16 +1,17 @@
 -- The laws of a context's lists: what a cut leaves, the lengths, the kind, and what stays within reach. Assumes nothing.
 use mathlib.Core.Path.{_≡_, refl, sym, ap, _∙_}
 use mathlib.Core.List.{List, [], _∷_}
-use Prim.Native.Nat.{ℕ, _*_, _≤_}
+use Prim.Native.Nat.{ℕ, _*_, _≤_, _<_}
 use native.Mathlib.Omega.{arith}
-use lib.ListN.{length, getD}
+use lib.ListN.{length, getD, take}
+use lib.Seq.{getD-take}
 use Rattle.cells.specs.Part.{part}
-use Rattle.cells.specs.PartLaws.{length-part, part-cons, part-none, length-put, put-part, getD-put-in, getD-put-before, part-put-after}
+use Rattle.cells.specs.PartLaws.{length-part, part-cons, part-none, length-put, put-part, getD-put-in, getD-put-before, part-put-after, part-of-front, drop-put}
 use Rattle.rules.specs.Items.{LogItem, Append, Rewrite}
 use Rattle.rules.specs.Context.{Kind, context, index, Context, withTombstones, withCleaned}
 use Rattle.stores.specs.StoreLaws.{length-stored}
 use Rattle.lists.specs.Rest.{kindOf, kindNumber, tombstoneStore, tombstoneArea, tombstonesIn, cleanedIn, restOf, Wf, cutTo}
-use Rattle.lists.specs.Calls.{Back, Keeps, TombstoneAdded, CleanedAdded}
+use Rattle.lists.specs.Calls.{Behind, Back, Keeps, TombstoneAdded, CleanedAdded}
 
 -- ---- the kind
 
@@ -72,9 +73,51 @@ module _ (t n : ℕ) (ys : List ℕ) (e : length ys ≡ 9601) where
   unfolding cutTo
   cleaned-cut = getD-put-in ys 1 (t ∷ n ∷ []) 1 0 (omega arith) (omega arith)
 
+  pub lists-cut : (cs : List ℕ) → Behind ys cs (cutTo t n ys) cs
+  unfolding cutTo
+  lists-cut cs = record { numbers = drop-put 643 ys 1 (t ∷ n ∷ []) (omega arith) (omega arith); bytes = refl }
+
   pub behind-cut : (a k : ℕ) → 3 ≤ a → part a k (cutTo t n ys) ≡ part a k ys
   unfolding cutTo
   behind-cut a k h = part-put-after a k ys 1 (t ∷ n ∷ []) h (omega arith)
+
+-- ---- what lies behind the lists
+
+pub behind-all : (ys cs : List ℕ) → Behind ys cs ys cs
+behind-all ys cs = record { numbers = refl; bytes = refl }
+
+pub behind-then : (ys cs ys′ cs′ ys″ cs″ : List ℕ) → Behind ys cs ys′ cs′ → Behind ys′ cs′ ys″ cs″ → Behind ys cs ys″ cs″
+behind-then ys cs ys′ cs′ ys″ cs″ p q = record { numbers = q .numbers ∙ p .numbers; bytes = q .bytes ∙ p .bytes }
+
+-- the lists are what their own numbers and bytes say
+module _ (ys cs ys′ cs′ : List ℕ) (w : Wf ys cs) (n : take 643 ys′ ≡ take 643 ys) (b : take 4096 cs′ ≡ take 4096 cs) where
+  cell-is : (i : ℕ) → i < 643 → getD ys′ i 0 ≡ getD ys i 0
+  cell-is i h = sym (getD-take 643 ys′ i 0 h) ∙ ap (λ (l : List ℕ). getD l i 0) n ∙ getD-take 643 ys i 0 h
+
+  area-is : tombstoneArea ys′ cs′ ≡ tombstoneArea ys cs
+  unfolding tombstoneArea
+  area-is = rw (part-of-front 67 576 643 ys′ ys n (omega arith), part-of-front 0 4096 4096 cs′ cs b (omega arith))
+
+  store-is : tombstoneStore ys′ ≡ tombstoneStore ys
+  unfolding tombstoneStore
+  store-is = rw (cell-is 1 (omega arith))
+
+  cleaned-is : cleanedIn ys′ ≡ cleanedIn ys
+  unfolding cleanedIn
+  cleaned-is = let f = w .cleaned-fit in rw (cell-is 2 (omega arith), part-of-front 3 (getD ys 2 0) 643 ys′ ys n (omega arith))
+
+  pub front-rest : restOf ys′ cs′ ≡ restOf ys cs
+  unfolding restOf tombstonesIn
+  front-rest = rw (cell-is 0 (omega arith), store-is, area-is, cleaned-is)
+
+  pub front-wf : length ys′ ≡ 9601 → length cs′ ≡ 26624 → Wf ys′ cs′
+  front-wf p q =
+      record {
+        numbers-are = p;
+        bytes-are = q;
+        tombstones = rw (store-is, area-is) (w .tombstones);
+        cleaned-fit = rw (cell-is 2 (omega arith)) (w .cleaned-fit);
+      }
 
 -- ---- what can be gone back to
 

@@ -19,6 +19,13 @@ restNumbers = 9601
 abbrev pub restBytes : ℕ
 restBytes = 26624
 
+-- those of the lists themselves
+abbrev pub listNumbers : ℕ
+listNumbers = 643
+
+abbrev pub listBytes : ℕ
+listBytes = 4096
+
 -- 0 an Append context, 1 a Rewrite context, otherwise the index
 unfoldable pub kindOf : ℕ → Kind
 kindOf n = cond (eqb n 0) (context Append) (cond (eqb n 1) (context Rewrite) index)

@@ -63,7 +63,7 @@ pub fn kind_in(ys: &[u64]) -> Kind
 // Makes the lists those of a fresh context.
 pub fn clear(ys: &mut [u64], queue: LogQueue)
     requires { ⌜ length (now ys) ≡ 9601 ⌝ }
-    ensures { λ _. ⌜ ((cs : List ℕ) → length cs ≡ 26624 → Fresh queue (now (ys .exit)) cs) ⌝ }
+    ensures { λ _. ⌜ ((cs : List ℕ) → length cs ≡ 26624 → Fresh queue (now (ys .entry)) cs (now (ys .exit))) ⌝ }
 {
     ys[KIND_AT] = queue.to_u64();
     ys[TOMBSTONES_AT] = 0;

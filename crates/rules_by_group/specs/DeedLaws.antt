@@ -77,12 +77,12 @@ module _ {A : Type 0} where
   deeds-by-group (d ∷ ds) m asc =
       by-group-cons d ds m asc (λ t. deeds-by-group ds (store numbers (d .group) t m) (ascending-store numbers numbersLawful (d .group) t m asc))
 
-  by-group-ascends : (at : ℕ → Result (Option A)) (r : Result (Map ℕ A)) (n : Map ℕ A) → ByGroup at r → r ≡ ok n → Ascending numbers n
+  pub by-group-at : (at : ℕ → Result (Option A)) (r : Result (Map ℕ A)) (n : Map ℕ A) → ByGroup at r → r ≡ ok n → Ascending numbers n × ((g : ℕ) → at g ≡ ok (lookup numbers g n))
   unfolding ByGroup
-  by-group-ascends at r n h e = (rw e at h) .0
+  by-group-at at r n h e = rw e at h
 
   pub do-ascends : (ds : List (Deed A)) (m n : Map ℕ A) → Ascending numbers m → doAll ds m ≡ ok n → Ascending numbers n
-  do-ascends ds m n asc e = by-group-ascends (λ g. own g ds (lookup numbers g m)) (doAll ds m) n (deeds-by-group ds m asc) e
+  do-ascends ds m n asc e = by-group-at (λ g. own g ds (lookup numbers g m)) (doAll ds m) n (deeds-by-group ds m asc) e .0
 
   pub do-append : (ds es : List (Deed A)) (m : Map ℕ A) → doAll (ds ++ es) m ≡ andThen (doAll ds m) (doAll es)
   unfolding doAll

@@ -7,7 +7,8 @@ use lib.Dec.{eqb}
 use Rattle.maps.specs.Lists.{every}
 use Rattle.maps.specs.Maps.{Pair, numbers}
 use Rattle.maps.specs.MapLaws.{Ascending}
-use Rattle.rules.specs.Items.{Append, Rewrite, LogItem, Status, begin, middle, end, isTombstone}
+use Rattle.rules.specs.Items.{Append, Rewrite, EntryIndex, sameQueue, fileOf, Content, entries, command, kv, LogItem, Status, begin, middle, end, isTombstone}
+use Rattle.rules.specs.Table.{Table}
 use Rattle.rules.specs.Context.{Kind, context, index, Part, Context}
 use Rattle.rules_by_group.specs.Group.{cleansOf}
 
@@ -32,9 +33,23 @@ unfoldable pub shaped : List Part → Bool
 shaped [] = false
 shaped (p ∷ ps) = behind (p .status) ps
 
--- the items of a group's parts are the group's own
+-- by kind: a context holds entries of its own queue alone, the index those of both
+unfoldable pub entryBy : Kind → EntryIndex → Bool
+entryBy (context q) e = sameQueue (fileOf e .queue) q
+entryBy index e = true
+
+-- each entry of an item meets p
+unfoldable pub eachEntry : (EntryIndex → Bool) → Content → Bool
+eachEntry p (entries es) = every p es
+eachEntry p (command c) = true
+eachEntry p (kv k c) = true
+
+-- the items of a group's parts are the group's own, with entries of the Rewrite queue
+unfoldable pub isOwn : ℕ → LogItem → Bool
+isOwn g it = eqb (it .group) g && eachEntry (entryBy (context Rewrite)) (it .content)
+
 unfoldable pub ownItems : ℕ → List LogItem → Bool
-ownItems g items = every (λ (it : LogItem). eqb (it .group) g) items
+ownItems g items = every (isOwn g) items
 
 unfoldable pub ownParts : ℕ → List Part → Bool
 ownParts g ps = every (λ (p : Part). ownItems g (p .items)) ps
@@ -54,5 +69,6 @@ pub record Kept (c : Context) : Type 0 where
   pub waiting-ascends : Ascending numbers (c .waiting)
   pub own-items : every (λ (x : Pair ℕ (List Part)). ownParts (x .key) (x .val)) (c .waiting) ≡ true
   pub shapes : every (λ (x : Pair ℕ (List Part)). shaped (x .val)) (c .waiting) ≡ true
+  pub own-entries : every (λ (x : Pair ℕ Table). every (entryBy (c .kind)) (x .val .entries)) (c .groups) ≡ true
   pub tombstones-only : allTombstones (c .tombstones) ≡ true
   pub by-kind : KeptBy (c .kind) c

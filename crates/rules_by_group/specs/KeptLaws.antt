@@ -5,33 +5,34 @@ use mathlib.Core.Bool.{true, _&&_, false≢true}
 use mathlib.Core.List.{List, [], _∷_, _++_, append-nil}
 use mathlib.Core.Option.{Option, none, some}
 use Prim.Native.Nat.{ℕ}
-use Rattle.maps.specs.Lists.{every, orElse}
+use Rattle.maps.specs.Lists.{every, last, orElse}
 use Rattle.maps.specs.Maps.{Pair, Map, lookup, numbers}
 use Rattle.maps.specs.BoolLaws.{both-left, both-right}
-use Rattle.maps.specs.ListLaws.{every-select}
+use Rattle.maps.specs.ListLaws.{every-all, every-select}
 use Rattle.maps.specs.OrderLaws.{split, numbersLawful}
 use Rattle.maps.specs.MapLaws.{Ascending, ascending-nil, every-intro}
 use Rattle.rules.specs.Causes.{Result, ok, refused, inOrder, left}
-use Rattle.rules.specs.Items.{LogQueue, Append, Rewrite, sameQueue, Batch, LogItem, placedFrom, isTombstone, Call, replayAppend, replayRewrite, liveAppend, liveRewrite}
+use Rattle.rules.specs.Items.{LogQueue, Append, Rewrite, sameQueue, Batch, LogItem, placedFrom, isTombstone, Call, replayAppend, replayRewrite, liveAppend, liveRewrite, writes}
 use Rattle.rules.specs.Checks.{Mark, firstMark, checks}
-use Rattle.rules.specs.Table.{Table}
+use Rattle.rules.specs.Table.{Table, made}
 use Rattle.rules.specs.Context.{Kind, context, index, isContext, isIndex, Part, Context, fresh, withGroups, withCleaned}
 use Rattle.rules.specs.Waiting.{replayMarked}
 use Rattle.rules.specs.Calls.{checked, runBatch, replayBatch, replay, mergeContexts, both, merge, joinContexts, join, write, append, rewrite}
 use Rattle.rules.specs.Queries.{takeCleaned, afterTaking}
-use Rattle.rules_by_group.specs.Group.{cleansOf, Finished, finishedOf}
-use Rattle.rules_by_group.specs.Stage.{acceptPartsOf, waitingAfter, tombsIn, finishedTombs, mergedRest, joinedRest}
-use Rattle.rules_by_group.specs.Kept.{shaped, ownParts, allTombstones, KeptBy, Kept}
+use Rattle.rules_by_group.specs.Group.{cleansOf, partsOf, Finished, finishedOf}
+use Rattle.rules_by_group.specs.Stage.{acceptPartsOf, waitingAfter, tombsIn, finishedTombs, mergedRest, mergedAt, joinedRest}
+use Rattle.rules_by_group.specs.Kept.{shaped, entryBy, eachEntry, ownParts, allTombstones, KeptBy, Kept}
 use Rattle.rules_by_group.specs.ResultLaws.{ok-inj, refused-not-ok, byResult, byOption, andThen-ok, inOrder-kept}
-use Rattle.rules_by_group.specs.DeedLaws.{do-ascends}
+use Rattle.rules_by_group.specs.DeedLaws.{do-ascends, by-group-at}
 use Rattle.rules_by_group.specs.ItemLaws.{limited-ok}
-use Rattle.rules_by_group.specs.KindLaws.{kept-by, append-cleaned, append-waits, rewrite-cleaned, index-empty}
+use Rattle.rules_by_group.specs.KindLaws.{kept-by, append-cleaned, append-waits, rewrite-cleaned, index-empty, own-made, index-entries, index-content}
 use Rattle.rules_by_group.specs.PartLaws.{kept-own, kept-shaped}
-use Rattle.rules_by_group.specs.MergeLaws.{merged-deeds}
+use Rattle.rules_by_group.specs.MergeLaws.{merged-deeds, merged-by-group}
 use Rattle.rules_by_group.specs.WaitingLaws.{AllKept, all-kept, kept-of, after-ascends, after-kept}
+use Rattle.rules_by_group.specs.EntryLaws.{finishedMeets, merged-meets, finished-meets}
 use Rattle.rules_by_group.specs.JoinLaws.{joined-deeds}
 use Rattle.rules_by_group.specs.ByGroupLaws.{kept-accepts}
-use Rattle.rules_by_group.specs.RunLaws.{cleans-append, tombs-append, tombs-nil, KindKept, KeptAt, append-keeps, rewrite-keeps, live-append-keeps, live-rewrite-keeps, run-keeps, marked-keeps}
+use Rattle.rules_by_group.specs.RunLaws.{cleans-append, tombs-append, tombs-nil, KindKept, KeptAt, append-keeps, rewrite-keeps, live-append-keeps, live-rewrite-keeps, run-keeps, batch-queue, every-placed, marked-keeps}
 
 -- ---- fresh
 
@@ -43,6 +44,7 @@ fresh-kept q =
       waiting-ascends = ascending-nil (List Part) numbers;
       own-items = unfold every in refl;
       shapes = unfold every in refl;
+      own-entries = unfold every in refl;
       tombstones-only = tombs-nil;
       by-kind = by-queue q;
     }
@@ -61,14 +63,16 @@ checked-ok call b next d e =
     (λ h. (h, rw h at e))
     (λ r h. absurd (refused-not-ok (rw h at e)))
 
-run-batch-keeps : (k : Kind) (call : Call) (b : Batch) (c d : Context) → KindKept k call → KeptAt k c → runBatch call b c ≡ ok d → KeptAt k d
+run-batch-keeps : (k : Kind) (call : Call) (b : Batch) (c d : Context) → KindKept k call → every (λ (it : LogItem). eachEntry (entryBy k) (it .content)) (b .items) ≡ true → KeptAt k c → runBatch call b c ≡ ok d → KeptAt k d
 unfolding runBatch
-run-batch-keeps k call b c d keep h e = run-keeps k call keep (placedFrom 0 (b .items)) c d h e
+run-batch-keeps k call b c d keep o h e =
+    run-keeps k call keep (placedFrom 0 (b .items)) c d (every-placed (λ (it : LogItem). eachEntry (entryBy k) (it .content)) 0 (b .items) o) h e
 
 replay-append-keeps : (b : Batch) (c d : Context) → KeptAt (context Append) c → replayBatch Append b c ≡ ok d → KeptAt (context Append) d
 unfolding replayBatch
 replay-append-keeps b c d h e =
-    run-batch-keeps (context Append) replayAppend b c d append-keeps h (checked-ok replayAppend b (runBatch replayAppend b c) d e .1)
+    let s = checked-ok replayAppend b (runBatch replayAppend b c) d e in
+    run-batch-keeps (context Append) replayAppend b c d append-keeps (unfold writes in batch-queue replayAppend (b .items) (s .0)) h (s .1)
 
 replay-rewrite-keeps : (b : Batch) (c d : Context) → KeptAt (context Rewrite) c → replayBatch Rewrite b c ≡ ok d → KeptAt (context Rewrite) d
 unfolding replayBatch
@@ -76,7 +80,7 @@ replay-rewrite-keeps b c d h e =
     let marked : Option Mark → Result Context = orElse (runBatch replayRewrite b c) (λ m. replayMarked m (b .file .seq) (placedFrom 0 (b .items)) c) in
     let s = checked-ok replayRewrite b (marked (firstMark 0 (b .items))) d e in
     byOption (firstMark 0 (b .items))
-    (λ f. run-batch-keeps (context Rewrite) replayRewrite b c d rewrite-keeps h (none-marked (runBatch replayRewrite b c) _ (firstMark 0 (b .items)) d f (s .1)))
+    (λ f. run-batch-keeps (context Rewrite) replayRewrite b c d rewrite-keeps (unfold writes in batch-queue replayRewrite (b .items) (s .0)) h (none-marked (runBatch replayRewrite b c) _ (firstMark 0 (b .items)) d f (s .1)))
     (λ m f. marked-keeps (b .items) m (b .file .seq) c d (s .0) f h (some-marked (runBatch replayRewrite b c) _ (firstMark 0 (b .items)) m d f (s .1)))
   where
     none-marked : (r : Result Context) (f : Mark → Result Context) (o : Option Mark) (d : Context) → o ≡ none → orElse r f o ≡ ok d → r ≡ ok d
@@ -162,14 +166,32 @@ module _ (newer c : Context) (kn : Kept newer) (kc : Kept c) where
       (sym (none-wait w nw e) ∙ append-waits c kc o, λ i. (sym (cleans-append (c .tombstones) (newer .tombstones) ∙ ap (λ l. l ++ cleansOf (newer .tombstones)) (sym (append-cleaned c kc o)) ∙ ap (λ l. c .cleaned ++ l) (sym (append-cleaned newer kn n))) ∙ ap cleansOf (sym (none-finish nw))) i)
   rest-by Rewrite w m n o e = ap (λ l. l ++ newer .cleaned) (rewrite-cleaned c kc o) ∙ rewrite-cleaned newer kn n
 
-  merged-keeps : (q : LogQueue) (w : Map ℕ (List Part)) (m : Map ℕ Table) → newer .kind ≡ context q → c .kind ≡ context q → waitingAfter (newer .waiting) (c .waiting) ≡ ok w → Ascending numbers m → Kept (withGroups m (mergedRest newer w c))
-  merged-keeps q w m n o e asc =
+  -- what finishes has entries of the queue
+  finished-of : (q : LogQueue) (g : ℕ) → newer .kind ≡ context q → finishedMeets (entryBy (context q)) (finishedOf (lookup numbers g (newer .waiting)) (lookup numbers g (c .waiting))) ≡ true
+  finished-of Append g n = rw (append-waits newer kn n) (unfold lookup finishedOf partsOf last orElse finishedMeets in refl)
+  finished-of Rewrite g n =
+      finished-meets g (lookup numbers g (newer .waiting)) (lookup numbers g (c .waiting)) (kept-of (newer .waiting) g (all-kept (newer .waiting) (kn .own-items) (kn .shapes)) .own) (kept-of (c .waiting) g (all-kept (c .waiting) (kc .own-items) (kc .shapes)) .own)
+
+  -- each group's table has entries of the queue
+  merged-table : (q : LogQueue) (g : ℕ) (t : Option Table) → newer .kind ≡ context q → c .kind ≡ context q → mergedAt q newer c g ≡ ok t → every (entryBy (context q)) (made t .entries) ≡ true
+  unfolding mergedAt
+  merged-table q g t n o e =
+      merged-meets (entryBy (context q)) q g (finishedOf (lookup numbers g (newer .waiting)) (lookup numbers g (c .waiting))) (newer .tombstones) (lookup numbers g (newer .groups)) (lookup numbers g (c .groups)) t (finished-of q g n) (own-made newer (context q) kn n g) (own-made c (context q) kc o g) e
+
+  merged-own : (q : LogQueue) (m : Map ℕ Table) → newer .kind ≡ context q → c .kind ≡ context q → Ascending numbers m → ((g : ℕ) → mergedAt q newer c g ≡ ok (lookup numbers g m)) → every (λ (x : Pair ℕ Table). every (entryBy (context q)) (x .val .entries)) m ≡ true
+  unfolding made orElse
+  merged-own q m n o asc at =
+      every-intro numbers numbersLawful (λ (x : Pair ℕ Table). every (entryBy (context q)) (x .val .entries)) m asc (λ g t e. merged-table q g (some t) n o (at g ∙ ap (λ u. ok u) e))
+
+  merged-keeps : (q : LogQueue) (w : Map ℕ (List Part)) (m : Map ℕ Table) → newer .kind ≡ context q → c .kind ≡ context q → waitingAfter (newer .waiting) (c .waiting) ≡ ok w → Ascending numbers m → every (λ (x : Pair ℕ Table). every (entryBy (context q)) (x .val .entries)) m ≡ true → Kept (withGroups m (mergedRest newer w c))
+  merged-keeps q w m n o e asc own =
       let k = waiting-kept (newer .waiting) (c .waiting) w (kn .own-items) (record { ascends = kc .waiting-ascends; parts = all-kept (c .waiting) (kc .own-items) (kc .shapes) }) e in
       record {
         groups-ascend = unfold withGroups mergedRest in asc;
         waiting-ascends = unfold withGroups mergedRest in k .ascends;
         own-items = unfold withGroups mergedRest in all-own w k;
         shapes = unfold withGroups mergedRest in all-shaped w k;
+        own-entries = unfold withGroups mergedRest in rw o own;
         tombstones-only = unfold withGroups mergedRest in tombs-append (c .tombstones ++ newer .tombstones) (finishedTombs (newer .waiting) (c .waiting)) (tombs-append (c .tombstones) (newer .tombstones) (kc .tombstones-only) (kn .tombstones-only)) (finished-tombs (newer .waiting) (c .waiting));
         by-kind = kept-by (withGroups m (mergedRest newer w c)) (context q) (unfold withGroups mergedRest in o) (rest-by q w m n o e);
       }
@@ -178,7 +200,8 @@ module _ (newer c : Context) (kn : Kept newer) (kc : Kept c) where
   merge-contexts-kept q d n o e =
       let s = andThen-ok _ _ d (sym (merged-deeds q newer c kn kc n (kept-accepts newer c kn kc)) ∙ e) in
       let t = andThen-ok _ _ d (s .2) in
-      rw (← (limited-ok none (withGroups (t .0) (mergedRest newer (s .0) c)) d (t .2) .0)) (merged-keeps q (s .0) (t .0) n o (s .1) (do-ascends _ (c .groups) (t .0) (kc .groups-ascend) (t .1)))
+      let g = by-group-at (mergedAt q newer c) _ (t .0) (merged-by-group q newer c kn kc n (kept-accepts newer c kn kc)) (t .1) in
+      rw (← (limited-ok none (withGroups (t .0) (mergedRest newer (s .0) c)) d (t .2) .0)) (merged-keeps q (s .0) (t .0) n o (s .1) (g .0) (merged-own q (t .0) n o (g .0) (g .1)))
 
   both-are : (q : LogQueue) → both q newer c ≡ true → (newer .kind ≡ context q) × (c .kind ≡ context q)
   unfolding both
@@ -204,6 +227,7 @@ module _ (newer c : Context) (kn : Kept newer) (kc : Kept c) where
         waiting-ascends = ascending-nil (List Part) numbers;
         own-items = unfold every in refl;
         shapes = unfold every in refl;
+        own-entries = index-entries m;
         tombstones-only = tombs-nil;
         by-kind = unfold KeptBy in (refl, refl);
       }
@@ -226,7 +250,7 @@ write-kept : (q : LogQueue) (call : Call) (b : Batch) (c d : Context) → KindKe
 unfolding write
 write-kept q call b c d keep k e =
     split (isIndex (c .kind) && sameQueue (b .file .queue) q)
-    (λ s. run-batch-keeps index call b c d keep (record { is-kind = index-is (c .kind) (both-left (isIndex (c .kind)) (sameQueue (b .file .queue) q) s); kept = k }) (checked-ok call b (runBatch call b c) d (rw s at e) .1) .kept)
+    (λ s. run-batch-keeps index call b c d keep (every-all (λ (it : LogItem). eachEntry (entryBy index) (it .content)) (b .items) (λ it. index-content (it .content))) (record { is-kind = index-is (c .kind) (both-left (isIndex (c .kind)) (sameQueue (b .file .queue) q) s); kept = k }) (checked-ok call b (runBatch call b c) d (rw s at e) .1) .kept)
     (λ s. absurd (refused-not-ok (rw s at e)))
 
 pub append-kept : (b : Batch) (c d : Context) → Kept c → append b c ≡ ok d → Kept d
@@ -251,6 +275,7 @@ uncleaned-kept c i k =
       waiting-ascends = unfold withCleaned in k .waiting-ascends;
       own-items = unfold withCleaned in k .own-items;
       shapes = unfold withCleaned in k .shapes;
+      own-entries = unfold withCleaned in k .own-entries;
       tombstones-only = unfold withCleaned in k .tombstones-only;
       by-kind = kept-by (withCleaned [] c) index (unfold withCleaned in i) (unfold withCleaned KeptBy in index-empty c i k);
     }

@@ -7,6 +7,7 @@ pub mod ResultLaws
 pub mod DeedLaws
 pub mod StageLaws
 pub mod ItemLaws
+pub mod EntryLaws
 pub mod KindLaws
 pub mod LayLaws
 pub mod JoinLaws

@@ -216,7 +216,7 @@ module _ (q : LogQueue) (newer c : Context) (kn : Kept newer) (kc : Kept c) (is 
         ∙ andThen-assoc (waitingAfter (newer .waiting) (c .waiting)) finished later
         ∙ andThen-same (waitingAfter (newer .waiting) (c .waiting)) (λ w. andThen (finished w) later) (λ w. andThen (doAll (mergeDeeds q newer c) (c .groups)) (fromGroups w)) finish-then
 
-    merged-by-group : ByGroup (mergedAt q newer c) (doAll (mergeDeeds q newer c) (c .groups))
+    pub merged-by-group : ByGroup (mergedAt q newer c) (doAll (mergeDeeds q newer c) (c .groups))
     merged-by-group =
         byGroup-ext (mergedAt q newer c) (λ g. own g (mergeDeeds q newer c) (lookup numbers g (c .groups))) (doAll (mergeDeeds q newer c) (c .groups)) (own-merged q newer c kn) (deeds-by-group (mergeDeeds q newer c) (c .groups) (kc .groups-ascend))
 

@@ -5,7 +5,7 @@ use mathlib.Core.Bool.{true, false, cond, true≢false, false≢true}
 use mathlib.Core.List.{List, [], _∷_, _++_, reverse, reverse-cons}
 use mathlib.Core.Option.{Option, none, some, Option·none-ne-some}
 use Prim.Native.Nat.{ℕ}
-use lib.Dec.{eqb, leb}
+use lib.Dec.{leb}
 use Rattle.maps.specs.Lists.{every, orElse}
 use Rattle.maps.specs.BoolLaws.{both, both-left, both-right}
 use Rattle.maps.specs.ListLaws.{every-append, every-head, every-tail, every-cons}
@@ -15,14 +15,14 @@ use Rattle.rules.specs.Items.{LogItem, Status, begin, middle, end}
 use Rattle.rules.specs.Context.{Part}
 use Rattle.rules.specs.Waiting.{Accepted, wait, finish, back, joined, acceptBy, accept, someParts}
 use Rattle.rules_by_group.specs.Group.{partsOf, waits, acceptPart}
-use Rattle.rules_by_group.specs.Kept.{isBegin, isEnd, behind, shaped, ownItems, ownParts}
+use Rattle.rules_by_group.specs.Kept.{isBegin, isEnd, behind, shaped, isOwn, ownItems, ownParts}
 use Rattle.rules_by_group.specs.ResultLaws.{ok-inj, one-refusal, refusalOf, refused-not-ok}
 
 -- ---- the items are the group's own
 
 pub own-items-append : (g : ℕ) (xs ys : List LogItem) → ownItems g xs ≡ true → ownItems g ys ≡ true → ownItems g (xs ++ ys) ≡ true
 unfolding ownItems
-own-items-append g xs ys a b = every-append (λ (it : LogItem). eqb (it .group) g) xs ys ∙ both a b
+own-items-append g xs ys a b = every-append (isOwn g) xs ys ∙ both a b
 
 pub own-head : (g : ℕ) (p : Part) (ps : List Part) → ownParts g (p ∷ ps) ≡ true → ownItems g (p .items) ≡ true
 unfolding ownParts

@@ -1,31 +1,32 @@
 -- Batches keep what every context keeps: items in order, and marked batches.
 -- Assumes nothing.
 use mathlib.Core.Path.{_≡_, refl, sym, ap, _∙_}
-use mathlib.Core.Bool.{Bool, true, false, not, true≢false}
+use mathlib.Core.Bool.{Bool, true, false, not, _&&_, true≢false}
 use mathlib.Core.List.{List, [], _∷_, _++_, append-assoc, append-nil}
 use mathlib.Core.Option.{Option, none, some, Option·some-ne-none}
 use Prim.Native.Nat.{ℕ, suc}
 use lib.Dec.{eqb}
-use borrow.Author.Tests.{not-false}
-use Rattle.maps.specs.Lists.{select, every, orElse, findFrom}
+use borrow.Author.Tests.{not-false, not-true}
+use Rattle.maps.specs.Lists.{select, any, every, orElse, findFrom}
 use Rattle.maps.specs.Maps.{Pair, Map, lookup, insert, store, numbers}
-use Rattle.maps.specs.BoolLaws.{both, neither-left}
-use Rattle.maps.specs.ListLaws.{every-append, every-all, every-map, every-selected, every-head, every-tail, every-cons}
+use Rattle.maps.specs.BoolLaws.{both, both-left, both-right, neither-left, neither-right}
+use Rattle.maps.specs.ListLaws.{every-append, every-and, every-from, every-map, every-selected, every-head, every-tail, every-cons}
 use Rattle.maps.specs.OrderLaws.{split, numbersLawful}
-use Rattle.maps.specs.MapLaws.{Ascending, ascending-store, ascending-insert, every-store}
-use Rattle.rules.specs.Causes.{Cause, Refusal, ok, badMark}
-use Rattle.rules.specs.Items.{Append, Rewrite, sameQueue, Content, entries, command, kv, LogItem, Placed, placedAt, placedFrom, isClean, isTombstone, isMark, Call, replayAppend, replayRewrite, liveAppend, liveRewrite, writes}
-use Rattle.rules.specs.Checks.{Mark, firstMark, breaksMark, isRewriteReplay, meets7, orNext, checks}
+use Rattle.maps.specs.MapLaws.{Ascending, ascending-store, ascending-insert, every-insert, every-store}
+use Rattle.rules.specs.Causes.{Cause, Refusal, ok}
+use Rattle.rules.specs.Items.{LogQueue, Append, Rewrite, EntryIndex, sameQueue, hasFile, fileOf, Content, entries, command, kv, LogItem, Placed, placedAt, placedFrom, isReserved, isClean, isTombstone, isMark, Call, replayAppend, replayRewrite, liveAppend, liveRewrite, writes}
+use Rattle.rules.specs.Checks.{consecutive, isIncomplete, isOtherQueue, Mark, firstMark, breaksMark, isRewriteReplay, meets3, meets7, orNext, unlessReserved, checks}
 use Rattle.rules.specs.Table.{Span, Table, made, spanned}
 use Rattle.rules.specs.Context.{Kind, context, index, Part, Context, withGroups, withWaiting, limited, keeps, step, run}
 use Rattle.rules.specs.Waiting.{Accepted, wait, finish, back, accept, someParts, setWaiting, setSpan, finishGroup, become, acceptNewGroup, partOf, replayMarked}
 use Rattle.rules_by_group.specs.Group.{tombOf, cleanOf, cleansOf, partsOf, waits}
-use Rattle.rules_by_group.specs.Kept.{shaped, ownItems, ownParts, allTombstones, KeptBy, Kept}
+use Rattle.rules_by_group.specs.Kept.{shaped, entryBy, eachEntry, isOwn, ownItems, ownParts, allTombstones, KeptBy, Kept}
 use Rattle.rules_by_group.specs.ResultLaws.{ok-inj, refused-not-ok, andThen-ok, inOrder-kept}
-use Rattle.rules_by_group.specs.KindLaws.{kept-at, kept-by, rewrite-cleaned}
+use Rattle.rules_by_group.specs.KindLaws.{kept-at, kept-by, rewrite-cleaned, own-made}
 use Rattle.rules_by_group.specs.ItemLaws.{cleanedBy, keptBy, after, limited-ok, step-taken}
-use Rattle.rules_by_group.specs.PartLaws.{OwnAccepted, accept-own, ShapedAccepted, accept-shaped, PartsKept, waits-kept, kept-own, kept-shaped}
+use Rattle.rules_by_group.specs.PartLaws.{OwnAccepted, own-old, accept-own, ShapedAccepted, accept-shaped, PartsKept, waits-kept, kept-own, kept-shaped}
 use Rattle.rules_by_group.specs.WaitingLaws.{all-kept, kept-of}
+use Rattle.rules_by_group.specs.EntryLaws.{changed-meets, spanned-meets, own-each}
 
 -- ---- lists of tombstones and their Cleans
 
@@ -101,9 +102,14 @@ kind-kept : (k : Kind) (call : Call) (it : LogItem) (t : Option Table) (c : Cont
 unfolding KindKept
 kind-kept k call it t c f h = f it t c h
 
+-- the tables after a store
+store-own : (k : Kind) (g : ℕ) (t : Option Table) (m : Map ℕ Table) → every (λ (x : Pair ℕ Table). every (entryBy k) (x .val .entries)) m ≡ true → every (entryBy k) (made t .entries) ≡ true → every (λ (x : Pair ℕ Table). every (entryBy k) (x .val .entries)) (store numbers g t m) ≡ true
+store-own k g t m h o =
+    every-store numbers numbersLawful (λ (x : Pair ℕ Table). every (entryBy k) (x .val .entries)) g t m h (λ u e. unfold made orElse in (rw e at o))
+
 module _ (k : Kind) (call : Call) (keep : KindKept k call) where
-  after-keeps : (it : LogItem) (t : Option Table) (c : Context) → KeptAt k c → KeptAt k (after call it t c)
-  after-keeps it t c h =
+  after-keeps : (it : LogItem) (t : Option Table) (c : Context) → KeptAt k c → every (entryBy k) (made t .entries) ≡ true → KeptAt k (after call it t c)
+  after-keeps it t c h o =
       record {
         is-kind = unfold after in h .is-kind;
         kept = record {
@@ -111,23 +117,29 @@ module _ (k : Kind) (call : Call) (keep : KindKept k call) where
           waiting-ascends = unfold after in h .kept .waiting-ascends;
           own-items = unfold after in h .kept .own-items;
           shapes = unfold after in h .kept .shapes;
+          own-entries = unfold after in store-own (c .kind) (it .group) t (c .groups) (h .kept .own-entries) (rw (sym (h .is-kind)) at o);
           tombstones-only = unfold after in tombs-append (c .tombstones) (keptBy call it) (h .kept .tombstones-only) (tombs-kept call it);
           by-kind = kept-by (after call it t c) k (unfold after in h .is-kind) (kind-kept k call it t c keep (kept-at c k (h .kept) (h .is-kind)));
         };
       }
 
-  step-keeps : (x : Placed) (c d : Context) → KeptAt k c → step limited call x c ≡ ok d → KeptAt k d
-  step-keeps x c d h e =
+  -- an item of the call, judged by the limits
+  pub step-keeps : (x : Placed) (c d : Context) → eachEntry (entryBy k) (x .item .content) ≡ true → KeptAt k c → step limited call x c ≡ ok d → KeptAt k d
+  step-keeps x c d o h e =
       let s = step-taken call x c d (h .kept .groups-ascend) e in
-      rw (s .2) (after-keeps (x .item) (s .0) c h)
+      rw (s .2) (after-keeps (x .item) (s .0) c h (changed-meets (entryBy k) call (x .item .content) (lookup numbers (x .item .group) (c .groups)) (s .0) o (own-made c k (h .kept) (h .is-kind) (x .item .group)) (s .1)))
 
   -- items in order, each judged by the limits
-  pub run-keeps : (xs : List Placed) (c d : Context) → KeptAt k c → run limited call xs c ≡ ok d → KeptAt k d
+  pub run-keeps : (xs : List Placed) (c d : Context) → every (λ (x : Placed). eachEntry (entryBy k) (x .item .content)) xs ≡ true → KeptAt k c → run limited call xs c ≡ ok d → KeptAt k d
   unfolding run
-  run-keeps xs c d h e =
-      inOrder-kept (step limited call) (λ x. true) (KeptAt k) (λ x a b t p q. step-keeps x a b p q) xs c d (every-all (λ x. true) xs (λ x. refl)) h e
+  run-keeps xs c d o h e =
+      inOrder-kept (step limited call) (λ (x : Placed). eachEntry (entryBy k) (x .item .content)) (KeptAt k) step-keeps xs c d o h e
 
 -- ---- a marked batch
+
+-- an item with entries of the Rewrite queue
+abbrev placedRewrite : Placed → Bool
+placedRewrite x = eachEntry (entryBy (context Rewrite)) (x .item .content)
 
 module _ (g : ℕ) (c : Context) (h : KeptAt (context Rewrite) c) where
   abbrev waitingNow : List Part → Map ℕ (List Part)
@@ -141,14 +153,15 @@ module _ (g : ℕ) (c : Context) (h : KeptAt (context Rewrite) c) where
           groups-ascend = unfold setWaiting withWaiting in h .kept .groups-ascend;
           waiting-ascends = unfold setWaiting withWaiting in ascending-store numbers numbersLawful g (someParts ps) (c .waiting) (h .kept .waiting-ascends);
           own-items = unfold setWaiting withWaiting in every-store numbers numbersLawful (λ (x : Pair ℕ (List Part)). ownParts (x .key) (x .val)) g (someParts ps) (c .waiting) (h .kept .own-items) (λ qs e. kept-own g qs (rw e at k));
+          own-entries = unfold setWaiting withWaiting in h .kept .own-entries;
           shapes = unfold setWaiting withWaiting in every-store numbers numbersLawful (λ (x : Pair ℕ (List Part)). shaped (x .val)) g (someParts ps) (c .waiting) (h .kept .shapes) (λ qs e. kept-shaped g qs (rw e at k));
           tombstones-only = unfold setWaiting withWaiting in h .kept .tombstones-only;
           by-kind = kept-by (setWaiting g ps c) (context Rewrite) (unfold setWaiting withWaiting in h .is-kind) (unfold setWaiting withWaiting KeptBy in rewrite-cleaned c (h .kept) (h .is-kind));
         };
       }
 
-  groups-keep : (m : Map ℕ Table) → Ascending numbers m → KeptAt (context Rewrite) (withGroups m c)
-  groups-keep m asc =
+  groups-keep : (m : Map ℕ Table) → Ascending numbers m → every (λ (x : Pair ℕ Table). every (entryBy (c .kind)) (x .val .entries)) m ≡ true → KeptAt (context Rewrite) (withGroups m c)
+  groups-keep m asc o =
       record {
         is-kind = unfold withGroups in h .is-kind;
         kept = record {
@@ -156,6 +169,7 @@ module _ (g : ℕ) (c : Context) (h : KeptAt (context Rewrite) c) where
           waiting-ascends = unfold withGroups in h .kept .waiting-ascends;
           own-items = unfold withGroups in h .kept .own-items;
           shapes = unfold withGroups in h .kept .shapes;
+          own-entries = unfold withGroups in o;
           tombstones-only = unfold withGroups in h .kept .tombstones-only;
           by-kind = kept-by (withGroups m c) (context Rewrite) (unfold withGroups in h .is-kind) (unfold withGroups KeptBy in rewrite-cleaned c (h .kept) (h .is-kind));
         };
@@ -165,30 +179,40 @@ module _ (g : ℕ) (c : Context) (h : KeptAt (context Rewrite) c) where
   unfolding setSpan
   span-keeps p s d e =
       let r = andThen-ok (spanned s (made (lookup numbers g (c .groups)))) (λ t. limited p (withGroups (insert numbers g t (c .groups)) c)) d e in
-      rw (← (limited-ok p (withGroups (insert numbers g (r .0) (c .groups)) c) d (r .2) .0)) (groups-keep (insert numbers g (r .0) (c .groups)) (ascending-insert numbers numbersLawful g (r .0) (c .groups) (h .kept .groups-ascend)))
+      let o = spanned-meets (entryBy (c .kind)) s (made (lookup numbers g (c .groups))) (r .0) (own-made c (c .kind) (h .kept) refl g) (r .1) in
+      rw (← (limited-ok p (withGroups (insert numbers g (r .0) (c .groups)) c) d (r .2) .0))
+      (groups-keep (insert numbers g (r .0) (c .groups)) (ascending-insert numbers numbersLawful g (r .0) (c .groups) (h .kept .groups-ascend))
+      (every-insert numbers numbersLawful (λ (x : Pair ℕ Table). every (entryBy (c .kind)) (x .val .entries)) g (r .0) (c .groups) (h .kept .own-entries) o))
 
-finish-keeps : (p : Option ℕ) (g : ℕ) (s : Span) (xs : List Placed) (c d : Context) → KeptAt (context Rewrite) c → finishGroup limited p g s xs c ≡ ok d → KeptAt (context Rewrite) d
+finish-keeps : (p : Option ℕ) (g : ℕ) (s : Span) (xs : List Placed) (c d : Context) → every placedRewrite xs ≡ true → KeptAt (context Rewrite) c → finishGroup limited p g s xs c ≡ ok d → KeptAt (context Rewrite) d
 unfolding finishGroup
-finish-keeps p g s [] c d h e = rw (← (ok-inj e)) h
-finish-keeps p g s (x ∷ xs) c d h e =
+finish-keeps p g s [] c d o h e = rw (← (ok-inj e)) h
+finish-keeps p g s (x ∷ xs) c d o h e =
     let r = andThen-ok (run limited replayRewrite (x ∷ xs) c) (setSpan limited p g s) d e in
-    span-keeps g (r .0) (run-keeps (context Rewrite) replayRewrite rewrite-keeps (x ∷ xs) c (r .0) h (r .1)) p s d (r .2)
+    span-keeps g (r .0) (run-keeps (context Rewrite) replayRewrite rewrite-keeps (x ∷ xs) c (r .0) o h (r .1)) p s d (r .2)
 
-become-keeps : (p : Option ℕ) (g : ℕ) (new : Part) (xs : List Placed) (c d : Context) (a : Accepted) → OwnAccepted g a → ShapedAccepted a → KeptAt (context Rewrite) c → become limited p g new xs c a ≡ ok d → KeptAt (context Rewrite) d
+-- the items of both parts
+both-placed : (p : Option ℕ) (g : ℕ) (items : List LogItem) (xs : List Placed) → ownItems g items ≡ true → every placedRewrite xs ≡ true → every placedRewrite (placedAt p items ++ xs) ≡ true
+unfolding placedAt
+both-placed p g items xs h o =
+    every-append placedRewrite (placedAt p items) xs
+    ∙ both (every-map placedRewrite (λ (x : LogItem). record { item = x; place = p }) items ∙ own-each g items h) o
+
+become-keeps : (p : Option ℕ) (g : ℕ) (new : Part) (xs : List Placed) (c d : Context) (a : Accepted) → every placedRewrite xs ≡ true → OwnAccepted g a → ShapedAccepted a → KeptAt (context Rewrite) c → become limited p g new xs c a ≡ ok d → KeptAt (context Rewrite) d
 unfolding become
-become-keeps p g new xs c d (wait ps) o s h e =
+become-keeps p g new xs c d (wait ps) w o s h e =
     rw (← (limited-ok p (setWaiting g ps c) d e .0)) (waiting-keeps g c h ps (waits-kept g (wait ps) (someParts ps) o s (unfold waits in refl)))
-become-keeps p g new xs c d (finish old ps) o s h e =
-    finish-keeps p g (record { start = old .start; end = new .end }) (placedAt p (old .items) ++ xs) (setWaiting g ps c) d (waiting-keeps g c h ps (waits-kept g (finish old ps) (someParts ps) o s (unfold waits in refl))) e
-become-keeps p g new xs c d back o s h e = absurd (refused-not-ok e)
+become-keeps p g new xs c d (finish old ps) w o s h e =
+    finish-keeps p g (record { start = old .start; end = new .end }) (placedAt p (old .items) ++ xs) (setWaiting g ps c) d (both-placed p g (old .items) xs (own-old g old ps o) w) (waiting-keeps g c h ps (waits-kept g (finish old ps) (someParts ps) o s (unfold waits in refl))) e
+become-keeps p g new xs c d back w o s h e = absurd (refused-not-ok e)
 
-accept-keeps : (p : Option ℕ) (g : ℕ) (new : Part) (xs : List Placed) (c d : Context) → ownItems g (new .items) ≡ true → KeptAt (context Rewrite) c → acceptNewGroup limited p g new xs c ≡ ok d → KeptAt (context Rewrite) d
+accept-keeps : (p : Option ℕ) (g : ℕ) (new : Part) (xs : List Placed) (c d : Context) → ownItems g (new .items) ≡ true → every placedRewrite xs ≡ true → KeptAt (context Rewrite) c → acceptNewGroup limited p g new xs c ≡ ok d → KeptAt (context Rewrite) d
 unfolding acceptNewGroup partsOf
-accept-keeps p g new xs c d hn h e =
+accept-keeps p g new xs c d hn w h e =
     let k = kept-of (c .waiting) g (all-kept (c .waiting) (h .kept .own-items) (h .kept .shapes)) in
-    become-keeps p g new xs c d (accept (partsOf (lookup numbers g (c .waiting))) new) (accept-own g (partsOf (lookup numbers g (c .waiting))) new (k .own) hn) (accept-shaped (partsOf (lookup numbers g (c .waiting))) new (k .shape)) h e
+    become-keeps p g new xs c d (accept (partsOf (lookup numbers g (c .waiting))) new) w (accept-own g (partsOf (lookup numbers g (c .waiting))) new (k .own) hn) (accept-shaped (partsOf (lookup numbers g (c .waiting))) new (k .shape)) h e
 
--- ---- the items of a marked batch are of the mark's group
+-- ---- the items of a batch that passed the checks
 
 found-none : {A : Type 0} (p : ℕ → A → Bool) (q : A → Bool) → ((i : ℕ) (x : A) → p i x ≡ false → q x ≡ true) → (i : ℕ) (xs : List A) → findFrom p i xs ≡ none → every q xs ≡ true
 unfolding findFrom every
@@ -209,23 +233,58 @@ unfolding orNext
 next-none n none next e = (refl, e)
 next-none n (some i) next e = absurd (Option·some-ne-none _ e)
 
--- a batch that passed the checks meets no 7
-seven-none : (items : List LogItem) → checks replayRewrite items ≡ none → findFrom (meets7 replayRewrite (firstMark 0 items)) 0 items ≡ none
+-- what the checks found none of
+pub record Passed (call : Call) (items : List LogItem) : Type 0 where
+  pub no-3 : findFrom (λ i it. meets3 call (it .content)) 0 items ≡ none
+  pub no-5 : findFrom (unlessReserved (isOtherQueue call)) 0 items ≡ none
+  pub no-7 : findFrom (meets7 call (firstMark 0 items)) 0 items ≡ none
+
+passed : (call : Call) (items : List LogItem) → checks call items ≡ none → Passed call items
 unfolding checks
-seven-none items e =
+passed call items e =
     let a = next-none _ _ _ e .1 in
-    let b = next-none _ _ _ a .1 in
-    let c = next-none _ _ _ b .1 in
-    let d = next-none _ _ _ c .1 in
-    let f = next-none _ _ _ d .1 in
-    next-none badMark (findFrom (meets7 replayRewrite (firstMark 0 items)) 0 items) none f .0
+    let b = next-none _ _ _ a in
+    let c = next-none _ _ _ (b .1) .1 in
+    let d = next-none _ _ _ c in
+    let f = next-none _ _ _ (d .1) .1 in
+    record { no-3 = b .0; no-5 = d .0; no-7 = next-none _ _ _ f .0 }
 
+-- entries that have a file, and none of another queue
+pub queue-files : (q : LogQueue) (es : List EntryIndex) → any (λ e. not (hasFile (e .entries))) es ≡ false → any (λ e. hasFile (e .entries) && not (sameQueue (fileOf e .queue) q)) es ≡ false → every (λ e. sameQueue (fileOf e .queue) q) es ≡ true
+unfolding any every
+queue-files q [] h k = refl
+queue-files q (e ∷ es) h k =
+    let has = not-false (hasFile (e .entries)) (neither-left (not (hasFile (e .entries))) (any (λ x. not (hasFile (x .entries))) es) h) in
+    let queue = neither-left (hasFile (e .entries) && not (sameQueue (fileOf e .queue) q)) (any (λ x. hasFile (x .entries) && not (sameQueue (fileOf x .queue) q)) es) k in
+    both (not-false (sameQueue (fileOf e .queue) q) (rw has at queue)) (queue-files q es (neither-right (not (hasFile (e .entries))) (any (λ x. not (hasFile (x .entries))) es) h) (neither-right (hasFile (e .entries) && not (sameQueue (fileOf e .queue) q)) (any (λ x. hasFile (x .entries) && not (sameQueue (fileOf x .queue) q)) es) k))
+
+queue-content : (call : Call) (x : Content) → meets3 call x ≡ false → (not (isReserved x) && isOtherQueue call x) ≡ false → eachEntry (entryBy (context (writes call))) x ≡ true
+unfolding eachEntry
+queue-content call (entries es) h k =
+    unfold entryBy meets3 isReserved isIncomplete isOtherQueue in
+    queue-files (writes call) es (neither-left (any (λ e. not (hasFile (e .entries))) es) (not (consecutive es)) h) k
+queue-content call (command c) h k = refl
+queue-content call (kv y c) h k = refl
+
+-- the entries of a batch that passed the checks are of the queue that the call writes
+pub batch-queue : (call : Call) (items : List LogItem) → checks call items ≡ none → every (λ (it : LogItem). eachEntry (entryBy (context (writes call))) (it .content)) items ≡ true
+batch-queue call items e =
+    let p = passed call items e in
+    let three = found-none (λ i it. meets3 call (it .content)) (λ (it : LogItem). not (meets3 call (it .content))) (λ i it h. rw h) 0 items (p .no-3) in
+    let five = found-none (unlessReserved (isOtherQueue call)) (λ (it : LogItem). not (unlessReserved (isOtherQueue call) 0 it)) (λ i it h. unfold unlessReserved in rw h) 0 items (p .no-5) in
+    every-from (λ (it : LogItem). not (meets3 call (it .content)) && not (unlessReserved (isOtherQueue call) 0 it)) (λ (it : LogItem). eachEntry (entryBy (context (writes call))) (it .content)) items
+    (λ it h. queue-content call (it .content) (not-true (meets3 call (it .content)) (both-left (not (meets3 call (it .content))) (not (unlessReserved (isOtherQueue call) 0 it)) h)) (unfold unlessReserved in not-true (not (isReserved (it .content)) && isOtherQueue call (it .content)) (both-right (not (meets3 call (it .content))) (not (unlessReserved (isOtherQueue call) 0 it)) h)))
+    (every-and (λ (it : LogItem). not (meets3 call (it .content))) (λ (it : LogItem). not (unlessReserved (isOtherQueue call) 0 it)) items three five)
+
+-- in a marked batch they are of the mark's group
 batch-own : (items : List LogItem) (m : Mark) → checks replayRewrite items ≡ none → firstMark 0 items ≡ some m → ownItems (m .group) items ≡ true
-unfolding ownItems
+unfolding ownItems isOwn
 batch-own items m e f =
-    found-none (meets7 replayRewrite (some m)) (λ (it : LogItem). eqb (it .group) (m .group)) (mark-own m) 0 items (ap (λ o. findFrom (meets7 replayRewrite o) 0 items) (sym f) ∙ seven-none items e)
+    every-and (λ (it : LogItem). eqb (it .group) (m .group)) (λ (it : LogItem). eachEntry (entryBy (context Rewrite)) (it .content)) items
+    (found-none (meets7 replayRewrite (some m)) (λ (it : LogItem). eqb (it .group) (m .group)) (mark-own m) 0 items (ap (λ o. findFrom (meets7 replayRewrite o) 0 items) (sym f) ∙ passed replayRewrite items e .no-7))
+    (unfold writes in batch-queue replayRewrite items e)
 
-every-placed : (p : LogItem → Bool) (i : ℕ) (xs : List LogItem) → every p xs ≡ true → every (λ (x : Placed). p (x .item)) (placedFrom i xs) ≡ true
+pub every-placed : (p : LogItem → Bool) (i : ℕ) (xs : List LogItem) → every p xs ≡ true → every (λ (x : Placed). p (x .item)) (placedFrom i xs) ≡ true
 unfolding placedFrom
 every-placed p i [] h = unfold every in refl
 every-placed p i (x ∷ xs) h =
@@ -234,11 +293,12 @@ every-placed p i (x ∷ xs) h =
 part-own : (g byte seq : ℕ) (p : Placed → Bool) (items : List LogItem) → ownItems g items ≡ true → ownItems g (partOf byte seq (select p (placedFrom 0 items)) .items) ≡ true
 unfolding ownItems partOf
 part-own g byte seq p items h =
-    every-map (λ (it : LogItem). eqb (it .group) g) (λ (x : Placed). x .item) (select p (placedFrom 0 items))
-    ∙ every-selected (λ (x : Placed). eqb (x .item .group) g) p (placedFrom 0 items) (every-placed (λ (it : LogItem). eqb (it .group) g) 0 items h)
+    every-map (isOwn g) (λ (x : Placed). x .item) (select p (placedFrom 0 items))
+    ∙ every-selected (λ (x : Placed). isOwn g (x .item)) p (placedFrom 0 items) (every-placed (isOwn g) 0 items h)
 
 -- a marked batch that passed the checks
 pub marked-keeps : (items : List LogItem) (m : Mark) (seq : ℕ) (c d : Context) → checks replayRewrite items ≡ none → firstMark 0 items ≡ some m → KeptAt (context Rewrite) c → replayMarked m seq (placedFrom 0 items) c ≡ ok d → KeptAt (context Rewrite) d
 unfolding replayMarked
 marked-keeps items m seq c d e f h k =
-    accept-keeps (some (m .at)) (m .group) (partOf (m .byte) seq (select (λ x. not (isMark (x .item))) (placedFrom 0 items))) (select (λ x. not (isMark (x .item))) (placedFrom 0 items)) c d (part-own (m .group) (m .byte) seq (λ x. not (isMark (x .item))) items (batch-own items m e f)) h k
+    accept-keeps (some (m .at)) (m .group) (partOf (m .byte) seq (select (λ x. not (isMark (x .item))) (placedFrom 0 items))) (select (λ x. not (isMark (x .item))) (placedFrom 0 items)) c d (part-own (m .group) (m .byte) seq (λ x. not (isMark (x .item))) items (batch-own items m e f))
+    (every-selected placedRewrite (λ x. not (isMark (x .item))) (placedFrom 0 items) (every-placed (λ (it : LogItem). eachEntry (entryBy (context Rewrite)) (it .content)) 0 items (unfold writes in batch-queue replayRewrite items e))) h k

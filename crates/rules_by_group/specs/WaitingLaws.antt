@@ -14,13 +14,13 @@ use Rattle.maps.specs.BoolLaws.{both-left}
 use Rattle.maps.specs.OrderLaws.{split, numbersLawful, above-differs}
 use Rattle.maps.specs.MapLaws.{AllBelow, Ascending, ascending-head, ascending-tail, ascending-store, lookup-store, lookup-store-same, lookup-store-other, store-again, store-store, every-lookup}
 use Rattle.rules.specs.Causes.{Refusal, Result, ok, refused, andThen, inOrder, left, filesGoBack}
-use Rattle.rules.specs.Items.{sameQueue, put, del, Content, entries, command, kv, LogItem, placedAt, isReserved, isTombstone, replayRewrite, writes}
+use Rattle.rules.specs.Items.{Rewrite, sameQueue, put, del, Content, entries, command, kv, LogItem, placedAt, isReserved, isTombstone, replayRewrite, writes}
 use Rattle.rules.specs.Table.{Span, Table, made, spanned, entriesTo, putTo, changeTo, change}
-use Rattle.rules.specs.Context.{Part, Context, withGroups, withWaiting, unjudged, keeps, step, run}
+use Rattle.rules.specs.Context.{context, Part, Context, withGroups, withWaiting, unjudged, keeps, step, run}
 use Rattle.rules.specs.Waiting.{Accepted, wait, finish, back, accept, someParts, setWaiting, setSpan, finishGroup, become, acceptNewGroup, acceptParts, acceptAll}
 use Rattle.rules_by_group.specs.Group.{changed, tombOf, partsOf, waits, acceptPart, Finished, finishedBy, finishedOf, replayedItems, finishWith, finishTable}
 use Rattle.rules_by_group.specs.Stage.{acceptPartsOf, waitingAfter, tombsIn, finishedTombs}
-use Rattle.rules_by_group.specs.Kept.{isBegin, isEnd, behind, shaped, ownItems, ownParts}
+use Rattle.rules_by_group.specs.Kept.{isBegin, isEnd, behind, shaped, entryBy, eachEntry, isOwn, ownItems, ownParts}
 use Rattle.rules_by_group.specs.ResultLaws.{byResult, one-refusal, refusalOf, ok-inj, refused-not-ok, inOrder-kept, inOrder-refused, andThen-ok, andThen-of, andThen-refused, andThen-same, andThen-unit, andThen-assoc, andThen-map}
 use Rattle.rules_by_group.specs.DeedLaws.{doDeed, doAll, deedsOf, deed-ok, deed-refused, own, own-map, ByGroup, byGroup-ext, deeds-by-group}
 use Rattle.rules_by_group.specs.ItemLaws.{cleanedBy, keptBy, after, step-of}
@@ -96,13 +96,17 @@ module _ (x : LogItem) (xs : List LogItem) (c : Context) (asc : Ascending number
   unfolding after
   items-more = λ i. record { kind = c .kind; groups = same-groups i; tombstones = same-tombs i; cleaned = same-cleaned i; waiting = c .waiting }
 
+own-group : (g : ℕ) (x : LogItem) → isOwn g x ≡ true → eqb (x .group) g ≡ true
+unfolding isOwn
+own-group g x h = both-left (eqb (x .group) g) (eachEntry (entryBy (context Rewrite)) (x .content)) h
+
 own-first : (g : ℕ) (x : LogItem) (xs : List LogItem) → ownItems g (x ∷ xs) ≡ true → x .group ≡ g
 unfolding ownItems
-own-first g x xs h = eqb-true (x .group) g (every-head (λ (it : LogItem). eqb (it .group) g) x xs h)
+own-first g x xs h = eqb-true (x .group) g (own-group g x (every-head (isOwn g) x xs h))
 
 own-later : (g : ℕ) (x : LogItem) (xs : List LogItem) → ownItems g (x ∷ xs) ≡ true → ownItems g xs ≡ true
 unfolding ownItems
-own-later g x xs h = every-tail (λ (it : LogItem). eqb (it .group) g) x xs h
+own-later g x xs h = every-tail (isOwn g) x xs h
 
 run-own : (g : ℕ) (xs : List LogItem) (c : Context) → Ascending numbers (c .groups) → ownItems g xs ≡ true → run unjudged replayRewrite (placedAt none xs) c ≡ ok (itemsDone g xs c)
 run-own g [] c asc h = unfold run inOrder placedAt replayedItems select in (λ i. ok (record { kind = c .kind; groups = sym (store-again numbers numbersLawful g (lookup numbers g (c .groups)) (c .groups) refl asc) i; tombstones = sym (append-nil (c .tombstones)) i; cleaned = c .cleaned; waiting = c .waiting }))

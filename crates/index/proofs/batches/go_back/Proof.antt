@@ -37,7 +37,7 @@ returns c =
     let start = c .before .before .before .before .before .before .before .before .before .before .before .before .before in
     let undo = c .before .before .before .before .before .before .before .before .undo in
     let cut = c .before .before .cut in
-    went-back _ _ (start .args .xs .now) (start .args .bs .now) (undo .last .0) (undo .last .1 .0) (cut .last .0) (start .pre .1 .1) (undo .ensures) (cut .ensures)
+    went-back _ _ (start .args .xs .now) (start .args .bs .now) (undo .last .0) (undo .last .1 .0) (cut .last .0) (start .pre .0) (start .pre .1 .1) (undo .ensures) (cut .ensures)
 
 pub go-back-spec : {M : Type 1} → statement M
 go-back-spec =

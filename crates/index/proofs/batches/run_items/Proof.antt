@@ -55,7 +55,7 @@ turn-requires c κs =
     let row-count = c .before .before .before .before .row-count in
     let loop = c .before .before .before .loop in
     let loop-test = c .before .before .loop-test in
-    (loop .inv .wf, (loop .inv .going (loop-test .taken) .undoable, (rw (row-count .ensures) at (loop-test .taken), start .pre .1)))
+    (loop .inv .formed, (loop .inv .going (loop-test .taken) .undoable, (rw (row-count .ensures) at (loop-test .taken), start .pre .1)))
 
 enum-known-answer : tie.Need-enum-known-answer Inv-loop μ-loop
 enum-known-answer c = search needs
@@ -66,19 +66,19 @@ go-back-requires c κs =
     let loop-test = c .before .before .before .before .before .before .before .before .before .before .before .before .loop-test in
     let turn = c .before .before .before .before .before .before .before .before .before .turn in
     let answer = c .before .before .before .answer in
-    let s = rw (answer .given .1) at (turn .ensures) in let g = under-back _ _ _ _ _ _ _ _ _ _ _ _ (loop .inv) (loop-test .taken) _ _ _ s in (s .wf, (g .undoable, g .lists-wf))
+    let s = rw (answer .given .1) at (turn .ensures) in let g = under-back _ _ _ _ _ _ _ _ _ _ _ _ (loop .inv) (loop-test .taken) _ _ _ s in (s .formed, (g .undoable, g .lists-wf))
 
 same-length : tie.Need-same-length Inv-loop μ-loop
 same-length c =
     let start = c .before .before .before .before .before .before .before .before .before .before .before .before .before .before .before .before .before .before .before .before .before .before .before .before .before .before .before .before .before .before .before .before in
     let go-back = c .before .before .before .before .go-back in
-    same-lengths (area-length _ _ (go-back .ensures .wf)) (area-length _ _ (start .pre .0))
+    same-lengths (area-length _ _ (go-back .ensures .formed)) (area-length _ _ (start .pre .0))
 
 same-length-2 : tie.Need-same-length-2 Inv-loop μ-loop
 same-length-2 c =
     let start = c .before .before .before .before .before .before .before .before .before .before .before .before .before .before .before .before .before .before .before .before .before .before .before .before .before .before .before .before .before .before .before .before in
     let go-back = c .before .before .before .before .go-back in
-    same-lengths (area-bytes _ _ (go-back .ensures .wf)) (area-bytes _ _ (start .pre .0))
+    same-lengths (area-bytes _ _ (go-back .ensures .formed)) (area-bytes _ _ (start .pre .0))
 
 returns : tie.Need-returns Inv-loop μ-loop
 returns c =
@@ -113,13 +113,13 @@ same-length-3 : tie.Need-same-length-3 Inv-loop μ-loop
 same-length-3 c =
     let start = c .before .before .before .before .before .before .before .before .before .before .before .before .before .before .before in
     let loop = c .before .loop in
-    same-lengths (area-length _ _ (loop .inv .wf)) (area-length _ _ (start .pre .0))
+    same-lengths (area-length _ _ (loop .inv .formed)) (area-length _ _ (start .pre .0))
 
 same-length-4 : tie.Need-same-length-4 Inv-loop μ-loop
 same-length-4 c =
     let start = c .before .before .before .before .before .before .before .before .before .before .before .before .before .before .before in
     let loop = c .before .loop in
-    same-lengths (area-bytes _ _ (loop .inv .wf)) (area-bytes _ _ (start .pre .0))
+    same-lengths (area-bytes _ _ (loop .inv .formed)) (area-bytes _ _ (start .pre .0))
 
 returns-2 : tie.Need-returns-2 Inv-loop μ-loop
 returns-2 c =

@@ -6,6 +6,7 @@ use borrow.Rule.Slice.PartAt.{part-to-end}
 use Rattle.rules.specs.Items.{Append}
 use Rattle.rules.specs.Checks.{isRewriteReplay}
 use Rattle.log_batch.specs.Judged.{callOf}
+use Rattle.contexts.specs.AreaLaws.{formed-of}
 use Rattle.index.proofs.CallLaws.{zero-below, replay-wrong, replay-right}
 use borrow.Author.Needs.{needs}
 use Rattle.index.proofs.calls.replay_append.Statement.{statement}
@@ -50,7 +51,7 @@ write-requires : tie.Need-write-requires
 unfolding isRewriteReplay callOf
 write-requires c κs =
     let start = c .before .before .before .before .before .before .before .before .before .before .before .before in
-    (start .pre, refl)
+    (formed-of _ _ (start .pre), refl)
 
 same-length-2 : tie.Need-same-length-2
 same-length-2 c = search needs
@@ -66,7 +67,7 @@ returns-2 c =
     let is-append-context = c .before .before .before .before .before .before .before .before .is-append-context in
     let if1 = c .before .before .before .before .before .before .before .if1 in
     let write = c .before .before .before .before .write in
-    λ seq. replay-right (start .args .xs .now) (start .args .bs .now) _ (kind-in .ensures) (record { queue = Append; seq = seq }) _ _ _ seq _ _ _ (sym (is-append-context .ensures) ∙ not-false (is-append-context .result) (if1 .left)) (write .ensures (record { queue = Append; seq = seq }))
+    λ seq. replay-right (start .args .xs .now) (start .args .bs .now) _ (kind-in .ensures) (record { queue = Append; seq = seq }) _ _ _ seq _ _ _ (start .pre) (sym (is-append-context .ensures) ∙ not-false (is-append-context .result) (if1 .left)) (write .ensures (record { queue = Append; seq = seq }))
 
 pub replay-append-spec : {M : Type 1} → statement M
 replay-append-spec =
