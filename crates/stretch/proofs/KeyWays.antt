@@ -30,7 +30,7 @@ use Rattle.memtable.specs.Views.{tableOf}
 use Rattle.stretch.specs.declared.Outcome.the-variants.{Done, Refused}
 use Rattle.stretch.specs.Stretch.{headIn, keyCount, isCounted, entryRowsAt, keyRowsAt, tableAt, WfAt}
 use Rattle.stretch.specs.StretchLaws.{Holds, own, length-keys, with-keys, with-count, table-of, wf-of, front-put}
-use Rattle.stretch.specs.Changes.{roomAt, limitedAt, keysOver, ChangedAt}
+use Rattle.stretch.specs.Changes.{roomAt, limitedAt, keysLaid, ChangedAt}
 use Rattle.stretch.proofs.Outcomes.{Kept, never, done-by, is-refused, refused-by}
 
 -- rows that came back as they were
@@ -143,12 +143,12 @@ deleting w p b rows′ b′ o l n k m t = keys-done w p b rows′ b′ o l (remo
 
 module _ (w : ℕ) (p b rows′ b′ : List ℕ) (o : WfAt w p b) (l : length rows′ ≡ length (keyRowsAt w p)) (newer : Map (List ℕ) Held) where
   pub merge-done : (m : ℕ) → length b′ ≡ length b → MergeKeys (keyCount p) (keyRowsAt w p) b newer (kvs.Done m) rows′ b′
-      → ChangedAt w (keysOver newer) p b Done (set (putMid w (length p - w) p rows′) 8 m) b′
-  unfolding calls.Stands keysOver
+      → ChangedAt w (keysLaid newer) p b Done (set (putMid w (length p - w) p rows′) 8 m) b′
+  unfolding calls.Stands keysLaid
   merge-done m n t = keys-done w p b rows′ b′ o l (λ x. overKeys x newer) m n (t .stands)
 
-  pub merge-full : MergeKeys (keyCount p) (keyRowsAt w p) b newer kvs.Full rows′ b′ → ChangedAt w (keysOver newer) p b (Refused 18) (putMid w (length p - w) p rows′) b′
-  unfolding mergedParts keysOver
+  pub merge-full : MergeKeys (keyCount p) (keyRowsAt w p) b newer kvs.Full rows′ b′ → ChangedAt w (keysLaid newer) p b (Refused 18) (putMid w (length p - w) p rows′) b′
+  unfolding mergedParts keysLaid
   merge-full t = keys-full w p b rows′ b′ o l (λ x. overKeys x newer) (t .answer) (t .rows-are) (t .bytes-are)
 
 -- ---- `rewrite_key`

@@ -76,7 +76,3 @@ module _ (w : ℕ) (by : Table → Result Table) (p b : List ℕ) (o : WfAt w p 
     refused-fitting e =
         is-refused
         (e ∙ sym (limited-fitting w p b (by (tableAt w p b)) (λ u d. (let s : refused (record { number = n; place = none }) ≡ ok u = e ∙ d in absurd (never s)))))
-
--- a group that is there already is made by doing nothing
-pub made : (w : ℕ) (p b : List ℕ) → WfAt w p b → ChangedAt w (λ t. ok t) p b Done p b
-made w p b o = done-by w (λ t. ok t) p b o p b (record { numbers = refl; bytes = refl }) o refl refl

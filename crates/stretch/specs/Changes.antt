@@ -50,8 +50,8 @@ Ready (change.RewriteKey gate seq) rows key value t = Unit {0}
 Ready change.Make rows key value t = Unit {0}
 
 -- a newer table's keys laid over
-unfoldable pub keysOver : Map (List ℕ) Held → Table → Result Table
-keysOver newer t = ok (withKeys (overKeys (t .keys) newer) t)
+unfoldable pub keysLaid : Map (List ℕ) Held → Table → Result Table
+keysLaid newer t = ok (withKeys (overKeys (t .keys) newer) t)
 
 -- a table that passes a limit is refused by 18
 unfoldable pub limitedTable : Result Table → Result Table

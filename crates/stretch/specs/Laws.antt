@@ -37,6 +37,7 @@ use Rattle.memtable.specs.WindowLaws.{length-window}
 use Rattle.stretch.specs.declared.Change.{Change}
 use Rattle.stretch.specs.declared.Change.the-variants as change
 use Rattle.stretch.specs.declared.Outcome.{Outcome}
+use Rattle.stretch.specs.declared.Outcome.the-variants.{Done}
 use Rattle.stretch.specs.Stretch.{isUsed, groupIn, spanIn, headIn, keyCount, isCounted, madeHeader, entryRowsAt, keyRowsAt, tableAt, WfAt, entryRows, keyRows, tableIn, cellOf, Wf}
 use Rattle.stretch.specs.StretchLaws.{Holds, own, length-entries, table-of, wf-of, head-same}
 use Rattle.stretch.specs.StretchLaws as any
@@ -151,6 +152,16 @@ unfolding limitedAt andThen
 limited-same w p b (ok u) f = rw (f u refl)
 limited-same w p b (refused r) f = refl
 
+-- a group that is there already is made by doing nothing
+pub unchanged : (w : ℕ) (p b : List ℕ) → WfAt w p b → ChangedAt w (λ t. ok t) p b Done p b
+unchanged w p b o =
+    record {
+      rule = sym (limited-same w p b (ok (tableAt w p b)) (λ u e. (let s : tableAt w p b ≡ u = cc in rw (← s) (room-own w p b o))));
+      front = refl;
+      left = λ n d. (refl, refl);
+      wf = o;
+    }
+
 -- room depends on the lengths alone
 pub room-same : (w : ℕ) (p b p′ b′ : List ℕ) → 10 ≤ w → w ≤ length p → length p′ ≡ length p → length b′ ≡ length b → (t : Table) → roomAt w p′ b′ t ≡ roomAt w p b t
 unfolding roomAt fits
@@ -203,7 +214,7 @@ module _ (g : ℕ) (p : List ℕ) (l : 10 ≤ length p) where
   unfolding groupIn madeHeader
   made-group = made-at 1 (omega arith)
 
-  made-length : length (put p 0 (madeHeader g)) ≡ length p
+  pub made-length : length (put p 0 (madeHeader g)) ≡ length p
   unfolding madeHeader
   made-length = length-put p 0 (madeHeader g) (omega arith)
 

@@ -143,6 +143,23 @@ module _ (w : ℕ) (q : List ℕ) (h : Head) (xs : List ℕ) (n : ℕ) (rows : L
         counted = rw (getD-put-after q 8 s 9 0 (omega arith) (omega arith)) (o .counted);
       }
 
+  pub with-counted : (m : ℕ) → Holds w (put q 9 (m ∷ [])) h xs n rows (eqb m 1)
+  unfolding entryRowsAt keyCount isCounted
+  with-counted m =
+      let s : List ℕ = m ∷ [] in
+      let a = o .from in
+      let b = o .to in
+      let k : length (put q 9 s) ≡ length q = length-put q 9 s (omega arith) in
+      record {
+        from = a;
+        to = omega arith;
+        head = head-same q (put q 9 s) (λ i d. getD-put-before q 9 s i 0 (omega arith) (omega arith)) ∙ o .head;
+        entries = part-put-after 10 (w - 10) q 9 s (omega arith) (omega arith) ∙ o .entries;
+        count = getD-put-before q 9 s 8 0 (omega arith) (omega arith) ∙ o .count;
+        keys = keys-after w q 9 s (omega arith) b ∙ o .keys;
+        counted = rw (getD-put-in q 9 s 0 0 (omega arith) (omega arith));
+      }
+
   pub with-keys : (r : List ℕ) → length r ≡ length rows → Holds w (put q w r) h xs n r c
   unfolding entryRowsAt keyRowsAt keyCount isCounted
   with-keys r l =

@@ -6,7 +6,7 @@ ghost use Rattle.rules.specs.Causes.{ok};
 ghost use Rattle.rules.specs.Table.{putKey, deleteKey, rewrittenKey};
 ghost use Rattle.kvs.specs.Calls.{heldBy};
 ghost use Rattle.stretch.specs.Stretch.{WfAt, tableIn, Wf};
-ghost use Rattle.stretch.specs.Changes.{ChangedAt, keysOver};
+ghost use Rattle.stretch.specs.Changes.{ChangedAt, keysLaid};
 use crate::KEY_GOES_BACK;
 use crate::KEYS_AT;
 use crate::LIMIT_PASSED;
@@ -85,7 +85,7 @@ pub fn lay_keys(
 ) -> Outcome
     requires { ⌜ WfAt «keys_at» (now p) (now b) ⌝ }
     requires { ⌜ Wf (now newer) (now newbytes) ⌝ }
-    ensures { λ r. ⌜ ChangedAt «keys_at» (keysOver (tableIn (now (newer .entry)) (now (newbytes .entry)) .keys)) (now (p .entry)) (now (b .entry)) r (now (p .exit)) (now (b .exit)) ⌝ }
+    ensures { λ r. ⌜ ChangedAt «keys_at» (keysLaid (tableIn (now (newer .entry)) (now (newbytes .entry)) .keys)) (now (p .entry)) (now (b .entry)) r (now (p .exit)) (now (b .exit)) ⌝ }
 {
     let n = p[KEY_COUNT] as usize;
     let m = newer[KEY_COUNT] as usize;

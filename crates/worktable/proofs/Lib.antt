@@ -1,0 +1,2 @@
+-- The ways through the functions of the work table.
+pub mod LayWays

@@ -1,0 +1,21 @@
+// The table of one group that a merge or a join works on, in a long stretch: the group's own functions on it, and a newer table laid over.
+mod acts;
+mod laying;
+
+pub use acts::act;
+pub use acts::clear;
+pub use laying::lay_over;
+
+// The layout of the long stretch.
+pub const KEYS_AT: usize = 3082;
+
+pub const NUMBERS: usize = 3722;
+
+pub const BYTES: usize = 10240;
+
+// How a newer table is laid over: by the merge of two Append or of two Rewrite contexts, or by the join.
+pub enum Mode {
+    Append,
+    Rewrite,
+    Join,
+}
