@@ -1,2 +1,3 @@
 -- The ways through the functions of the work table.
 pub mod LayWays
+pub mod MoveWays

@@ -3,3 +3,4 @@ pub mod Work
 pub mod Calls
 pub mod WorkLaws
 pub mod LayLaws
+pub mod Moves

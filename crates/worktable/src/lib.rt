@@ -1,10 +1,13 @@
 // The table of one group that a merge or a join works on, in a long stretch: the group's own functions on it, and a newer table laid over.
 mod acts;
 mod laying;
+mod moves;
 
 pub use acts::act;
 pub use acts::clear;
 pub use laying::lay_over;
+pub use moves::load;
+pub use moves::unload;
 
 // The layout of the long stretch.
 pub const KEYS_AT: usize = 3082;
@@ -12,6 +15,11 @@ pub const KEYS_AT: usize = 3082;
 pub const NUMBERS: usize = 3722;
 
 pub const BYTES: usize = 10240;
+
+// Where it stands in an area.
+pub const WORK_AT: usize = 15255;
+
+pub const WORK_BYTES_AT: usize = 32768;
 
 // How a newer table is laid over: by the merge of two Append or of two Rewrite contexts, or by the join.
 pub enum Mode {
