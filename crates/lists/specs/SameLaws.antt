@@ -7,14 +7,7 @@ use native.Mathlib.Omega.{arith}
 use lib.ListN.{length, getD}
 use Rattle.cells.specs.Part.{part}
 use Rattle.cells.specs.PartLaws.{getD-part, part-part}
-use Rattle.lists.specs.Rest.{restNumbers, restBytes, kindOf, tombstoneStore, tombstoneArea, tombstonesIn, cleanedIn, restOf, Wf}
-
--- the numbers and the bytes that the lists take
-abbrev pub listNumbers : ℕ
-listNumbers = 643
-
-abbrev pub listBytes : ℕ
-listBytes = 4096
+use Rattle.lists.specs.Rest.{listNumbers, listBytes, tombstoneStore, tombstoneArea, tombstonesIn, cleanedIn, restOf, Wf}
 
 module _ (ys cs ys′ cs′ : List ℕ) (p : part 0 listNumbers ys′ ≡ part 0 listNumbers ys) (q : part 0 listBytes cs′ ≡ part 0 listBytes cs) where
   number-same : (i : ℕ) → i < listNumbers → getD ys′ i 0 ≡ getD ys i 0

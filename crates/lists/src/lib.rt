@@ -32,9 +32,9 @@ const CLEANED_FROM: usize = 3;
 
 pub const ROWS_FROM: usize = 67;
 
-const ROWS_TO: usize = 643;
+pub const ROWS_TO: usize = 643;
 
-const ROW_BYTES: usize = 4096;
+pub const ROW_BYTES: usize = 4096;
 
 // What an area stands for.
 pub enum Kind {

@@ -15,14 +15,14 @@ use Rattle.cells.specs.Part.{part}
 use Rattle.cells.specs.PartLaws.{getD-part}
 use Rattle.maps.specs.Lists.{any, every}
 use Rattle.maps.specs.ListLaws.{any-append, every-append}
-use Rattle.maps.specs.Maps.{Pair}
+use Rattle.maps.specs.Maps.{Pair, Map}
 use Rattle.maps.specs.MapLaws.{pair}
 use Rattle.maps.specs.OrderLaws.{split}
 use Rattle.maps.specs.BoolLaws.{both}
 use Rattle.maps.specs.CellLaws.{every-mapOf}
 use Rattle.rules.specs.Items as rules
 use Rattle.rules.specs.Table.{Table}
-use Rattle.rules.specs.Context.{Context, withGroups}
+use Rattle.rules.specs.Context.{Part, Context, withGroups, withWaiting}
 use Rattle.rules_by_group.specs.Stage.{isIn, Covers}
 use Rattle.log_batch.specs.declared.item.LogItemContent.{LogItemContent}
 use Rattle.log_batch.specs.declared.open.Opened.{Opened}
@@ -36,7 +36,7 @@ use Rattle.groups.specs.Laws.{used-cell, free-cell}
 use Rattle.lists.specs.Rest.{tombstoneStore, tombstoneArea, tombstonesIn, restOf}
 use Rattle.lists.specs.Rest as lists
 use Rattle.lists.specs.Laws.{tombstones-fit}
-use Rattle.contexts.specs.Contexts.{contextOf, Wf}
+use Rattle.contexts.specs.Contexts.{restAt, contextOf, Wf}
 use Rattle.merging.specs.Modes.{stretchNumber, tombstoneNumber, numberAt, firsts, placeCount}
 
 -- ---- a number of place i is among those of the first n places
@@ -146,13 +146,17 @@ module _ (xs bs ys cs : List ℕ) (w : lists.Wf (drop numbersInUse ys) (drop byt
   unfolding tombstonesIn storeItems tombstoneStore tombstoneArea
   tombstones-there = every-items (λ (it : rules.LogItem). isIn (it .group) (gs xs bs ys cs)) [] _ (part 67 576 rest) (getD rest 1 0) (λ j l. tombstone-there [] _ j l)
 
+none-in : (gs : List ℕ) (w : Map ℕ (List Part)) → w ≡ [] → every (λ p. isIn (p .key) gs) w ≡ true
+unfolding every
+none-in gs w e = rw e
+
 -- the numbers of the places cover
-pub places-cover : (xs bs ys cs : List ℕ) → Wf ys cs → Covers (firsts (numberAt xs ys) placeCount) (contextOf ys cs) (contextOf xs bs)
-unfolding contextOf withGroups restOf
-places-cover xs bs ys cs w =
+pub places-cover : (xs bs ys cs : List ℕ) → Wf ys cs → contextOf ys cs .waiting ≡ [] → Covers (firsts (numberAt xs ys) placeCount) (contextOf ys cs) (contextOf xs bs)
+unfolding contextOf restAt withWaiting withGroups restOf
+places-cover xs bs ys cs w e =
     record {
       older-groups = cells-in xs bs ys cs xs bs (older-there xs bs ys cs);
       newer-groups = cells-in xs bs ys cs ys cs (newer-there xs bs ys cs);
       newer-tombstones = tombstones-there xs bs ys cs (w .rest);
-      newer-waiting = unfold every in refl;
+      newer-waiting = none-in (firsts (numberAt xs ys) placeCount) _ e;
     }

@@ -11,29 +11,30 @@ use borrow.Author.Tests.{le-leb, lt-leb}
 use borrow.Rule.Slice.PartAt.{part-to-end}
 use Rattle.maps.specs.Lists.{sum}
 use Rattle.rules.specs.Causes.{numberOf}
-use Rattle.rules.specs.Context.{Context, withGroups, waitingFits}
+use Rattle.rules.specs.Context.{Context, withGroups, withWaiting, waitingFits}
 use Rattle.rules.specs.Calls.{clash}
 use Rattle.rules_by_group.specs.Stage.{restFits, mergedRest, joinedRest, finishedTombs}
 use Rattle.groups.specs.Area.{numbersInUse, bytesInUse}
 use Rattle.lists.specs.declared.Counts.{Counts}
 use Rattle.lists.specs.Rest.{restOf, tombstonesIn, cleanedIn}
 use Rattle.lists.specs.Laws.{lengths}
-use Rattle.contexts.specs.Contexts.{contextOf, Wf}
-use Rattle.merging.specs.declared.Mode.{Mode}
-use Rattle.merging.specs.declared.Mode.the-variants.{MergeAppend, MergeRewrite, Join}
+use Rattle.contexts.specs.Contexts.{restAt, contextOf, waitingNumbers, waitingBytes, Wf}
+use Rattle.contexts.specs.AreaLaws.{room-fits}
+use Rattle.worktable.specs.declared.Mode.{Mode}
+use Rattle.worktable.specs.declared.Mode.the-variants as mode
 use Rattle.merging.specs.Modes.{restBy, clashBy, countsFit, countsOf, Few, Given}
 
 -- ---- the refusal of a group
 
-pub clash-append : (m : Mode) → m ≡ MergeAppend → 14 ≡ numberOf (clashBy m)
+pub clash-append : (m : Mode) → m ≡ mode.Append → 14 ≡ numberOf (clashBy m)
 unfolding clashBy clash
 clash-append m e = rw e
 
-pub clash-rewrite : (m : Mode) → m ≡ MergeRewrite → 8 ≡ numberOf (clashBy m)
+pub clash-rewrite : (m : Mode) → m ≡ mode.Rewrite → 8 ≡ numberOf (clashBy m)
 unfolding clashBy clash
 clash-rewrite m e = rw e
 
-pub clash-join : (m : Mode) → m ≡ Join → 14 ≡ numberOf (clashBy m)
+pub clash-join : (m : Mode) → m ≡ mode.Join → 14 ≡ numberOf (clashBy m)
 unfolding clashBy clash
 clash-join m e = rw e
 
@@ -42,24 +43,24 @@ clash-join m e = rw e
 module _ (o n : Counts) where
   pub cleaned-over : (m : Mode) → 64 < o .cleaned + n .cleaned → false ≡ countsFit m o n
   unfolding countsFit
-  cleaned-over MergeAppend l = rw (lt-leb (o .cleaned + n .cleaned) 64 l) (sym (and-false (leb (o .tombstones + n .tombstones) 64)))
-  cleaned-over MergeRewrite l = rw (lt-leb (o .cleaned + n .cleaned) 64 l) (sym (and-false (leb (o .tombstones + n .tombstones) 64)))
-  cleaned-over Join l = rw (lt-leb (o .cleaned + n .cleaned) 64 l)
+  cleaned-over mode.Append l = rw (lt-leb (o .cleaned + n .cleaned) 64 l) (sym (and-false (leb (o .tombstones + n .tombstones) 64)))
+  cleaned-over mode.Rewrite l = rw (lt-leb (o .cleaned + n .cleaned) 64 l) (sym (and-false (leb (o .tombstones + n .tombstones) 64)))
+  cleaned-over mode.Join l = rw (lt-leb (o .cleaned + n .cleaned) 64 l)
 
   and-true : (b : Bool) → b ≡ (b && true)
   and-true true = refl
   and-true false = refl
 
   module _ (m : Mode) (l : o .cleaned + n .cleaned ≤ 64) where
-    pub append-fits : m ≡ MergeAppend → leb (o .tombstones + n .tombstones) 64 ≡ countsFit m o n
+    pub append-fits : m ≡ mode.Append → leb (o .tombstones + n .tombstones) 64 ≡ countsFit m o n
     unfolding countsFit
     append-fits e = rw (e, le-leb (o .cleaned + n .cleaned) 64 l) (and-true (leb (o .tombstones + n .tombstones) 64))
 
-    pub rewrite-fits : m ≡ MergeRewrite → leb (o .tombstones + n .tombstones) 64 ≡ countsFit m o n
+    pub rewrite-fits : m ≡ mode.Rewrite → leb (o .tombstones + n .tombstones) 64 ≡ countsFit m o n
     unfolding countsFit
     rewrite-fits e = rw (e, le-leb (o .cleaned + n .cleaned) 64 l) (and-true (leb (o .tombstones + n .tombstones) 64))
 
-    pub join-fits : m ≡ Join → true ≡ countsFit m o n
+    pub join-fits : m ≡ mode.Join → true ≡ countsFit m o n
     unfolding countsFit
     join-fits e = rw (e, le-leb (o .cleaned + n .cleaned) 64 l)
 
@@ -78,7 +79,7 @@ few-counts xs bs w =
 
 -- ---- the limits of the rest are those of the lists
 
-module _ (mode : Mode) (xs bs ys cs : List ℕ) (g : Given mode xs bs ys cs) where
+module _ (m : Mode) (xs bs ys cs : List ℕ) (g : Given m xs bs ys cs) where
   abbrev c : Context
   c = contextOf xs bs
 
@@ -86,20 +87,20 @@ module _ (mode : Mode) (xs bs ys cs : List ℕ) (g : Given mode xs bs ys cs) whe
   newer = contextOf ys cs
 
   tombstones-length : length (c .tombstones ++ newer .tombstones) ≡ countsOf xs .tombstones + countsOf ys .tombstones
-  unfolding contextOf withGroups restOf countsOf
+  unfolding contextOf restAt withWaiting withGroups restOf countsOf
   tombstones-length =
       length-append (tombstonesIn (drop 9376 xs) (drop 16384 bs)) (tombstonesIn (drop 9376 ys) (drop 16384 cs))
       ∙ rw (lengths (drop 9376 xs) (drop 16384 bs) (g .wf .rest) .0, lengths (drop 9376 ys) (drop 16384 cs) (g .newer-wf .rest) .0)
 
   cleaned-length : length (c .cleaned ++ newer .cleaned) ≡ countsOf xs .cleaned + countsOf ys .cleaned
-  unfolding contextOf withGroups restOf countsOf
+  unfolding contextOf restAt withWaiting withGroups restOf countsOf
   cleaned-length =
       length-append (cleanedIn (drop 9376 xs)) (cleanedIn (drop 9376 ys))
       ∙ rw (lengths (drop 9376 xs) (drop 16384 bs) (g .wf .rest) .1, lengths (drop 9376 ys) (drop 16384 cs) (g .newer-wf .rest) .1)
 
   waits-fit : waitingFits (c .waiting) ≡ true
-  unfolding contextOf withGroups restOf waitingFits sum
-  waits-fit = refl
+  unfolding contextOf restAt withWaiting withGroups
+  waits-fit = room-fits (waitingNumbers xs) (waitingBytes bs) (g .wf .waiting)
 
   no-tombs : finishedTombs (newer .waiting) (c .waiting) ≡ []
   unfolding finishedTombs

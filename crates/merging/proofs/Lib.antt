@@ -4,3 +4,5 @@ pub mod Settling
 pub mod NumberWays
 pub mod CoverLaws
 pub mod EndWays
+pub mod TombWays
+pub mod WorkWays

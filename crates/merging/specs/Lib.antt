@@ -3,3 +3,6 @@ pub mod Staging
 pub mod StagingLaws
 pub mod Modes
 pub mod ModeLaws
+pub mod TombLaws
+pub mod Works
+pub mod WorkLaws

@@ -11,77 +11,74 @@ use Rattle.rules.specs.Items.{Append, Rewrite}
 use Rattle.rules.specs.Table.{Table}
 use Rattle.rules.specs.Context.{Kind, context, Context}
 use Rattle.rules.specs.Calls.{clash, merge, join}
-use Rattle.rules_by_group.specs.Kept.{Kept}
 use Rattle.rules_by_group.specs.Stage.{noneStaged, stageAll, mergedRest, mergedAt, joinedRest, joinedAt, Covers}
 use Rattle.stretch.specs.Stretch.{isUsed, groupIn}
 use Rattle.groups.specs.Area.{slots, numbersInUse, stretchAt}
 use Rattle.lists.specs.declared.Counts.{Counts}
 use Rattle.contexts.specs.Contexts.{contextOf, Wf}
-use Rattle.merging.specs.declared.Mode.{Mode}
-use Rattle.merging.specs.declared.Mode.the-variants.{MergeAppend, MergeRewrite, Join}
+use Rattle.worktable.specs.declared.Mode.{Mode}
+use Rattle.worktable.specs.declared.Mode.the-variants as mode
 use Rattle.merging.specs.declared.Flags.{Flags}
 use Rattle.merging.specs.declared.Number as number
 use Rattle.merging.specs.Staging.{stagedIn}
 
 -- the kinds of the older and of the newer context
 unfoldable pub olderKind : Mode → Kind
-olderKind MergeAppend = context Append
-olderKind MergeRewrite = context Rewrite
-olderKind Join = context Rewrite
+olderKind mode.Append = context Append
+olderKind mode.Rewrite = context Rewrite
+olderKind mode.Join = context Rewrite
 
 unfoldable pub newerKind : Mode → Kind
-newerKind MergeAppend = context Append
-newerKind MergeRewrite = context Rewrite
-newerKind Join = context Append
+newerKind mode.Append = context Append
+newerKind mode.Rewrite = context Rewrite
+newerKind mode.Join = context Append
 
 -- what becomes of group g
 unfoldable pub groupBy : Mode → Context → Context → ℕ → Result (Option Table)
-groupBy MergeAppend newer c = mergedAt Append newer c
-groupBy MergeRewrite newer c = mergedAt Rewrite newer c
-groupBy Join newer c = joinedAt newer c
+groupBy mode.Append newer c = mergedAt Append newer c
+groupBy mode.Rewrite newer c = mergedAt Rewrite newer c
+groupBy mode.Join newer c = joinedAt newer c
 
 -- all but the groups
 unfoldable pub restBy : Mode → Context → Context → Context
-restBy MergeAppend newer c = mergedRest newer (c .waiting) c
-restBy MergeRewrite newer c = mergedRest newer (c .waiting) c
-restBy Join newer c = joinedRest newer c
+restBy mode.Append newer c = mergedRest newer (c .waiting) c
+restBy mode.Rewrite newer c = mergedRest newer (c .waiting) c
+restBy mode.Join newer c = joinedRest newer c
 
 -- what a group's refusal is; a join has none
 unfoldable pub clashBy : Mode → Cause
-clashBy MergeAppend = clash Append
-clashBy MergeRewrite = clash Rewrite
-clashBy Join = clash Append
+clashBy mode.Append = clash Append
+clashBy mode.Rewrite = clash Rewrite
+clashBy mode.Join = clash Append
 
 -- the rules' call
 unfoldable pub callBy : Mode → Context → Context → Result Context
-callBy MergeAppend newer c = merge newer c
-callBy MergeRewrite newer c = merge newer c
-callBy Join newer c = join newer c
+callBy mode.Append newer c = merge newer c
+callBy mode.Rewrite newer c = merge newer c
+callBy mode.Join newer c = join newer c
 
 -- what holds of the two areas: the older one, and the newer one, which is only read
-pub record Given (mode : Mode) (xs bs ys cs : List ℕ) : Type 0 where
+pub record Given (m : Mode) (xs bs ys cs : List ℕ) : Type 0 where
   pub wf : Wf xs bs
   pub newer-wf : Wf ys cs
-  pub kept : Kept (contextOf xs bs)
-  pub newer-kept : Kept (contextOf ys cs)
-  pub kind : contextOf xs bs .kind ≡ olderKind mode
-  pub newer-kind : contextOf ys cs .kind ≡ newerKind mode
+  pub kind : contextOf xs bs .kind ≡ olderKind m
+  pub newer-kind : contextOf ys cs .kind ≡ newerKind m
   -- nothing waits in the newer context
   pub none-waits : contextOf ys cs .waiting ≡ []
 
 -- all groups are staged
-pub record Worked (mode : Mode) (f : Flags) (xs bs ys cs : List ℕ) : Type 0 where
+pub record Worked (m : Mode) (f : Flags) (xs bs ys cs : List ℕ) : Type 0 where
   pub numbers : List ℕ
   pub cover : Covers numbers (contextOf ys cs) (contextOf xs bs)
-  pub staged : stagedIn f xs bs ≡ stageAll (groupBy mode (contextOf ys cs) (contextOf xs bs)) numbers noneStaged
+  pub staged : stagedIn f xs bs ≡ stageAll (groupBy m (contextOf ys cs) (contextOf xs bs)) numbers noneStaged
 
 -- ---- the limits of the lists
 
 -- whether lists of so many elements may become one; a join has no tombstones
 unfoldable pub countsFit : Mode → Counts → Counts → Bool
-countsFit MergeAppend o n = leb (o .tombstones + n .tombstones) 64 && leb (o .cleaned + n .cleaned) 64
-countsFit MergeRewrite o n = leb (o .tombstones + n .tombstones) 64 && leb (o .cleaned + n .cleaned) 64
-countsFit Join o n = leb (o .cleaned + n .cleaned) 64
+countsFit mode.Append o n = leb (o .tombstones + n .tombstones) 64 && leb (o .cleaned + n .cleaned) 64
+countsFit mode.Rewrite o n = leb (o .tombstones + n .tombstones) 64 && leb (o .cleaned + n .cleaned) 64
+countsFit mode.Join o n = leb (o .cleaned + n .cleaned) 64
 
 -- the numbers of elements that the lists of an area have
 unfoldable pub countsOf : List ℕ → Counts

@@ -3,13 +3,14 @@ ghost use mathlib.Core.Path.{_≡_};
 ghost use lib.ListN.{length, drop};
 ghost use Rattle.rules.specs.Causes.{numberOf};
 ghost use Rattle.merging.specs.Modes.{clashBy, countsFit, countsOf, Few};
-use crate::Mode;
 use contexts::Answer;
 use contexts::Position;
 use lists::Counts;
 use lists::MAX_CLEANED;
 use lists::MAX_TOMBSTONES;
 use stretch::ABOVE_LAST;
+use stretch::FILES_GO_BACK;
+use worktable::Mode;
 
 // Whether lists of so many elements may become one. A join has no tombstones.
 fn counts_fit(mode: Mode, older: Counts, newer: Counts) -> bool
@@ -21,8 +22,8 @@ fn counts_fit(mode: Mode, older: Counts, newer: Counts) -> bool
     }
     let fit = older.tombstones + newer.tombstones <= MAX_TOMBSTONES;
     match mode {
-        Mode::MergeAppend => fit,
-        Mode::MergeRewrite => fit,
+        Mode::Append => fit,
+        Mode::Rewrite => fit,
         Mode::Join => true,
     }
 }
@@ -44,8 +45,8 @@ fn clash_of(mode: Mode) -> u64
     ensures { λ r. ⌜ r ≡ numberOf (clashBy mode) ⌝ }
 {
     match mode {
-        Mode::MergeAppend => ABOVE_LAST,
-        Mode::MergeRewrite => 8,
+        Mode::Append => ABOVE_LAST,
+        Mode::Rewrite => FILES_GO_BACK,
         Mode::Join => ABOVE_LAST,
     }
 }

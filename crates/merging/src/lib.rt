@@ -3,18 +3,13 @@
 mod ends;
 mod numbers;
 mod staging;
+mod tombs;
+mod work;
 
 // Whether some group was refused, and whether one passed a limit.
 pub struct Flags {
     pub clashed: bool,
     pub passed: bool,
-}
-
-// The three calls as modes of one work.
-pub enum Mode {
-    MergeAppend,
-    MergeRewrite,
-    Join,
 }
 
 // The number of a group that may get a table, where a place has one.
