@@ -1,3 +1,4 @@
 -- The ways through the functions of the work table.
 pub mod LayWays
 pub mod MoveWays
+pub mod EndWays

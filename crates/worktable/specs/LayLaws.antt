@@ -175,7 +175,7 @@ span-beside mode.Append s t u e = let h = same-ok (spanOver s t) u e in rw (← 
 span-beside mode.Rewrite s t u e = spanned-same s t u e
 span-beside mode.Join s t u e = let h = same-ok t u e in rw (← h) (record { entries = refl; keys = refl })
 
-within-of : (t : Table) → length (t .entries) ≤ longEntries → length (t .keys) ≤ longKeys → Within longEntries longKeys (some t)
+pub within-of : (t : Table) → length (t .entries) ≤ longEntries → length (t .keys) ≤ longKeys → Within longEntries longKeys (some t)
 unfolding made orElse
 within-of t a b = record { few-entries = a; few-keys = b }
 
@@ -236,7 +236,7 @@ unfolding andThen
 some-of x Done p b w e = rw (← e) (ap ok w)
 some-of x (Refused n) p b w e = rw (← e) refl
 
-ends : (x : Result Table) (r : Outcome) (p b : List ℕ) → TableEnds x r p b → Ends (andThen x (λ t. ok (some t))) r p b
+pub ends : (x : Result Table) (r : Outcome) (p b : List ℕ) → TableEnds x r p b → Ends (andThen x (λ t. ok (some t))) r p b
 ends x r p b t =
     let c = becomes (tableAt longKeysAt p b) p b (t .stands) in
     record { rule = some-of x r p b (c .is) (t .rule); wf = c .wf }

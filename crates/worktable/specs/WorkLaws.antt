@@ -36,7 +36,7 @@ pub work-none : (p b : List ℕ) → isUsed p ≡ false → workIn p b ≡ none
 unfolding workIn
 work-none p b u = rw u
 
-made-some : (t : Table) → made (some t) ≡ t
+pub made-some : (t : Table) → made (some t) ≡ t
 unfolding made orElse
 made-some t = refl
 

@@ -1,10 +1,14 @@
 // The table of one group that a merge or a join works on, in a long stretch: the group's own functions on it, and a newer table laid over.
 mod acts;
+mod ends;
 mod laying;
 mod moves;
 
 pub use acts::act;
 pub use acts::clear;
+pub use ends::fits;
+pub use ends::is_there;
+pub use ends::set_span;
 pub use laying::lay_over;
 pub use moves::load;
 pub use moves::unload;
