@@ -20,7 +20,7 @@ use Rattle.groups.specs.Area.{groupsOf}
 use Rattle.groups.specs.AreaLaws.{front-fits}
 use Rattle.groups.specs.Laws.{fresh}
 use Rattle.lists.specs.Rest.{restOf}
-use Rattle.lists.specs.Calls.{Fresh}
+use Rattle.lists.specs.Calls.{Becomes}
 use Rattle.waiting.specs.Layout.{contextCells, waitingOf, Empty}
 use Rattle.contexts.specs.Contexts.{restAt, contextOf, Cleared, FreshArea}
 use Rattle.contexts.specs.AreaLaws.{before-back, behind-back, lists-room}
@@ -42,7 +42,7 @@ cleared-more n xs ys h e c =
 
 module _ (q : LogQueue) (xs ys bs v s : List ℕ) (n : length xs ≡ 18977) (m : length bs ≡ 43008) (c : Cleared 8 xs ys)
     (r : (vs : List ℕ) → length vs ≡ 4096 → Empty contextCells v vs)
-    (f : (cs : List ℕ) → length cs ≡ 26624 → Fresh q (take (length (putMid 10019 1746 ys v) - 9376) (drop 9376 (putMid 10019 1746 ys v))) cs s) where
+    (f : (cs : List ℕ) → length cs ≡ 26624 → Becomes (rules.fresh q) (take (length (putMid 10019 1746 ys v) - 9376) (drop 9376 (putMid 10019 1746 ys v))) cs s) where
   -- the area with its room cleared, and with its lists cleared then
   abbrev us : List ℕ
   us = putMid 10019 1746 ys v
@@ -65,7 +65,7 @@ module _ (q : LogQueue) (xs ys bs v s : List ℕ) (n : length xs ≡ 18977) (m :
   numbers-fit : 9376 ≤ length us
   numbers-fit = omega (arith, length-us)
 
-  lists-are : Fresh q (drop 9376 us) (drop 16384 bs) (drop 9376 zs)
+  lists-are : Becomes (rules.fresh q) (drop 9376 us) (drop 16384 bs) (drop 9376 zs)
   lists-are = rw (behind-back 9376 us s numbers-fit) (rw (part-to-end us 9376) at (f (drop 16384 bs) (simp length-drop (omega arith))))
 
   front-is : (i : ℕ) → i < 9376 → getD zs i 0 ≡ getD ys i 0

@@ -3,8 +3,8 @@ use mathlib.Core.List.{List, [], _∷_, _++_}
 use mathlib.Core.Path.{_≡_}
 use Prim.Native.Nat.{ℕ, _+_, _≤_}
 use lib.ListN.{getD, drop}
-use Rattle.rules.specs.Items.{LogQueue, LogItem}
-use Rattle.rules.specs.Context.{Kind, context, index, Context, fresh, withTombstones, withCleaned}
+use Rattle.rules.specs.Items.{LogItem}
+use Rattle.rules.specs.Context.{Kind, context, index, Context, withTombstones, withCleaned}
 use Rattle.lists.specs.declared.Kind as kind
 use Rattle.lists.specs.Rest.{listNumbers, listBytes, tombstonesIn, cleanedIn, restOf, Wf, cutTo}
 
@@ -18,9 +18,9 @@ pub record Behind (ys cs ys′ cs′ : List ℕ) : Type 0 where
   pub numbers : drop listNumbers ys′ ≡ drop listNumbers ys
   pub bytes : drop listBytes cs′ ≡ drop listBytes cs
 
--- the lists are those of a fresh context
-pub record Fresh (q : LogQueue) (ys cs ys′ : List ℕ) : Type 0 where
-  pub rest : restOf ys′ cs ≡ fresh q
+-- the lists become those of r
+pub record Becomes (r : Context) (ys cs ys′ : List ℕ) : Type 0 where
+  pub rest : restOf ys′ cs ≡ r
   pub behind : Behind ys cs ys′ cs
   pub wf : Wf ys′ cs
 
@@ -35,14 +35,20 @@ pub record Keeps (ys cs ys′ cs′ : List ℕ) : Type 0 where
   pub tombstones-grow : getD ys 1 0 ≤ getD ys′ 1 0
   pub cleaned-grow : getD ys 2 0 ≤ getD ys′ 2 0
 
-pub record TombstoneAdded (it : LogItem) (ys cs ys′ cs′ : List ℕ) : Type 0 where
-  pub rest : restOf ys′ cs′ ≡ withTombstones (tombstonesIn ys cs ++ (it ∷ [])) (restOf ys cs)
+pub record TombstonesAdded (its : List LogItem) (ys cs ys′ cs′ : List ℕ) : Type 0 where
+  pub rest : restOf ys′ cs′ ≡ withTombstones (tombstonesIn ys cs ++ its) (restOf ys cs)
   pub keeps : Keeps ys cs ys′ cs′
   pub behind : Behind ys cs ys′ cs′
   pub wf : Wf ys′ cs′
 
-pub record CleanedAdded (g : ℕ) (ys cs ys′ : List ℕ) : Type 0 where
-  pub rest : restOf ys′ cs ≡ withCleaned (cleanedIn ys ++ (g ∷ [])) (restOf ys cs)
+abbrev pub TombstoneAdded : LogItem → List ℕ → List ℕ → List ℕ → List ℕ → Type 0
+TombstoneAdded it = TombstonesAdded (it ∷ [])
+
+pub record AllCleanedAdded (gs : List ℕ) (ys cs ys′ : List ℕ) : Type 0 where
+  pub rest : restOf ys′ cs ≡ withCleaned (cleanedIn ys ++ gs) (restOf ys cs)
   pub keeps : Keeps ys cs ys′ cs
   pub behind : Behind ys cs ys′ cs
   pub wf : Wf ys′ cs
+
+abbrev pub CleanedAdded : ℕ → List ℕ → List ℕ → List ℕ → Type 0
+CleanedAdded g = AllCleanedAdded (g ∷ [])
