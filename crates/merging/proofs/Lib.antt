@@ -6,3 +6,4 @@ pub mod CoverLaws
 pub mod EndWays
 pub mod TombWays
 pub mod WorkWays
+pub mod StageWays

@@ -19,9 +19,10 @@ use Rattle.rules_by_group.specs.Stage.{Staged, noneStaged, stageAll}
 use Rattle.rules_by_group.specs.StageLaws.{stage-append}
 use Rattle.stretch.specs.Layout.{stretchWidth, bytesWidth}
 use Rattle.stretch.specs.Stretch.{isUsed}
-use Rattle.groups.specs.Area.{slots, numbersInUse, bytesInUse, stretchAt, bytesAt, cellAt, cells, groupsOf}
+use Rattle.groups.specs.Area.{slots, numbersInUse, bytesInUse, stretchAt, bytesAt, cellAt, cells, groupsOf, Found}
 use Rattle.groups.specs.Area as groups
-use Rattle.groups.specs.AreaLaws.{Same, same-groups, same-wf, same-stretch, same-bytes}
+use Rattle.groups.specs.declared.Slot.{Slot}
+use Rattle.groups.specs.AreaLaws.{Same, same-groups, same-wf, same-found, same-stretch, same-bytes}
 use Rattle.groups.specs.Laws.{none-used, free-cell, cells-groups}
 use Rattle.groups.specs.Undo.{liveNumbers, liveBytes, markAt, undoneCell, undoneCells, Undoable, Undone}
 use Rattle.groups.specs.UndoLaws.{mark-is, undone-saved, undone-free, undone-are}
@@ -103,6 +104,10 @@ module _ {xs bs xs′ bs′ : List ℕ} (w : Working xs bs xs′ bs′) where
         numbers = spare-stretch j xs ∙ sym (s .numbers) ∙ sym (spare-stretch j xs′);
         bytes = spare-bytes j bs ∙ sym (s .bytes) ∙ sym (spare-bytes j bs′);
       }
+
+  -- a group is found where it was
+  pub working-found : (g : ℕ) (slot : Slot) → Found g (drop liveNumbers xs) slot → Found g (drop liveNumbers xs′) slot
+  working-found g slot f = same-found g slot (drop liveNumbers xs) (drop liveNumbers xs′) (λ j l. spares-same j l .numbers) f
 
   -- what is staged is as it was
   pub working-staged : (f : Flags) → stagedIn f xs′ bs′ ≡ stagedIn f xs bs

@@ -2,6 +2,7 @@
 // area and staged in a spare stretch; at the end the staged groups become the groups.
 mod ends;
 mod numbers;
+mod stages;
 mod staging;
 mod tombs;
 mod work;
