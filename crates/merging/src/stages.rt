@@ -11,10 +11,14 @@ ghost use Rattle.stretch.specs.Stretch.{isUsed};
 ghost use Rattle.groups.specs.Area.{Found};
 ghost use Rattle.worktable.specs.Work.{workIn, Wf};
 ghost use Rattle.worktable.specs.Calls.{Ends};
+ghost use Rattle.contexts.specs.Contexts.{contextOf};
 ghost use Rattle.merging.specs.Staging.{Ready, Staging};
+ghost use Rattle.merging.specs.Modes.{groupBy, Given};
 use crate::Flags;
+use crate::work::work;
 use groups::Slot;
 use stretch::Outcome;
+use worktable::Mode;
 use worktable::WORK_AT;
 
 // Where the spare stretches begin.
@@ -95,5 +99,33 @@ fn settle_full(xs: &[u64], group: u64, outcome: Outcome, flags: Flags) -> Flags
     Flags {
         clashed: flags.clashed,
         passed: true,
+    }
+}
+
+// Stages group `group`, unless it is staged already.
+pub fn stage_one(
+    xs: &mut [u64],
+    bs: &mut [u8],
+    ys: &[u64],
+    cs: &[u8],
+    mode: Mode,
+    group: u64,
+    flags: Flags,
+) -> Flags
+    requires { ⌜ Given mode (now xs) (now bs) (now ys) (now cs) ⌝ }
+    requires { ⌜ Ready (now xs) (now bs) ⌝ }
+    ensures { λ r. ⌜ Staging (groupBy mode (contextOf (now (ys .entry)) (now (cs .entry))) (contextOf (now (xs .entry)) (now (bs .entry)))) (group ∷ []) flags (now (xs .entry)) (now (bs .entry)) r (now (xs .exit)) (now (bs .exit)) ⌝ }
+{
+    let slot = find_staged(xs, group);
+    match slot {
+        Slot::At(_) => flags,
+        Slot::Free(k) => {
+            let outcome = work(xs, bs, ys, cs, group, mode);
+            settle_free(xs, bs, k, group, outcome, flags)
+        }
+        Slot::Full => {
+            let outcome = work(xs, bs, ys, cs, group, mode);
+            settle_full(xs, group, outcome, flags)
+        }
     }
 }
