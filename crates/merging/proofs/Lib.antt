@@ -7,3 +7,4 @@ pub mod EndWays
 pub mod TombWays
 pub mod WorkWays
 pub mod StageWays
+pub mod TurnWays

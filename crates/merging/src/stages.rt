@@ -3,7 +3,7 @@ ghost use mathlib.Core.Bool.{true};
 ghost use mathlib.Core.List.{List, [], _∷_};
 ghost use mathlib.Core.Option.{Option};
 ghost use mathlib.Core.Path.{_≡_};
-ghost use Prim.Native.Nat.{ℕ, _≤_};
+ghost use Prim.Native.Nat.{ℕ, _≤_, _<_};
 ghost use lib.ListN.{length, drop};
 ghost use Rattle.rules.specs.Causes.{Result, ok};
 ghost use Rattle.rules.specs.Table.{Table};
@@ -13,8 +13,10 @@ ghost use Rattle.worktable.specs.Work.{workIn, Wf};
 ghost use Rattle.worktable.specs.Calls.{Ends};
 ghost use Rattle.contexts.specs.Contexts.{contextOf};
 ghost use Rattle.merging.specs.Staging.{Ready, Staging};
-ghost use Rattle.merging.specs.Modes.{groupBy, Given};
+ghost use Rattle.merging.specs.Modes.{groupBy, Given, numberAt};
 use crate::Flags;
+use crate::Number;
+use crate::numbers::number_at;
 use crate::work::work;
 use groups::Slot;
 use stretch::Outcome;
@@ -128,4 +130,26 @@ pub fn stage_one(
             settle_full(xs, group, outcome, flags)
         }
     }
+}
+
+// Stages the number of place i, if it has one.
+fn turn(
+    xs: &mut [u64],
+    bs: &mut [u8],
+    ys: &[u64],
+    cs: &[u8],
+    mode: Mode,
+    i: usize,
+    flags: Flags,
+) -> Flags
+    requires { ⌜ Given mode (now xs) (now bs) (now ys) (now cs) ⌝ }
+    requires { ⌜ Ready (now xs) (now bs) ⌝ }
+    requires { ⌜ i < 80 ⌝ }
+    ensures { λ r. ⌜ Staging (groupBy mode (contextOf (now (ys .entry)) (now (cs .entry))) (contextOf (now (xs .entry)) (now (bs .entry)))) (numberAt (now (xs .entry)) (now (ys .entry)) i) flags (now (xs .entry)) (now (bs .entry)) r (now (xs .exit)) (now (bs .exit)) ⌝ }
+{
+    let number = number_at(xs, ys, i);
+    let Number::Of(group) = number else {
+        return flags;
+    };
+    stage_one(xs, bs, ys, cs, mode, group, flags)
 }

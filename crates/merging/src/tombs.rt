@@ -24,14 +24,7 @@ use stores::Store;
 use stores::read::item_at;
 
 // Carries out a tombstone, which has no entries, if it is one of the group.
-fn bury_item(
-    p: &mut [u64],
-    b: &mut [u8],
-    group: u64,
-    item: LogItem,
-    entries: &[u64],
-    bytes: &[u8],
-)
+fn bury_item(p: &mut [u64], b: &mut [u8], group: u64, item: LogItem, entries: &[u64], bytes: &[u8])
     requires { ⌜ Wf (now p) (now b) ⌝ }
     requires { ⌜ Within 320 144 (workIn (now p) (now b)) ⌝ }
     requires { ⌜ Lent item (length (now entries)) (length (now bytes)) ⌝ }

@@ -99,7 +99,14 @@ fn lay_newer(p: &mut [u64], b: &mut [u8], ys: &[u64], cs: &[u8], group: u64, mod
 }
 
 // Works on what was loaded: the newer tombstones, then the newer table.
-fn work_loaded(p: &mut [u64], b: &mut [u8], ys: &[u64], cs: &[u8], group: u64, mode: Mode) -> Outcome
+fn work_loaded(
+    p: &mut [u64],
+    b: &mut [u8],
+    ys: &[u64],
+    cs: &[u8],
+    group: u64,
+    mode: Mode,
+) -> Outcome
     requires { ⌜ Wf (now p) (now b) ⌝ }
     requires { ⌜ Within 64 16 (workIn (now p) (now b)) ⌝ }
     requires { ⌜ OlderFor mode (tombed group (contextOf (now ys) (now cs) .tombstones) (workIn (now p) (now b))) ⌝ }
