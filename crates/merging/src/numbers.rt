@@ -7,6 +7,9 @@ use crate::Number;
 use groups::SLOTS;
 use stretch::STRETCH;
 
+// How many places there are: the older stretches, the newer ones, the newer tombstones.
+pub const PLACES: usize = 80;
+
 // The group of stretch k, if it is used.
 fn stretch_number(xs: &[u64], k: usize) -> Number
     requires { ⌜ (k < 8) × (9376 ≤ length (now xs)) ⌝ }

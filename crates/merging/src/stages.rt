@@ -12,10 +12,11 @@ ghost use Rattle.groups.specs.Area.{Found};
 ghost use Rattle.worktable.specs.Work.{workIn, Wf};
 ghost use Rattle.worktable.specs.Calls.{Ends};
 ghost use Rattle.contexts.specs.Contexts.{contextOf};
-ghost use Rattle.merging.specs.Staging.{Ready, Staging};
-ghost use Rattle.merging.specs.Modes.{groupBy, Given, numberAt};
+ghost use Rattle.merging.specs.Staging.{noFlags, Ready, Staging};
+ghost use Rattle.merging.specs.Modes.{groupBy, Given, numberAt, firsts};
 use crate::Flags;
 use crate::Number;
+use crate::numbers::PLACES;
 use crate::numbers::number_at;
 use crate::work::work;
 use groups::Slot;
@@ -152,4 +153,22 @@ fn turn(
         return flags;
     };
     stage_one(xs, bs, ys, cs, mode, group, flags)
+}
+
+// Stages the numbers of all places.
+pub fn stage_all(xs: &mut [u64], bs: &mut [u8], ys: &[u64], cs: &[u8], mode: Mode) -> Flags
+    requires { ⌜ Given mode (now xs) (now bs) (now ys) (now cs) ⌝ }
+    requires { ⌜ Ready (now xs) (now bs) ⌝ }
+    ensures { λ r. ⌜ Staging (groupBy mode (contextOf (now (ys .entry)) (now (cs .entry))) (contextOf (now (xs .entry)) (now (bs .entry)))) (firsts (numberAt (now (xs .entry)) (now (ys .entry))) 80) noFlags (now (xs .entry)) (now (bs .entry)) r (now (xs .exit)) (now (bs .exit)) ⌝ }
+{
+    let mut flags = Flags {
+        clashed: false,
+        passed: false,
+    };
+    let mut i = 0;
+    while i < PLACES {
+        flags = turn(xs, bs, ys, cs, mode, i, flags);
+        i += 1;
+    }
+    flags
 }
