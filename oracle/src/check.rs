@@ -25,7 +25,7 @@ fn read(text: &str) -> Vec<Asked> {
 
 /// A program that is not the Rust says "refused" where the Rust panics, gives
 /// an error or is not asked. The order of tombstones between groups is open.
-fn same(file: &[String], rust: &[String]) -> bool {
+pub fn same(file: &[String], rust: &[String]) -> bool {
     if file.first().map_or(false, |l| l.starts_with("refused ")) {
         return file.len() == rust.len() && refusal(&file[0]) == refusal(&rust[0]);
     }

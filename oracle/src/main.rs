@@ -7,6 +7,8 @@ mod drive;
 mod generate;
 mod law;
 mod panics;
+#[cfg(feature = "port")]
+mod port;
 mod random;
 mod run;
 mod takes;
@@ -40,6 +42,17 @@ fn exit_with(differences: usize) {
 /// Answers a script from standard input.
 fn answer(law: bool) {
     let mut driver = Driver::new(law);
+    answer_by(|line| driver.line(line));
+}
+
+/// The same by the port; a call that the library does not have has no answer.
+#[cfg(feature = "port")]
+fn answer_port() {
+    let mut port = port::Port::default();
+    answer_by(|line| Ok(port.line(line)?.unwrap_or_default()));
+}
+
+fn answer_by(mut answers: impl FnMut(&str) -> text::Read<Vec<String>>) {
     let out = std::io::stdout();
     let mut out = std::io::BufWriter::new(out.lock());
     for (at, line) in std::io::stdin().lock().lines().enumerate() {
@@ -48,8 +61,8 @@ fn answer(law: bool) {
             continue;
         }
         writeln!(out, "{}", line).unwrap();
-        match driver.line(&line) {
-            Ok(answers) => answers.iter().for_each(|a| writeln!(out, "= {}", a).unwrap()),
+        match answers(&line) {
+            Ok(given) => given.iter().for_each(|a| writeln!(out, "= {}", a).unwrap()),
             Err(e) => {
                 out.flush().unwrap();
                 eprintln!("line {}: {}", at + 1, e);
@@ -77,6 +90,12 @@ fn main() {
         ["vectors", "takes", seed, n] => vectors::takes(number(seed), number(n)),
         ["vectors", "mix", seed, n] => vectors::mix(number(seed), number(n)),
         ["cuttings", n] => exit_with(cuttings::run(number(n))),
+        #[cfg(feature = "port")]
+        ["port", n] => exit_with(port::run::run(1, number(n))),
+        #[cfg(feature = "port")]
+        ["port", from, to] => exit_with(port::run::run(number(from), number(to))),
+        #[cfg(feature = "port")]
+        ["answer", "port"] => answer_port(),
         ["takes"] => takes::takes(std::io::stdin().lock(), &mut std::io::stdout().lock()),
         _ => usage(),
     }

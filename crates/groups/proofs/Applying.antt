@@ -13,7 +13,7 @@ use lib.Seq.{set-set, set-getD}
 use borrow.Author.Tests.{le-leb, lt-leb}
 use borrow.Rule.Slice.PartMut.{putMid}
 use Rattle.cells.specs.Part.{part, put}
-use Rattle.cells.specs.PartLaws.{length-part, part-put-same, part-put-around, loan-put, loan-put-in}
+use Rattle.cells.specs.PartLaws.{length-part, part-set-in, part-set-before, part-put-same, part-put-after, part-put-around, loan-put, loan-put-in}
 use Rattle.maps.specs.Lists.{orElse}
 use Rattle.maps.specs.Maps.{Map, lookup, insert, numbers}
 use Rattle.maps.specs.MapLaws.{pair, remove-absent, length-insert-none, length-insert-some}
@@ -25,17 +25,20 @@ use Rattle.rules.specs.Limits.{maxGroups}
 use Rattle.rules.specs.Table.{Table, emptyTable, made}
 use Rattle.rules.specs.Context.{tableFits}
 use Rattle.stretch.specs.Layout.{stretchWidth, bytesWidth, keysAt}
-use Rattle.stretch.specs.Stretch.{isUsed, madeHeader, tableIn}
+use Rattle.stretch.specs.Stretch.{isUsed, headIn, madeHeader, entryRows, keyRows, tableIn}
 use Rattle.stretch.specs.Stretch as stretch
 use Rattle.stretch.specs.declared.Outcome.{Outcome}
 use Rattle.stretch.specs.declared.Outcome.the-variants.{Done, Refused}
 use Rattle.stretch.specs.Changes.{outcomeAs, limitedTable, Changed}
 use Rattle.stretch.specs.Changes as any
+use Rattle.stretch.specs.declared.Change.{Change}
+use Rattle.stretch.specs.Reach.{entryMost, rowFrom, writesKeys, LeavesAt, Leaves}
+use Rattle.stretch.specs.ReachLaws.{leaves-short}
 use Rattle.stretch.specs.Laws.{changed-short, changed-cell, make-cell}
 use Rattle.groups.specs.declared.Slot.the-variants.{At, Free, Full}
 use Rattle.groups.specs.Area.{slots, numbersInUse, bytesInUse, stretchAt, bytesAt, cellAt, cells, groupsOf, Wf, Only, AtSlot, FreeSlot, NoSlot, OnlySlot}
 use Rattle.groups.specs.AreaLaws.{length-cells, getD-cells, only-none, only-put, only-again, only-cells, only-wf}
-use Rattle.groups.specs.Calls.{onGroup, ChangedAt, ChangedGroup, RemovedGroup}
+use Rattle.groups.specs.Calls.{onGroup, ChangedAt, ChangedGroup, RemovedGroup, RowsStay, LeavesStretch, ChangeLeaves, LeavesSlot, RemovalLeaves}
 use Rattle.groups.specs.Laws.{at-cell, free-cell, cell-at, freed, lookup-found, lookup-free, lookup-full, groups-fit, groups-full, groups-ascend}
 
 -- ---- the rule of a group, by what its table's rule gives
@@ -125,6 +128,47 @@ changed-back by k xs bs r p b l x y kp kb c =
       only = record { numbers = rw s; bytes = rw t };
     })
 
+pub leaves-back : (c : Change) (k : ℕ) (xs bs p b : List ℕ) → k < slots → numbersInUse ≤ length xs → bytesInUse ≤ length bs → length p ≡ length (take (k * stretchWidth + stretchWidth - k * stretchWidth) (drop (k * stretchWidth) xs)) → length b ≡ length (take (k * bytesWidth + bytesWidth - k * bytesWidth) (drop (k * bytesWidth) bs)) → LeavesAt keysAt (rowFrom c (headIn (take (k * stretchWidth + stretchWidth - k * stretchWidth) (drop (k * stretchWidth) xs)))) (writesKeys c) (take (k * stretchWidth + stretchWidth - k * stretchWidth) (drop (k * stretchWidth) xs)) (take (k * bytesWidth + bytesWidth - k * bytesWidth) (drop (k * bytesWidth) bs)) p b → LeavesStretch c k xs bs (putMid (k * stretchWidth) (k * stretchWidth + stretchWidth - k * stretchWidth) xs p) (putMid (k * bytesWidth) (k * bytesWidth + bytesWidth - k * bytesWidth) bs b)
+unfolding stretchAt bytesAt
+leaves-back c k xs bs p b l x y kp kb v =
+    let u : length (stretchAt k xs) ≡ stretchWidth = length-part (k * stretchWidth) stretchWidth xs (omega arith) in
+    let w : length (bytesAt k bs) ≡ bytesWidth = length-part (k * bytesWidth) bytesWidth bs (omega arith) in
+    let i = rw (lent-numbers k xs) at kp in
+    let j = rw (lent-bytes k bs) at kb in
+    let m : length p ≡ stretchWidth = i ∙ u in
+    let n : length b ≡ bytesWidth = j ∙ w in
+    rw (loan-put (k * stretchWidth) _ xs p (m ∙ sym (width (k * stretchWidth) stretchWidth)), loan-put (k * bytesWidth) _ bs b (n ∙ sym (width (k * bytesWidth) bytesWidth)), part-put-same stretchWidth xs (k * stretchWidth) p m (omega arith), part-put-same bytesWidth bs (k * bytesWidth) b n (omega arith))
+    (leaves-short u i (rw (lent-numbers k xs, lent-bytes k bs) at v))
+
+-- ---- what a change of the header leaves
+
+header-leaves : (p q b : List ℕ) → entryRows q ≡ entryRows p → keyRows q ≡ keyRows p → Leaves entryMost false p b q b
+header-leaves p q b e k = record { rows = rw e; keys = λ f. (k, refl) }
+
+first-rows : (p : List ℕ) (v : ℕ) → entryRows (set p 0 v) ≡ entryRows p
+unfolding entryRows
+first-rows p v = part-set-before 10 512 p 0 v (omega arith)
+
+first-keys : (p : List ℕ) (v : ℕ) → keyRows (set p 0 v) ≡ keyRows p
+unfolding keyRows
+first-keys p v = part-set-before 522 64 p 0 v (omega arith)
+
+made-rows : (p : List ℕ) (g : ℕ) → entryRows (put p 0 (madeHeader g)) ≡ entryRows p
+unfolding entryRows madeHeader
+made-rows p g = part-put-after 10 512 p 0 (madeHeader g) (omega arith) (omega arith)
+
+made-keys : (p : List ℕ) (g : ℕ) → keyRows (put p 0 (madeHeader g)) ≡ keyRows p
+unfolding keyRows madeHeader
+made-keys p g = part-put-after 522 64 p 0 (madeHeader g) (omega arith) (omega arith)
+
+-- a stretch that was freed
+freed-stretch : (k : ℕ) (xs : List ℕ) → stretchAt k (set xs (k * stretchWidth) 0) ≡ set (stretchAt k xs) 0 0
+unfolding stretchAt
+freed-stretch k xs = rw (add-zero (k * stretchWidth)) at (part-set-in (k * stretchWidth) stretchWidth xs 0 0 (omega arith))
+
+freed-leaves : (k : ℕ) (xs bs : List ℕ) → Leaves entryMost false (stretchAt k xs) (bytesAt k bs) (stretchAt k (set xs (k * stretchWidth) 0)) (bytesAt k bs)
+freed-leaves k xs bs = rw (freed-stretch k xs) (header-leaves (stretchAt k xs) (set (stretchAt k xs) 0 0) (bytesAt k bs) (first-rows (stretchAt k xs) 0) (first-keys (stretchAt k xs) 0))
+
 -- ---- a group that stands at stretch k
 
 -- the table that the rule is used on
@@ -187,6 +231,14 @@ at-changed by g k xs bs r xs′ bs′ w a c =
       left = cells-stay by g k xs bs r xs′ bs′ w a c;
       only = c .only;
       wf = wf-is by g k xs bs r xs′ bs′ w a c;
+    }
+
+pub at-leaves : (c : Change) (by : Table → Result Table) (k : ℕ) (xs bs : List ℕ) (r : Outcome) (xs′ bs′ : List ℕ) → ChangedAt by k xs bs r xs′ bs′ → LeavesStretch c k xs bs xs′ bs′ → LeavesSlot c (At k) xs bs r xs′ bs′
+unfolding ChangeLeaves RowsStay
+at-leaves c by k xs bs r xs′ bs′ a v =
+    record {
+      done = v;
+      refused = λ n e. let d = a .changed .left n e in rw (d .0, d .1) (header-leaves (stretchAt k xs) (stretchAt k xs) (bytesAt k bs) refl refl);
     }
 
 -- ---- a group that is made at the free stretch k
@@ -307,7 +359,29 @@ module _ (g k : ℕ) (xs bs : List ℕ) (w : Wf xs bs) (f : FreeSlot g xs k) whe
         wf = gone-wf by (Refused n) xs′ bs′ c;
       }
 
+  pub made-done-leaves : (c : Change) (xs′ bs′ : List ℕ) → LeavesSlot c (Free k) xs bs Done xs′ bs′
+  unfolding ChangeLeaves
+  made-done-leaves c xs′ bs′ = record { done = tt; refused = λ n e. (let z : _≡_ {A = ℕ} 0 1 = cc in absurd (omega arith)) }
+
+  pub made-refused-leaves : (c : Change) (by : Table → Result Table) (n : ℕ) (xs′ bs′ : List ℕ) → ChangedAt by k with bs (Refused n) xs′ bs′ → LeavesSlot c (Free k) xs bs (Refused n) (set xs′ (k * stretchWidth) 0) bs′
+  unfolding ChangeLeaves RowsStay
+  made-refused-leaves c by n xs′ bs′ a =
+      let d = a .changed .left n refl in
+      let p = stretchAt k xs in
+      record {
+        done = tt;
+        refused = λ m e.
+            rw (freed-stretch k xs′, d .0, d .1, made-stretch)
+            (header-leaves p (set (put p 0 (madeHeader g)) 0 0) (bytesAt k bs)
+            (first-rows (put p 0 (madeHeader g)) 0 ∙ made-rows p g)
+            (first-keys (put p 0 (madeHeader g)) 0 ∙ made-keys p g));
+      }
+
 -- ---- no stretch is free
+
+pub full-leaves : (c : Change) (r : Outcome) (xs bs : List ℕ) → LeavesSlot c Full xs bs r xs bs
+unfolding ChangeLeaves RowsStay
+full-leaves c r xs bs = record { done = tt; refused = λ n e. tt }
 
 pub full-table : (g : ℕ) (xs bs : List ℕ) → NoSlot g xs → made (lookup numbers g (groupsOf xs bs)) ≡ emptyTable
 full-table g xs bs f = rw (lookup-full g xs bs f) made-none
@@ -327,7 +401,7 @@ full-refused by g xs bs w f t =
 -- ---- a group is removed
 
 pub at-removed : (g k : ℕ) (xs bs : List ℕ) → Wf xs bs → AtSlot g xs k → RemovedGroup g (At k) xs bs (set xs (k * stretchWidth) 0)
-unfolding OnlySlot groupsOf
+unfolding OnlySlot RemovalLeaves groupsOf
 at-removed g k xs bs w a =
     let b : k < 16 = omega (arith, a .inside) in
     let d = freed k xs bs (a .inside) (w .numbers-fit) (w .bytes-fit) in
@@ -337,23 +411,26 @@ at-removed g k xs bs w a =
     record {
       rule = rw e (map-free (cells xs bs) k g _ (w .distinct) l h);
       only = d .1;
+      leaves = freed-leaves k xs bs;
       wf = only-wf b (w .numbers-fit) (w .bytes-fit) (d .1) (a .inside) w (λ u. absurd (false≢true (sym (d .0) ∙ u))) (rw e (distinct-free (cells xs bs) k g _ (w .distinct) l h));
     }
 
 pub free-removed : (g k : ℕ) (xs bs : List ℕ) → Wf xs bs → FreeSlot g xs k → RemovedGroup g (Free k) xs bs xs
-unfolding OnlySlot
+unfolding OnlySlot RemovalLeaves
 free-removed g k xs bs w f =
     record {
       rule = sym (remove-absent numbers numbersLawful g (groupsOf xs bs) (lookup-free g k xs bs f));
       only = only-none k xs bs (omega (arith, f .inside)) (w .numbers-fit) (w .bytes-fit);
+      leaves = refl;
       wf = w;
     }
 
 pub full-removed : (g : ℕ) (xs bs : List ℕ) → Wf xs bs → NoSlot g xs → RemovedGroup g Full xs bs xs
-unfolding OnlySlot
+unfolding OnlySlot RemovalLeaves
 full-removed g xs bs w f =
     record {
       rule = sym (remove-absent numbers numbersLawful g (groupsOf xs bs) (lookup-full g xs bs f));
       only = (refl, refl);
+      leaves = refl;
       wf = w;
     }

@@ -1,5 +1,6 @@
-pub mod Copies
+pub mod Savings
 pub mod Securings
+pub mod Restorings
 pub mod Undoings
 pub mod Finding
 pub mod Applying

@@ -1,5 +1,5 @@
 -- The marks cleared one by one, and the stretches taken back one by one. Assumes nothing.
-use mathlib.Core.Bool.{true, false≢true}
+use mathlib.Core.Bool.{true}
 use mathlib.Core.List.{List}
 use mathlib.Core.Path.{_≡_, refl, sym, _∙_}
 use Prim.Native.Nat.{ℕ, _+_, _*_, _≤_, _<_}
@@ -13,10 +13,9 @@ use Rattle.stretch.specs.Layout.{stretchWidth}
 use Rattle.stretch.specs.Stretch.{isUsed}
 use Rattle.stretch.specs.Stretch as stretch
 use Rattle.groups.specs.Area.{slots, numbersInUse, bytesInUse, stretchAt, bytesAt, cellAt, cells, Wf}
-use Rattle.groups.specs.AreaLaws.{Same, same-cell, same-wf, same-stretch, only-none, only-length, only-length-bytes, only-other, only-drop, only-drop-bytes}
-use Rattle.groups.specs.Laws.{free-cell, freed}
-use Rattle.groups.specs.Undo.{liveNumbers, markAt, undoneCell, undoneCells, Undoable, Begun, Undone, Copied, Restorable, UndoneAt}
-use Rattle.groups.specs.UndoLaws.{undone-are, same-mark, same-undone, undone-kept, undone-saved, undone-free}
+use Rattle.groups.specs.AreaLaws.{Same, same-back, same-cell, same-wf, same-stretch, only-length, only-length-bytes, only-other, only-drop, only-drop-bytes}
+use Rattle.groups.specs.Undo.{liveNumbers, markAt, undoneCell, undoneCells, Undoable, Begun, Undone, Restorable, UndoneAt}
+use Rattle.groups.specs.UndoLaws.{undone-are, same-mark, same-undone, same-saved, undone-kept}
 
 -- ---- marks
 
@@ -56,24 +55,6 @@ cleared-all xs xs′ c bs w =
       undoable = record { saved = λ k l m. absurd (omega (arith, c .marks k l)); distinct = rw u (w .distinct) };
       wf = same-wf s w (omega (arith, c .all, w .numbers-fit)) (w .bytes-fit);
     }
-
--- ---- one stretch is taken back
-
-module _ (k : ℕ) (xs bs : List ℕ) (r : Restorable k xs bs) where
-  pub undone-stays : markAt k xs ≡ 0 → UndoneAt k xs bs xs bs
-  undone-stays m = record { cell = sym (undone-kept k xs bs m); wf = r .used; only = only-none k xs bs (omega (arith, r .inside)) (r .numbers-fit) (r .bytes-fit) }
-
-  pub undone-back : (xs′ bs′ : List ℕ) → markAt k xs ≡ 1 → Copied (slots + k) k xs bs xs′ bs′ → UndoneAt k xs bs xs′ bs′
-  undone-back xs′ bs′ m c = record { cell = c .cell ∙ sym (undone-saved k xs bs m); wf = λ u. c .wf; only = c .only }
-
-  pub undone-gone : (markAt k xs ≡ 0 → ⊥) → (markAt k xs ≡ 1 → ⊥) → UndoneAt k xs bs (set xs (k * stretchWidth) 0) bs
-  undone-gone m n =
-      let f = freed k xs bs (r .inside) (r .numbers-fit) (r .bytes-fit) in
-      record {
-        cell = free-cell k (set xs (k * stretchWidth) 0) bs (f .0) ∙ sym (undone-free k xs bs m n);
-        wf = λ u. absurd (false≢true (sym (f .0) ∙ u));
-        only = f .1;
-      }
 
 -- ---- and then the next
 
@@ -115,7 +96,7 @@ module _ (n : ℕ) (xs bs xs′ bs′ : List ℕ) (l : n < slots) (w : Wf xs bs)
         numbers-fit = numbers-fit;
         bytes-fit = bytes-fit;
         used = λ h. rw (s .numbers, s .bytes) (w .used n l (rw (s .numbers) at h));
-        saved = λ m. rw (v .numbers, v .bytes) (u .saved n l (sym (same-mark n v) ∙ m));
+        saved = λ m. same-saved n (same-back s) (same-back v) (u .saved n l (rw (same-mark n v) at m));
       }
 
   pub taken-more : (ys ds : List ℕ) → UndoneAt n xs′ bs′ ys ds → Taken (n + 1) xs bs ys ds
@@ -135,7 +116,7 @@ module _ (n : ℕ) (xs bs xs′ bs′ : List ℕ) (l : n < slots) (w : Wf xs bs)
         cell =
             λ k h.
             split (eqb k n)
-            (λ e. rw (eqb-true k n e) (a .cell ∙ same-undone n v (λ z. same-cell s)))
+            (λ e. rw (eqb-true k n e) (a .cell ∙ same-undone n s v))
             (λ e. let d = eqb-false k n e in same-cell (other k d) ∙ t .cell k (omega (arith, d)));
         wf =
             λ k h y.

@@ -1,16 +1,17 @@
 -- The laws of groups that a crate above cites: where a group stands and what is looked up, the limits, what lies beside and
 -- behind a changed stretch, and what the stretches go back to. Assumes nothing.
-use mathlib.Core.Bool.{true, false, false≢true}
+use mathlib.Core.Bool.{Bool, true, false, false≢true}
 use mathlib.Core.List.{List, []}
 use mathlib.Core.Option.{none, some, Option·some-injective, Option·none-ne-some}
 use mathlib.Core.Path.{_≡_, refl, sym, ap, _∙_}
-use Prim.Native.Nat.{ℕ, _+_, _*_, _≤_, _<_}
+use Prim.Native.Nat.{ℕ, _+_, _*_, _%_, _≤_, _<_}
 use native.Mathlib.Nat.{add-zero}
 use native.Mathlib.Omega.{arith}
 use lib.Dec.{eqb}
 use lib.ListN.{length, take, drop, getD, set, length-drop}
 use borrow.Author.Tests.{eqb-true, eqb-false}
 use Rattle.cells.specs.PartLaws.{getD-part}
+use Rattle.maps.specs.BoolLaws.{clash}
 use Rattle.maps.specs.Lists.{every}
 use Rattle.maps.specs.Maps.{lookup, numbers}
 use Rattle.maps.specs.MapLaws.{pair, Ascending}
@@ -20,14 +21,17 @@ use Rattle.maps.specs.CellLaws.{lookup-at, lookup-absent, mapOf-ascending, leng
 use Rattle.rules.specs.Context.{tableFits}
 use Rattle.rules.specs.Table.{Table}
 use Rattle.stretch.specs.Layout.{stretchWidth}
-use Rattle.stretch.specs.Stretch.{isUsed, groupIn, tableIn}
+use Rattle.stretch.specs.Stretch.{isUsed, groupIn, headIn, tableIn}
+use Rattle.stretch.specs.declared.Change.{Change}
+use Rattle.stretch.specs.Reach.{entryMost, rowFrom, writesKeys, Leaves}
 use Rattle.stretch.specs.Laws.{cell-used, cell-free, wf-fits}
 use Rattle.groups.specs.declared.Slot.{Slot}
 use Rattle.groups.specs.declared.Slot.the-variants.{At, Free, Full}
 use Rattle.groups.specs.Area.{slots, numbersInUse, bytesInUse, stretchAt, bytesAt, cellAt, cells, groupsOf, Wf, Only, isOf, AtSlot, FreeSlot, NoSlot, Found, OnlySlot}
-use Rattle.groups.specs.Undo.{liveNumbers, liveBytes, markAt, undoneCells, Undoable, Secured}
-use Rattle.groups.specs.AreaLaws.{length-cells, getD-cells, Alike, same-back, same-cell, same-cells, same-groups, same-wf, same-found, same-stretch, same-bytes, front-fits, only-none, only-set, first-set, only-length, only-length-bytes, only-other, only-drop, only-drop-bytes}
-use Rattle.groups.specs.UndoLaws.{same-mark, same-undone, same-undoneCells, Spares, same-undoable}
+use Rattle.groups.specs.Calls.{RowsStay, ChangeLeaves, RemovalLeaves}
+use Rattle.groups.specs.Undo.{liveNumbers, liveBytes, markAt, lowOf, undoneCells, Undoable, Covers, ReadyFor, ReadyToGo}
+use Rattle.groups.specs.AreaLaws.{length-cells, getD-cells, Same, Alike, same-back, same-cells, same-groups, same-wf, same-found, same-stretch, same-bytes, front-fits, only-none, only-set, first-set, only-length, only-length-bytes, only-other, only-drop, only-drop-bytes}
+use Rattle.groups.specs.UndoLaws.{by-mark, same-undone, same-undoneCells, Stays, same-stays, all-stay, left-stays}
 
 -- ---- where a group stands
 
@@ -164,16 +168,11 @@ module _ (xs bs ys ds : List ℕ) (p : take numbersInUse xs ≡ take numbersInUs
 
   pub front-undone : undoneCells xs bs ≡ undoneCells ys ds
   front-undone =
-      same-undoneCells xs bs ys ds (λ k l. same-undone k (front-alike (slots + k) (omega arith)) (λ z. same-cell (front-alike k (omega arith))))
+      same-undoneCells xs bs ys ds (λ k l. same-undone k (front-alike k (omega arith)) (front-alike (slots + k) (omega arith)))
 
   pub front-undoable : Undoable xs bs → Undoable ys ds
-  front-undoable u = same-undoable (λ k l. front-alike (slots + k) (omega arith)) front-undone u
-
-  pub front-secured : (g : ℕ) (slot : Slot) → Found g xs slot → Secured slot xs → Secured slot ys
-  unfolding Found Secured
-  front-secured g (At k) f s = let b = f .inside in rw (same-mark k (front-alike (slots + k) (omega arith))) at s
-  front-secured g (Free k) f s = let b = f .inside in rw (same-mark k (front-alike (slots + k) (omega arith))) at s
-  front-secured g Full f s = tt
+  front-undoable u =
+      all-stay (λ k l. same-stays k l u (front-alike k (omega arith)) (front-alike (slots + k) (omega arith))) u .1
 
 -- the map is that of the cells
 pub cells-groups : (xs bs : List ℕ) (cs : List (Cell Table)) → cells xs bs ≡ cs → groupsOf xs bs ≡ mapOf cs
@@ -211,21 +210,41 @@ module _ (k : ℕ) (xs bs xs′ bs′ : List ℕ) (l : k < 16) (p : numbersInUse
         bytes-length = only-length-bytes l p q o;
       }
 
--- the spare stretches stay
-only-spares : (k : ℕ) (xs bs xs′ bs′ : List ℕ) → k < slots → numbersInUse ≤ length xs → bytesInUse ≤ length bs → Only k xs bs xs′ bs′ → Spares xs bs xs′ bs′
-only-spares k xs bs xs′ bs′ l p q o j h = same-back (only-other (omega arith) p q o (slots + j) (λ e. omega arith))
+-- what the stretches go back to stays, if that of stretch k does
+module _ (k : ℕ) (xs bs xs′ bs′ : List ℕ) (l : k < slots) (p : numbersInUse ≤ length xs) (q : bytesInUse ≤ length bs) (o : Only k xs bs xs′ bs′) (u : Undoable xs bs) where
+  other-same : (j : ℕ) → (j ≡ k → ⊥) → Same j xs bs xs′ bs′
+  other-same j d = same-back (only-other (omega arith) p q o j d)
 
--- what the stretches go back to stays, if the spare ones do and each stretch that is not marked
-kept-undone : (xs bs xs′ bs′ : List ℕ) → Spares xs bs xs′ bs′ → ((k : ℕ) → k < slots → markAt k xs ≡ 0 → cellAt k xs bs ≡ cellAt k xs′ bs′) → Undoable xs bs → (undoneCells xs′ bs′ ≡ undoneCells xs bs) × Undoable xs′ bs′
-kept-undone xs bs xs′ bs′ s f u =
-    let e = same-undoneCells xs bs xs′ bs′ (λ k l. same-undone k (s k l) (f k l)) in (sym e, same-undoable s e u)
+  stretch-undone : Stays k xs bs xs′ bs′ → (undoneCells xs′ bs′ ≡ undoneCells xs bs) × Undoable xs′ bs′
+  stretch-undone t =
+      all-stay (λ j h.
+      split (eqb j k)
+      (λ e. rw (eqb-true j k e) t)
+      (λ e. same-stays j h u (other-same j (eqb-false j k e)) (other-same (slots + j) (λ d. omega arith)))) u
 
-only-undone : (k : ℕ) (xs bs xs′ bs′ : List ℕ) → k < slots → numbersInUse ≤ length xs → bytesInUse ≤ length bs → Only k xs bs xs′ bs′ → (markAt k xs ≡ 0 → cellAt k xs bs ≡ cellAt k xs′ bs′) → Undoable xs bs → (undoneCells xs′ bs′ ≡ undoneCells xs bs) × Undoable xs′ bs′
-only-undone k xs bs xs′ bs′ l p q o f u =
-    kept-undone xs bs xs′ bs′ (only-spares k xs bs xs′ bs′ l p q o) (λ j h z.
-    split (eqb j k)
-    (λ e. let d = eqb-true j k e in rw d (f (rw d at z)))
-    (λ e. sym (same-cell (only-other (omega arith) p q o j (eqb-false j k e))))) u
+  -- a change that leaves what the spare does not hold
+  left-undone-at : (n : ℕ) (written : Bool) → Leaves n written (stretchAt k xs) (bytesAt k bs) (stretchAt k xs′) (bytesAt k bs′)
+      → lowOf (markAt k xs) ≤ n → (written ≡ true → markAt k xs % 2 ≡ 1) → (markAt k xs ≡ 0 → cellAt k xs′ bs′ ≡ cellAt k xs bs)
+      → (undoneCells xs′ bs′ ≡ undoneCells xs bs) × Undoable xs′ bs′
+  left-undone-at n written v low keys f =
+      stretch-undone (left-stays k n written (other-same (slots + k) (λ d. omega arith)) v low keys l u f)
+
+  covered-undone : (n : ℕ) (written : Bool) → Leaves n written (stretchAt k xs) (bytesAt k bs) (stretchAt k xs′) (bytesAt k bs′) → Covers (markAt k xs) n written
+      → (undoneCells xs′ bs′ ≡ undoneCells xs bs) × Undoable xs′ bs′
+  covered-undone n written v c = left-undone-at n written v (c .rows) (c .keys) (λ z. absurd (omega (arith, c .marked)))
+
+  -- the rows of entries and the keys are left, and the cell unless there is a mark
+  header-undone : Leaves entryMost false (stretchAt k xs) (bytesAt k bs) (stretchAt k xs′) (bytesAt k bs′) → (markAt k xs ≡ 0 → cellAt k xs′ bs′ ≡ cellAt k xs bs)
+      → (undoneCells xs′ bs′ ≡ undoneCells xs bs) × Undoable xs′ bs′
+  header-undone v f =
+      by-mark (markAt k xs)
+      (λ z. left-undone-at entryMost false v (omega arith) (λ e. absurd (clash e)) f)
+      (λ z. left-undone-at entryMost false v (omega arith) (λ e. absurd (clash e)) f)
+      (λ h. let a = u .saved k l h in left-undone-at entryMost false v (omega (arith, a .rows, a .room)) (λ e. absurd (clash e)) f)
+
+-- nothing is left
+none-left : (p b p′ b′ : List ℕ) → Leaves 0 true p b p′ b′
+none-left p b p′ b′ = record { rows = refl; keys = λ e. absurd (clash (sym e)) }
 
 -- a stretch that was freed
 pub freed : (k : ℕ) (xs bs : List ℕ) → k < slots → numbersInUse ≤ length xs → bytesInUse ≤ length bs → (isUsed (stretchAt k (set xs (k * stretchWidth) 0)) ≡ false) × Only k xs bs (set xs (k * stretchWidth) 0) bs
@@ -247,16 +266,28 @@ module _ (g : ℕ) (slot : Slot) (xs bs xs′ bs′ : List ℕ) (f : Found g xs 
   pub slot-behind : Behind xs bs xs′ bs′
   slot-behind = let c = slot-only g slot xs bs xs′ bs′ f p q o in only-behind (c .0) xs bs xs′ bs′ (omega (arith, c .1)) p q (c .2)
 
-  -- the cells are as they were, and so is what they go back to
-  pub left-undone : cells xs′ bs′ ≡ cells xs bs → Undoable xs bs → (undoneCells xs′ bs′ ≡ undoneCells xs bs) × Undoable xs′ bs′
-  left-undone e u =
-      let c = slot-only g slot xs bs xs′ bs′ f p q o in
-      only-undone (c .0) xs bs xs′ bs′ (c .1) p q (c .2) (λ z.
-      sym (getD-cells (c .0) xs bs (c .1)) ∙ ap (λ (l : List (Cell Table)). getD l (c .0) none) (sym e) ∙ getD-cells (c .0) xs′ bs′ (c .1)) u
+-- a cell is as it was where all are
+cell-stays : (k : ℕ) (xs bs xs′ bs′ : List ℕ) → k < slots → cells xs′ bs′ ≡ cells xs bs → cellAt k xs′ bs′ ≡ cellAt k xs bs
+cell-stays k xs bs xs′ bs′ l e =
+    sym (getD-cells k xs′ bs′ l) ∙ ap (λ (c : List (Cell Table)). getD c k none) e ∙ getD-cells k xs bs l
 
--- a secured slot may be written: what the stretches go back to is as it was
-pub secured-undone : (g : ℕ) (slot : Slot) (xs bs xs′ bs′ : List ℕ) → Found g xs slot → numbersInUse ≤ length xs → bytesInUse ≤ length bs → OnlySlot slot xs bs xs′ bs′ → Secured slot xs → Undoable xs bs → (undoneCells xs′ bs′ ≡ undoneCells xs bs) × Undoable xs′ bs′
-unfolding Found OnlySlot Secured
-secured-undone g (At k) xs bs xs′ bs′ f p q o s u = only-undone k xs bs xs′ bs′ (f .inside) p q o (λ z. absurd (eqb-false _ 0 s z)) u
-secured-undone g (Free k) xs bs xs′ bs′ f p q o s u = only-undone k xs bs xs′ bs′ (f .inside) p q o (λ z. absurd (eqb-false _ 0 s z)) u
-secured-undone g Full xs bs xs′ bs′ f p q o s u = rw (o .0, o .1) (refl, u)
+-- the cells are as they were, and the rows and keys of the slot's stretch; so is what they go back to
+pub left-undone : (g : ℕ) (slot : Slot) (xs bs xs′ bs′ : List ℕ) → Found g xs slot → numbersInUse ≤ length xs → bytesInUse ≤ length bs → OnlySlot slot xs bs xs′ bs′ → RowsStay slot xs bs xs′ bs′ → cells xs′ bs′ ≡ cells xs bs → Undoable xs bs → (undoneCells xs′ bs′ ≡ undoneCells xs bs) × Undoable xs′ bs′
+unfolding Found OnlySlot RowsStay
+left-undone g (At k) xs bs xs′ bs′ f p q o v e u = header-undone k xs bs xs′ bs′ (f .inside) p q o u v (λ z. cell-stays k xs bs xs′ bs′ (f .inside) e)
+left-undone g (Free k) xs bs xs′ bs′ f p q o v e u = header-undone k xs bs xs′ bs′ (f .inside) p q o u v (λ z. cell-stays k xs bs xs′ bs′ (f .inside) e)
+left-undone g Full xs bs xs′ bs′ f p q o v e u = rw (o .0, o .1) (refl, u)
+
+-- a slot that is ready for a change may be changed: what the stretches go back to is as it was
+pub changed-undone : (c : Change) (g : ℕ) (slot : Slot) (xs bs xs′ bs′ : List ℕ) → Found g xs slot → numbersInUse ≤ length xs → bytesInUse ≤ length bs → OnlySlot slot xs bs xs′ bs′ → ChangeLeaves c slot xs bs xs′ bs′ → ReadyFor c slot xs → Undoable xs bs → (undoneCells xs′ bs′ ≡ undoneCells xs bs) × Undoable xs′ bs′
+unfolding Found OnlySlot ChangeLeaves ReadyFor
+changed-undone c g (At k) xs bs xs′ bs′ f p q o v r u = covered-undone k xs bs xs′ bs′ (f .inside) p q o u (rowFrom c (headIn (stretchAt k xs))) (writesKeys c) v r
+changed-undone c g (Free k) xs bs xs′ bs′ f p q o v r u = covered-undone k xs bs xs′ bs′ (f .inside) p q o u 0 true (none-left (stretchAt k xs) (bytesAt k bs) (stretchAt k xs′) (bytesAt k bs′)) r
+changed-undone c g Full xs bs xs′ bs′ f p q o v r u = rw (o .0, o .1) (refl, u)
+
+-- the same of a removal
+pub removed-undone : (g : ℕ) (slot : Slot) (xs bs xs′ : List ℕ) → Found g xs slot → numbersInUse ≤ length xs → bytesInUse ≤ length bs → OnlySlot slot xs bs xs′ bs → RemovalLeaves slot xs bs xs′ → ReadyToGo slot xs → Undoable xs bs → (undoneCells xs′ bs ≡ undoneCells xs bs) × Undoable xs′ bs
+unfolding Found OnlySlot RemovalLeaves ReadyToGo
+removed-undone g (At k) xs bs xs′ f p q o v r u = header-undone k xs bs xs′ bs (f .inside) p q o u v (λ z. absurd (omega arith))
+removed-undone g (Free k) xs bs xs′ f p q o v r u = rw v (refl, u)
+removed-undone g Full xs bs xs′ f p q o v r u = rw v (refl, u)

@@ -2,6 +2,7 @@
 pub mod Area
 pub mod Calls
 pub mod Undo
+pub mod BackLaws
 pub mod PlaceLaws
 pub mod Laws
 pub mod AreaLaws

@@ -9,7 +9,7 @@ ghost use Rattle.rules.specs.Table.{made};
 ghost use Rattle.stretch.specs.Stretch.{isUsed, madeHeader, tableIn};
 ghost use Rattle.stretch.specs.Changes.{ruleOf, Ready};
 ghost use Rattle.groups.specs.Area.{stretchAt, bytesAt, groupsOf, Wf, Found};
-ghost use Rattle.groups.specs.Calls.{ChangedAt, ChangedGroup, RemovedGroup};
+ghost use Rattle.groups.specs.Calls.{ChangedAt, ChangedGroup, RemovedGroup, LeavesStretch, LeavesSlot};
 use crate::Slot;
 use stretch::BYTES;
 use stretch::Change;
@@ -32,6 +32,7 @@ fn apply_at(
     requires { ⌜ (k < 8) × (isUsed (stretchAt k (now xs)) ≡ true) ⌝ }
     requires { ⌜ Ready change (now rows) (now key) (now value) (tableIn (stretchAt k (now xs)) (bytesAt k (now bs))) ⌝ }
     ensures { λ r. ⌜ ChangedAt (ruleOf change (now (rows .entry)) (now (key .entry)) (now (value .entry))) k (now (xs .entry)) (now (bs .entry)) r (now (xs .exit)) (now (bs .exit)) ⌝ }
+    ensures { λ _. ⌜ LeavesStretch change k (now (xs .entry)) (now (bs .entry)) (now (xs .exit)) (now (bs .exit)) ⌝ }
 {
     let a = k * STRETCH;
     let e = a + STRETCH;
@@ -81,6 +82,7 @@ fn apply_made(
     requires { ⌜ Found group (now xs) (Slot.Free k) ⌝ }
     requires { ⌜ Ready change (now rows) (now key) (now value) (made (lookup numbers group (groupsOf (now xs) (now bs)))) ⌝ }
     ensures { λ r. ⌜ ChangedGroup (ruleOf change (now (rows .entry)) (now (key .entry)) (now (value .entry))) group (Slot.Free k) (now (xs .entry)) (now (bs .entry)) r (now (xs .exit)) (now (bs .exit)) ⌝ }
+    ensures { λ r. ⌜ LeavesSlot change (Slot.Free k) (now (xs .entry)) (now (bs .entry)) r (now (xs .exit)) (now (bs .exit)) ⌝ }
 {
     make_at(xs, k, group);
     let answer = apply_at(xs, bs, k, change, rows, key, value);
@@ -108,6 +110,7 @@ pub fn apply(
     requires { ⌜ Found group (now xs) slot ⌝ }
     requires { ⌜ Ready change (now rows) (now key) (now value) (made (lookup numbers group (groupsOf (now xs) (now bs)))) ⌝ }
     ensures { λ r. ⌜ ChangedGroup (ruleOf change (now (rows .entry)) (now (key .entry)) (now (value .entry))) group slot (now (xs .entry)) (now (bs .entry)) r (now (xs .exit)) (now (bs .exit)) ⌝ }
+    ensures { λ r. ⌜ LeavesSlot change slot (now (xs .entry)) (now (bs .entry)) r (now (xs .exit)) (now (bs .exit)) ⌝ }
 {
     match slot {
         Slot::At(k) => apply_at(xs, bs, k, change, rows, key, value),

@@ -9,6 +9,7 @@ pub use calls::remove;
 pub use search::find;
 pub use undoing::begin;
 pub use undoing::secure;
+pub use undoing::secure_removal;
 pub use undoing::undo;
 
 // How many groups there can be.

@@ -1,5 +1,5 @@
 -- A deed on the groups of an area: what finding, securing and changing a group give together. Assumes nothing.
-use mathlib.Core.Bool.{Bool, true, false}
+use mathlib.Core.Bool.{Bool, true}
 use mathlib.Core.List.{List}
 use mathlib.Core.Path.{_≡_, refl, sym, ap, _∙_}
 use Prim.Native.Nat.{ℕ}
@@ -13,18 +13,18 @@ use Rattle.stretch.specs.declared.Outcome.{Outcome}
 use Rattle.stretch.specs.declared.Outcome.the-variants.{Done, Refused}
 use Rattle.stretch.specs.Changes.{ruleOf, Ready}
 use Rattle.groups.specs.declared.Slot.{Slot}
-use Rattle.groups.specs.Area.{cells, groupsOf, Wf, Found, OnlySlot}
-use Rattle.groups.specs.Calls.{onGroup, ChangedGroup, RemovedGroup}
-use Rattle.groups.specs.Undo.{Undoable, Securing}
-use Rattle.groups.specs.Laws.{live-found, slot-behind, left-undone, secured-undone}
+use Rattle.groups.specs.Area.{groupsOf, Wf, Found, OnlySlot}
+use Rattle.groups.specs.Calls.{onGroup, ChangedGroup, RemovedGroup, LeavesSlot}
+use Rattle.groups.specs.Undo.{undoneCells, Undoable, ReadyFor, ReadyToGo, Securing}
+use Rattle.groups.specs.Laws.{live-found, slot-behind, left-undone, changed-undone, removed-undone}
 use Rattle.stretch.specs.declared.Change.{Change}
 use Rattle.deeds.specs.declared.Deed as deed
 use Rattle.index.specs.Acts.{deedOn, UndoKept, BehindKept, SecuredUnless, Acted}
 use Rattle.deeds.specs.Deeds.{DeedReady}
 
 -- nothing is secured where no item follows
-pub unsecured : (last : Bool) (slot : Slot) (xs bs : List ℕ) → last ≡ true → Wf xs bs → Undoable xs bs → SecuredUnless last slot xs bs xs bs
-unsecured last slot xs bs e w u =
+pub unsecured : (last : Bool) (asked : List ℕ → Type 0) (xs bs : List ℕ) → last ≡ true → Wf xs bs → Undoable xs bs → SecuredUnless last asked xs bs xs bs
+unsecured last asked xs bs e w u =
     record {
       live = refl;
       cells-stay = refl;
@@ -35,8 +35,8 @@ unsecured last slot xs bs e w u =
       wf = w;
     }
 
-pub secured-by : (last : Bool) (slot : Slot) (xs bs ys ds : List ℕ) → Securing slot xs bs ys ds → SecuredUnless last slot xs bs ys ds
-secured-by last slot xs bs ys ds s =
+pub secured-by : (last : Bool) (asked : List ℕ → Type 0) (xs bs ys ds : List ℕ) → Securing asked xs bs ys ds → SecuredUnless last asked xs bs ys ds
+secured-by last asked xs bs ys ds s =
     record {
       live = s .live;
       cells-stay = s .cells-stay;
@@ -62,7 +62,7 @@ skipped last xs bs w u =
       wf = w;
     }
 
-module _ (g : ℕ) (slot : Slot) (last : Bool) (xs bs ys ds : List ℕ) (f : Found g xs slot) (s : SecuredUnless last slot xs bs ys ds) where
+module _ (g : ℕ) (slot : Slot) (last : Bool) (asked : List ℕ → Type 0) (xs bs ys ds : List ℕ) (f : Found g xs slot) (s : SecuredUnless last asked xs bs ys ds) where
   -- the group is found where it was
   pub found-still : Found g ys slot
   found-still = live-found g slot xs ys (s .live) f
@@ -71,47 +71,54 @@ module _ (g : ℕ) (slot : Slot) (last : Bool) (xs bs ys ds : List ℕ) (f : Fou
   unfolding groupsOf
   groups-stay = ap mapOf (s .cells-stay)
 
-  module _ (zs es : List ℕ) (o : OnlySlot slot ys ds zs es) where
-    behind-all : BehindKept xs bs zs es
-    behind-all =
-        let b = slot-behind g slot ys ds zs es found-still (s .wf .numbers-fit) (s .wf .bytes-fit) o in
-        record { numbers = b .numbers ∙ s .behind .numbers; bytes = b .bytes ∙ s .behind .bytes }
+  behind-all : (zs es : List ℕ) → OnlySlot slot ys ds zs es → BehindKept xs bs zs es
+  behind-all zs es o =
+      let b = slot-behind g slot ys ds zs es found-still (s .wf .numbers-fit) (s .wf .bytes-fit) o in
+      record { numbers = b .numbers ∙ s .behind .numbers; bytes = b .bytes ∙ s .behind .bytes }
 
-    undo-kept : last ≡ false → UndoKept xs bs zs es
-    undo-kept l =
-        let k = secured-undone g slot ys ds zs es found-still (s .wf .numbers-fit) (s .wf .bytes-fit) o (s .secured l) (s .undoable) in
-        record { undone = k .0 ∙ s .undone; undoable = k .1 }
-
-    undo-left : cells zs es ≡ cells ys ds → UndoKept xs bs zs es
-    undo-left e =
-        let k = left-undone g slot ys ds zs es found-still (s .wf .numbers-fit) (s .wf .bytes-fit) o e (s .undoable) in
-        record { undone = k .0 ∙ s .undone; undoable = k .1 }
-
-  pub acted-clean : (zs : List ℕ) → RemovedGroup g slot ys ds zs → Acted (λ m. ok (remove numbers g m)) last xs bs Done zs ds
-  acted-clean zs r =
-      record {
-        rule = ap ok (r .rule ∙ ap (remove numbers g) groups-stay);
-        left = λ n e. absurd (done-not-refused n e);
-        left-undo = λ n e. absurd (done-not-refused n e);
-        kept = undo-kept zs ds (r .only);
-        behind = behind-all zs ds (r .only);
-        wf = r .wf;
-      }
-
-  pub acted-change : (by : Table → Result Table) (r : Outcome) (zs es : List ℕ) → ChangedGroup by g slot ys ds r zs es → Acted (onGroup by g) last xs bs r zs es
-  acted-change by r zs es a =
-      record {
-        rule = a .rule ∙ ap (onGroup by g) groups-stay;
-        left = λ n e. a .left n e ∙ s .cells-stay;
-        left-undo = λ n e. undo-left zs es (a .only) (a .left n e);
-        kept = undo-kept zs es (a .only);
-        behind = behind-all zs es (a .only);
-        wf = a .wf;
-      }
+  -- what they went back to before the slot was secured
+  undo-kept : (zs es : List ℕ) → (undoneCells zs es ≡ undoneCells ys ds) × Undoable zs es → UndoKept xs bs zs es
+  undo-kept zs es k = record { undone = k .0 ∙ s .undone; undoable = k .1 }
 
   -- what a change asks of the group is there still
   pub ready-still : (P : Table → Type 0) → P (made (lookup numbers g (groupsOf xs bs))) → P (made (lookup numbers g (groupsOf ys ds)))
   ready-still P r = rw groups-stay r
+
+module _ (g : ℕ) (slot : Slot) (last : Bool) (xs bs ys ds : List ℕ) (f : Found g xs slot) where
+  pub acted-clean : SecuredUnless last (ReadyToGo slot) xs bs ys ds → (zs : List ℕ) → RemovedGroup g slot ys ds zs → Acted (λ m. ok (remove numbers g m)) last xs bs Done zs ds
+  acted-clean s zs r =
+      let found = found-still g slot last (ReadyToGo slot) xs bs ys ds f s in
+      record {
+        rule = ap ok (r .rule ∙ ap (remove numbers g) (groups-stay g slot last (ReadyToGo slot) xs bs ys ds f s));
+        left = λ n e. absurd (done-not-refused n e);
+        left-undo = λ n e. absurd (done-not-refused n e);
+        kept =
+            λ l.
+            undo-kept g slot last (ReadyToGo slot) xs bs ys ds f s zs ds
+            (removed-undone g slot ys ds zs found (s .wf .numbers-fit) (s .wf .bytes-fit) (r .only) (r .leaves) (s .secured l) (s .undoable));
+        behind = behind-all g slot last (ReadyToGo slot) xs bs ys ds f s zs ds (r .only);
+        wf = r .wf;
+      }
+
+  pub acted-change : (c : Change) (by : Table → Result Table) → SecuredUnless last (ReadyFor c slot) xs bs ys ds → (r : Outcome) (zs es : List ℕ) → ChangedGroup by g slot ys ds r zs es → LeavesSlot c slot ys ds r zs es → Acted (onGroup by g) last xs bs r zs es
+  acted-change c by s r zs es a v =
+      let found = found-still g slot last (ReadyFor c slot) xs bs ys ds f s in
+      let p = s .wf .numbers-fit in
+      let q = s .wf .bytes-fit in
+      record {
+        rule = a .rule ∙ ap (onGroup by g) (groups-stay g slot last (ReadyFor c slot) xs bs ys ds f s);
+        left = λ n e. a .left n e ∙ s .cells-stay;
+        left-undo =
+            λ n e.
+            undo-kept g slot last (ReadyFor c slot) xs bs ys ds f s zs es
+            (left-undone g slot ys ds zs es found p q (a .only) (v .refused n e) (a .left n e) (s .undoable));
+        kept =
+            λ l.
+            undo-kept g slot last (ReadyFor c slot) xs bs ys ds f s zs es
+            (changed-undone c g slot ys ds zs es found p q (a .only) (v .done) (s .secured l) (s .undoable));
+        behind = behind-all g slot last (ReadyFor c slot) xs bs ys ds f s zs es (a .only);
+        wf = a .wf;
+      }
 
 -- ---- by the deed
 

@@ -10,11 +10,10 @@ use Rattle.rules.specs.Table.{Table}
 use Rattle.stretch.specs.declared.Outcome.{Outcome}
 use Rattle.stretch.specs.declared.Outcome.the-variants.{Refused}
 use Rattle.stretch.specs.Changes.{outcomeAs, ruleOf}
-use Rattle.groups.specs.declared.Slot.{Slot}
 use Rattle.groups.specs.Area.{numbersInUse, bytesInUse, cells, groupsOf}
 use Rattle.groups.specs.Area as groups
 use Rattle.groups.specs.Calls.{onGroup}
-use Rattle.groups.specs.Undo.{liveNumbers, undoneCells, Undoable, Secured}
+use Rattle.groups.specs.Undo.{liveNumbers, undoneCells, Undoable}
 use Rattle.deeds.specs.declared.Deed as deed
 
 -- what a deed does to the groups
@@ -33,13 +32,13 @@ pub record BehindKept (xs bs xs′ bs′ : List ℕ) : Type 0 where
   pub numbers : drop numbersInUse xs′ ≡ drop numbersInUse xs
   pub bytes : drop bytesInUse bs′ ≡ drop bytesInUse bs
 
--- a slot is secured, unless no item follows; what the stretches are and go back to is as it was
-pub record SecuredUnless (last : Bool) (slot : Slot) (xs bs xs′ bs′ : List ℕ) : Type 0 where
+-- what is asked for may be written, unless no item follows; what the stretches are and go back to is as it was
+pub record SecuredUnless (last : Bool) (asked : List ℕ → Type 0) (xs bs xs′ bs′ : List ℕ) : Type 0 where
   pub live : take liveNumbers xs′ ≡ take liveNumbers xs
   pub cells-stay : cells xs′ bs′ ≡ cells xs bs
   pub undone : undoneCells xs′ bs′ ≡ undoneCells xs bs
   pub undoable : Undoable xs′ bs′
-  pub secured : last ≡ false → Secured slot xs′
+  pub secured : last ≡ false → asked xs′
   pub behind : BehindKept xs bs xs′ bs′
   pub wf : groups.Wf xs′ bs′
 

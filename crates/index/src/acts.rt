@@ -1,7 +1,5 @@
 // What an item does to its group, over the stretches of an area. `last`: no item follows whose refusal would undo it, so nothing
 // is copied to go back to.
-ghost use Prim.Native.Nat.{_≤_};
-ghost use lib.ListN.{length};
 ghost use Rattle.maps.specs.Maps.{lookup, numbers, remove};
 ghost use Rattle.rules.specs.Causes.{ok};
 ghost use Rattle.rules.specs.Table.{made};
@@ -9,7 +7,7 @@ ghost use Rattle.stretch.specs.Changes.{ruleOf, Ready};
 ghost use Rattle.groups.specs.Area.{groupsOf, Found};
 ghost use Rattle.groups.specs.Area as groups·area;
 ghost use Rattle.groups.specs.Calls.{onGroup};
-ghost use Rattle.groups.specs.Undo.{Undoable};
+ghost use Rattle.groups.specs.Undo.{Undoable, ReadyFor, ReadyToGo};
 ghost use Rattle.index.specs.Acts.{deedOn, SecuredUnless, Acted};
 ghost use Rattle.deeds.specs.Deeds.{DeedReady};
 use deeds::Deed;
@@ -17,17 +15,30 @@ use groups::Slot;
 use stretch::Change;
 use stretch::Outcome;
 
-// Makes sure that what stands at a slot can be gone back to, unless no item follows.
-fn secure_unless(last: bool, xs: &mut [u64], bs: &mut [u8], slot: Slot, group: u64)
+// Makes sure that what a change overwrites at a slot can be gone back to, unless no item follows.
+fn secure_unless(last: bool, xs: &mut [u64], bs: &mut [u8], slot: Slot, group: u64, change: Change)
     requires { ⌜ groups·area.Wf (now xs) (now bs) ⌝ }
     requires { ⌜ Undoable (now xs) (now bs) ⌝ }
     requires { ⌜ Found group (now xs) slot ⌝ }
-    ensures { λ _. ⌜ SecuredUnless last slot (now (xs .entry)) (now (bs .entry)) (now (xs .exit)) (now (bs .exit)) ⌝ }
+    ensures { λ _. ⌜ SecuredUnless last (ReadyFor change slot) (now (xs .entry)) (now (bs .entry)) (now (xs .exit)) (now (bs .exit)) ⌝ }
 {
     if last {
         return;
     }
-    groups::secure(xs, bs, slot, group);
+    groups::secure(xs, bs, slot, group, change);
+}
+
+// Makes sure that the group at a slot can be gone back to when it is removed, unless no item follows.
+fn secure_removal_unless(last: bool, xs: &mut [u64], bs: &[u8], slot: Slot, group: u64)
+    requires { ⌜ groups·area.Wf (now xs) (now bs) ⌝ }
+    requires { ⌜ Undoable (now xs) (now bs) ⌝ }
+    requires { ⌜ Found group (now xs) slot ⌝ }
+    ensures { λ _. ⌜ SecuredUnless last (ReadyToGo slot) (now (xs .entry)) (now (bs .entry)) (now (xs .exit)) (now (bs .entry)) ⌝ }
+{
+    if last {
+        return;
+    }
+    groups::secure_removal(xs, bs, slot, group);
 }
 
 // Removes a group.
@@ -37,7 +48,7 @@ fn clean(xs: &mut [u64], bs: &mut [u8], group: u64, last: bool) -> Outcome
     ensures { λ r. ⌜ Acted (λ m. ok (remove numbers group m)) last (now (xs .entry)) (now (bs .entry)) r (now (xs .exit)) (now (bs .exit)) ⌝ }
 {
     let slot = groups::find(xs, group);
-    secure_unless(last, xs, bs, slot, group);
+    secure_removal_unless(last, xs, bs, slot, group);
     groups::remove(xs, slot, group);
     Outcome::Done
 }
@@ -59,7 +70,7 @@ fn change_group(
     ensures { λ r. ⌜ Acted (onGroup (ruleOf change (now (rows .entry)) (now (key .entry)) (now (value .entry))) group) last (now (xs .entry)) (now (bs .entry)) r (now (xs .exit)) (now (bs .exit)) ⌝ }
 {
     let slot = groups::find(xs, group);
-    secure_unless(last, xs, bs, slot, group);
+    secure_unless(last, xs, bs, slot, group, change);
     groups::apply(xs, bs, slot, group, change, rows, key, value)
 }
 

@@ -1,4 +1,7 @@
 // The kind and the lists of a context: tombstones and cleaned numbers. They stand behind the groups of an area.
+mod cleaned;
+
+pub use cleaned::copy_cleaned;
 ghost use mathlib.Core.List.{List, []};
 ghost use mathlib.Core.Path.{_≡_};
 ghost use Prim.Native.Nat.{ℕ, _+_, _≤_, _<_};

@@ -15,17 +15,16 @@ use Rattle.pipe_log.specs.Numbers.{boundOf}
 use Rattle.pipe_log.specs.Rows.{withIndex, window}
 use Rattle.rules.specs.Causes.{Result, ok, refuse, andThen, entryCompacted, entryNotFound}
 use Rattle.rules.specs.Items.{EntryIndex}
-use Rattle.maps.specs.Maps.{Map}
-use Rattle.rules.specs.Table.{Held, firstIndex}
+use Rattle.rules.specs.Table.{firstIndex}
 use Rattle.rules.specs.TableQueries.{within, sized, fetchEntriesTo, fetchEntryIndexesBefore, fetchRewrittenEntryIndexes}
 use Rattle.maps.specs.BoolLaws.{and-false}
 use Rattle.memtable.specs.declared.Head.{Head}
 use Rattle.memtable.specs.declared.Fetched.{Fetched}
 use Rattle.memtable.specs.declared.Fetched.the-variants as answer
-use Rattle.memtable.specs.declared.fetch.Range.{the-variants.Rows, the-variants.EntryCompacted, the-variants.EntryNotFound}
+use Rattle.memtable.specs.declared.Range.{Range, the-variants.Rows, the-variants.EntryCompacted, the-variants.EntryNotFound}
 use Rattle.memtable.specs.Views.{tableOf, rowAt, AnyRows, Wf}
 use Rattle.memtable.specs.Columns.{Columns, judged, columnsAfter, Answered}
-use Rattle.memtable.specs.Fetches.{entriesAt, RangeAnswer}
+use Rattle.memtable.specs.Fetches.{entriesAt, rangeOf, RangeAnswer}
 use Rattle.memtable.specs.Scans.{countBefore, sizeCount}
 use Rattle.memtable.specs.ListLaws.{select-append, select-all, select-none}
 use Rattle.memtable.specs.RowLaws.{held-row, any-drop}
@@ -63,20 +62,20 @@ module _ (f n begin end : ℕ) (xs : List ℕ) (a : f ≤ begin) (b : begin ≤ 
       )
       (append-nil (window (f + (begin - f)) (end - begin) (drop ((begin - f) * 8) xs)))
 
--- ---- `fetch_range`
+-- ---- `range_to`
 
 module _ (h : Head) (xs : List ℕ) (begin end : ℕ) (s : Bound) where
-  pub range-empty : end ≤ begin → RangeAnswer h xs begin end s (Rows 0 0)
+  pub range-empty : end ≤ begin → RangeAnswer h xs (fetchEntriesTo begin end (boundOf s)) (Rows 0 0)
   unfolding fetchEntriesTo entriesAt window
   range-empty l = record { rule = λ keys counted. rw (le-leb end begin l); within = omega arith }
 
   module _ (l : begin < end) where
-    pub range-none : h .len ≡ 0 → RangeAnswer h xs begin end s EntryNotFound
+    pub range-none : h .len ≡ 0 → RangeAnswer h xs (fetchEntriesTo begin end (boundOf s)) EntryNotFound
     unfolding fetchEntriesTo tableOf window firstIndex mapOption first orElse
     range-none e = record { rule = λ keys counted. rw (lt-leb end begin l, e); within = omega arith }
 
     module _ (n : h .len ≡ 0 → ⊥) where
-      pub range-compacted : begin < h .«first_index» → RangeAnswer h xs begin end s EntryCompacted
+      pub range-compacted : begin < h .«first_index» → RangeAnswer h xs (fetchEntriesTo begin end (boundOf s)) EntryCompacted
       unfolding fetchEntriesTo tableOf orElse
       range-compacted c =
           record {
@@ -86,7 +85,7 @@ module _ (h : Head) (xs : List ℕ) (begin end : ℕ) (s : Bound) where
           }
 
       module _ (c : h .«first_index» ≤ begin) where
-        pub range-above : h .«first_index» + h .len < end → RangeAnswer h xs begin end s EntryNotFound
+        pub range-above : h .«first_index» + h .len < end → RangeAnswer h xs (fetchEntriesTo begin end (boundOf s)) EntryNotFound
         unfolding fetchEntriesTo tableOf orElse
         range-above d =
             record {
@@ -102,7 +101,7 @@ module _ (h : Head) (xs : List ℕ) (begin end : ℕ) (s : Bound) where
             }
 
         range-rows : (m : ℕ) → end ≤ h .«first_index» + h .len → m ≤ end - begin → entriesAt (begin - h .«first_index») m h xs ≡ sized (boundOf s) (entriesAt (begin - h .«first_index») (end - begin) h xs)
-            → RangeAnswer h xs begin end s (Rows (begin - h .«first_index») m)
+            → RangeAnswer h xs (fetchEntriesTo begin end (boundOf s)) (Rows (begin - h .«first_index») m)
         unfolding fetchEntriesTo tableOf orElse entriesAt
         range-rows m d b e =
             record {
@@ -119,12 +118,12 @@ module _ (h : Head) (xs : List ℕ) (begin end : ℕ) (s : Bound) where
               within = omega arith;
             }
 
-        pub range-all : end ≤ h .«first_index» + h .len → s ≡ size.None → RangeAnswer h xs begin end s (Rows (begin - h .«first_index») (end - begin))
+        pub range-all : end ≤ h .«first_index» + h .len → s ≡ size.None → RangeAnswer h xs (fetchEntriesTo begin end (boundOf s)) (Rows (begin - h .«first_index») (end - begin))
         unfolding sized
         range-all d e = range-rows (end - begin) d (omega arith) (rw e)
 
         pub range-sized : (k m : ℕ) → end ≤ h .«first_index» + h .len → s ≡ size.At k → m ≡ sizeCount k 0 (end - begin) (drop ((begin - h .«first_index») * 8) xs) → m ≤ end - begin
-            → RangeAnswer h xs begin end s (Rows (begin - h .«first_index») m)
+            → RangeAnswer h xs (fetchEntriesTo begin end (boundOf s)) (Rows (begin - h .«first_index») m)
         unfolding sized entriesAt
         range-sized k m d e g b =
             range-rows m d b
@@ -134,10 +133,36 @@ module _ (h : Head) (xs : List ℕ) (begin end : ℕ) (s : Bound) where
 pub range-held : (h : Head) (xs : List ℕ) → Wf h xs → (a n : ℕ) → a + n ≤ h .len → AnyRows a (a + n) xs
 range-held h xs w a n b i l u = held-row h xs w i (omega arith)
 
+-- ---- `range_before`, `range_rewritten`
+
+module _ (h : Head) (xs : List ℕ) (w : Wf h xs) where
+  pub range-before : (gate c : ℕ) → c ≡ countBefore gate (h .len - h .«rewrite_count») (drop (h .«rewrite_count» * 8) xs) → c ≤ h .len - h .«rewrite_count»
+      → RangeAnswer h xs (λ t. ok (fetchEntryIndexesBefore gate t)) (Rows (h .«rewrite_count») c)
+  unfolding fetchEntryIndexesBefore tableOf entriesAt
+  range-before gate c e l =
+      record {
+        rule = λ keys counted.
+            rw (
+              run-append h xs w,
+              front-before gate (h .«first_index» + h .«rewrite_count») (h .len - h .«rewrite_count») (drop (h .«rewrite_count» * 8) xs)
+                  (λ i l. any-drop xs (h .«rewrite_count») i (held-row h xs w (h .«rewrite_count» + i) (omega arith))),
+              e,
+            );
+        within = omega arith;
+      }
+
+  pub range-rewritten : RangeAnswer h xs (λ t. ok (fetchRewrittenEntryIndexes t)) (Rows 0 (h .«rewrite_count»))
+  unfolding fetchRewrittenEntryIndexes tableOf entriesAt
+  range-rewritten =
+      record { rule = λ keys counted. rw (select-rewrite h xs w, add-zero (h .«first_index»)); within = omega arith }
+
 -- ---- the fetches
 
 pub answered-by : {a b : Result (List EntryIndex)} {out : Columns} {r : Fetched} {exits : Columns} → a ≡ b → Answered a out r exits → Answered b out r exits
 answered-by e d = rw e at d
+
+pub range-answer : (h : Head) (xs : List ℕ) {range told : Range} {out : Columns} {r : Fetched} {exits : Columns} → range ≡ told → Answered (rangeOf told h xs) out r exits → Answered (rangeOf range h xs) out r exits
+range-answer h xs e d = rw e d
 
 module _ (out : Columns) where
   pub compacted-answer : Answered (refuse entryCompacted) out answer.EntryCompacted out
@@ -147,20 +172,3 @@ module _ (out : Columns) where
   pub not-found-answer : Answered (refuse entryNotFound) out answer.EntryNotFound out
   unfolding judged columnsAfter andThen
   not-found-answer = record { number = refl; slices = refl }
-
-module _ (h : Head) (xs : List ℕ) (w : Wf h xs) where
-  pub before-rows : (gate c : ℕ) → c ≡ countBefore gate (h .len - h .«rewrite_count») (drop (h .«rewrite_count» * 8) xs) → (keys : Map (List ℕ) Held) (counted : Bool)
-      → _≡_ {A = Result (List EntryIndex)} (ok (entriesAt (h .«rewrite_count») c h xs)) (ok (fetchEntryIndexesBefore gate (tableOf h xs keys counted)))
-  unfolding fetchEntryIndexesBefore tableOf entriesAt
-  before-rows gate c e keys counted =
-      rw (
-        run-append h xs w,
-        front-before gate (h .«first_index» + h .«rewrite_count») (h .len - h .«rewrite_count») (drop (h .«rewrite_count» * 8) xs)
-            (λ i l. any-drop xs (h .«rewrite_count») i (held-row h xs w (h .«rewrite_count» + i) (omega arith))),
-        e,
-      )
-
-  pub rewritten-rows : (keys : Map (List ℕ) Held) (counted : Bool)
-      → _≡_ {A = Result (List EntryIndex)} (ok (entriesAt 0 (h .«rewrite_count») h xs)) (ok (fetchRewrittenEntryIndexes (tableOf h xs keys counted)))
-  unfolding fetchRewrittenEntryIndexes tableOf entriesAt
-  rewritten-rows keys counted = rw (select-rewrite h xs w, add-zero (h .«first_index»))

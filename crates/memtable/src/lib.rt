@@ -3,9 +3,9 @@
 mod append;
 mod columns;
 mod compact;
+mod entries;
 mod fetch;
 mod numbers;
-mod queries;
 mod rewrite;
 mod rows;
 mod scans;
@@ -14,6 +14,7 @@ mod spans;
 pub mod table;
 
 use pipe_log::EntryIndex;
+pub use rows::entry_at;
 
 // The files of a finished atomic group: document 01's span.
 pub enum AtomicGroup {
@@ -67,6 +68,13 @@ pub enum FoundEntry {
 pub enum SomeBefore {
     BadRange,
     Is(bool),
+}
+
+// The entries that a fetch answers, by their place and number; or document 01's 11 or 12.
+pub enum Range {
+    Rows(usize, usize),
+    EntryCompacted,
+    EntryNotFound,
 }
 
 // What fetching records into lent slices answers: their number, or document 01's 11, 12 or 19.

@@ -106,12 +106,19 @@ module _ (m : Mode) (xs bs ys cs : List ℕ) (g : Given m xs bs ys cs) where
   unfolding finishedTombs
   no-tombs = rw (g .none-waits)
 
-  merged-fits : restFits (mergedRest newer (c .waiting) c) ≡ (leb (countsOf xs .tombstones + countsOf ys .tombstones) 64 && leb (countsOf xs .cleaned + countsOf ys .cleaned) 64)
+  pub merged-fits : restFits (mergedRest newer (c .waiting) c) ≡ (leb (countsOf xs .tombstones + countsOf ys .tombstones) 64 && leb (countsOf xs .cleaned + countsOf ys .cleaned) 64)
   unfolding restFits mergedRest
   merged-fits =
       rw (no-tombs, append-nil (c .tombstones ++ newer .tombstones), tombstones-length, cleaned-length, waits-fit)
       (sym (and-true (countsOf xs) (countsOf ys) _))
 
-  joined-fits : restFits (joinedRest newer c) ≡ leb (countsOf xs .cleaned + countsOf ys .cleaned) 64
+  pub joined-fits : restFits (joinedRest newer c) ≡ leb (countsOf xs .cleaned + countsOf ys .cleaned) 64
   unfolding restFits joinedRest waitingFits sum
   joined-fits = rw cleaned-length (sym (and-true (countsOf xs) (countsOf ys) _))
+
+-- the limits of the rest are those of the lists
+pub rest-fits : (m : Mode) (xs bs ys cs : List ℕ) → Given m xs bs ys cs → restFits (restBy m (contextOf ys cs) (contextOf xs bs)) ≡ countsFit m (countsOf xs) (countsOf ys)
+unfolding restBy countsFit
+rest-fits mode.Append xs bs ys cs g = merged-fits mode.Append xs bs ys cs g
+rest-fits mode.Rewrite xs bs ys cs g = merged-fits mode.Rewrite xs bs ys cs g
+rest-fits mode.Join xs bs ys cs g = joined-fits mode.Join xs bs ys cs g

@@ -8,3 +8,6 @@ pub mod TombWays
 pub mod WorkWays
 pub mod StageWays
 pub mod TurnWays
+pub mod GrowthWays
+pub mod JoinWays
+pub mod FinishWays

@@ -2,18 +2,17 @@
 -- stretch, or it passes a limit. Assumes nothing.
 use mathlib.Core.Bool.{Bool, true, false, _&&_, and-false}
 use mathlib.Core.List.{List, [], _∷_}
-use mathlib.Core.Option.{Option, none, some, Option·none-ne-some}
-use mathlib.Core.Path.{_≡_, refl, sym, ap, _∙_}
+use mathlib.Core.Option.{Option, none, some}
+use mathlib.Core.Path.{_≡_, refl, sym, _∙_}
 use Prim.Native.Nat.{ℕ, _+_, _*_, _≤_, _<_}
 use native.Mathlib.Omega.{arith}
-use lib.Dec.{eqb, ltb}
+use lib.Dec.{ltb}
 use lib.ListN.{length, take, drop, getD, set, length-drop}
 use lib.Seq.{drop-drop}
-use borrow.Author.Tests.{lt-ltb, eqb-true, eqb-false}
+use borrow.Author.Tests.{lt-ltb}
 use Rattle.cells.specs.Part.{part, put}
 use Rattle.cells.specs.PartLaws.{part-is, part-of-front, part-of-back}
 use Rattle.maps.specs.BoolLaws.{both}
-use Rattle.maps.specs.OrderLaws.{split}
 use Rattle.maps.specs.Maps.{Map, lookup, insert, numbers}
 use Rattle.maps.specs.MapLaws.{pair}
 use Rattle.maps.specs.Cells.{mapOf}
@@ -25,15 +24,14 @@ use Rattle.rules.specs.Context.{tableFits}
 use Rattle.rules_by_group.specs.Stage.{Staged, stageOne, stageAll}
 use Rattle.rules_by_group.specs.StageLaws.{stage-again, stage-new, stage-none, stage-refused, stage-fits, stage-passes}
 use Rattle.stretch.specs.Layout.{stretchWidth, bytesWidth}
-use Rattle.stretch.specs.Stretch.{isUsed, tableIn}
+use Rattle.stretch.specs.Stretch.{tableIn}
 use Rattle.stretch.specs.Stretch as stretch
 use Rattle.groups.specs.Area.{slots, numbersInUse, bytesInUse, stretchAt, bytesAt, cellAt, cells, groupsOf, Only, AtSlot, FreeSlot, NoSlot}
 use Rattle.groups.specs.Area as groups
-use Rattle.groups.specs.AreaLaws.{length-cells, getD-cells, only-length, only-length-bytes, only-other, only-cells, only-wf, only-front, only-front-bytes, only-drop, only-drop-bytes}
+use Rattle.groups.specs.AreaLaws.{length-cells, getD-cells, only-length, only-length-bytes, only-cells, only-wf, only-front, only-front-bytes, only-drop, only-drop-bytes}
 use Rattle.groups.specs.Laws.{lookup-found, lookup-none, groups-full, free-cell, Absent}
 use Rattle.groups.specs.PlaceLaws.{laid-if}
-use Rattle.groups.specs.Undo.{liveNumbers, liveBytes, markAt}
-use Rattle.groups.specs.UndoLaws.{mark-is}
+use Rattle.groups.specs.Undo.{liveNumbers, liveBytes}
 use Rattle.merging.specs.declared.Flags.{Flags}
 use Rattle.merging.specs.Staging.{between, betweenBytes, stagedIn, Ready, Beside, Staging}
 use Rattle.merging.specs.StagingLaws.{spare-stretch, spare-bytes, spare-cell, beside-none}
@@ -72,11 +70,6 @@ module _ (k : ℕ) (xs bs xs′ bs′ : List ℕ) (l : k < slots) (p : numbersIn
         numbers-length = only-length b p q o;
         bytes-length = only-length-bytes b p q o;
       }
-
--- the mark of a used spare stretch is 1
-used-mark : (k : ℕ) (xs : List ℕ) → isUsed (stretchAt (slots + k) xs) ≡ true → markAt k xs ≡ 1
-unfolding isUsed
-used-mark k xs u = mark-is k xs ∙ eqb-true _ 1 u
 
 -- ---- the ways
 
@@ -162,16 +155,7 @@ module _ (at : ℕ → Result (Option Table)) (g : ℕ) (f : Flags) (xs bs : Lis
                   only-wf (omega (arith, inside)) (r .staged .numbers-fit) (r .staged .bytes-fit) only inside (r .staged)
                   (λ u. rw (spare-stretch k xs′, spare-bytes k bs′) wf)
                   (rw cells-are (distinct-store-free (cells (drop liveNumbers xs) (drop liveBytes bs)) k g t (r .staged .distinct) place was-free absent-map));
-              marked =
-                  λ j h z.
-                  split (eqb j k)
-                  (λ s. omega (arith, rw (eqb-true j k s) at z, used-mark k xs′ used))
-                  (λ s. r .marked j h (mark-is j xs ∙ ap (λ (p : List ℕ). getD p 0 0) (sym (only-other (omega (arith, inside)) long long-bytes o (slots + j) (λ e. eqb-false j k s (omega arith)) .numbers)) ∙ sym (mark-is j xs′) ∙ z));
             }
-          where
-            used : isUsed (stretchAt (slots + k) xs′) ≡ true
-            used =
-                split (isUsed (stretchAt (slots + k) xs′)) (λ u. u) (λ u. absurd (Option·none-ne-some _ (sym (free-cell (slots + k) xs′ bs′ u) ∙ cell)))
 
         staged-more : stagedIn f xs′ bs′ ≡ record { groups = insert numbers g t (stagedIn f xs bs .groups); clashed = stagedIn f xs bs .clashed; passed = stagedIn f xs bs .passed }
         unfolding stagedIn

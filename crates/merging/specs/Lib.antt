@@ -6,3 +6,4 @@ pub mod ModeLaws
 pub mod TombLaws
 pub mod Works
 pub mod WorkLaws
+pub mod Growth

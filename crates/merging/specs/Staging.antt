@@ -1,16 +1,17 @@
 -- The groups of a merge or join that are worked so far. They stand in the spare stretches of the older area, which are read as
 -- stretches are.
-use mathlib.Core.Bool.{Bool, false}
+use mathlib.Core.Bool.{Bool, false, cond}
 use mathlib.Core.List.{List}
 use mathlib.Core.Option.{Option}
 use mathlib.Core.Path.{_≡_}
-use Prim.Native.Nat.{ℕ, _<_}
-use lib.ListN.{length, take, drop}
+use Prim.Native.Nat.{ℕ, _+_, _≤_, _<_}
+use lib.Dec.{eqb}
+use lib.ListN.{length, set, take, drop}
 use Rattle.cells.specs.Part.{part}
 use Rattle.rules.specs.Causes.{Result}
 use Rattle.rules.specs.Table.{Table}
 use Rattle.rules_by_group.specs.Stage.{Staged, stageAll}
-use Rattle.groups.specs.Area.{slots, numbersInUse, bytesInUse, groupsOf}
+use Rattle.groups.specs.Area.{slots, numbersInUse, bytesInUse, stretchAt, groupsOf}
 use Rattle.groups.specs.Area as groups
 use Rattle.groups.specs.Undo.{liveNumbers, liveBytes, markAt}
 use Rattle.merging.specs.declared.Flags.{Flags}
@@ -41,10 +42,9 @@ stagedIn f xs bs =
       passed = f .passed;
     }
 
--- what holds of the spare stretches: they are as stretches must be, and none has the mark of a stretch that stays as it is
+-- what holds of the spare stretches: they are as stretches must be
 pub record Ready (xs bs : List ℕ) : Type 0 where
   pub staged : groups.Wf (drop liveNumbers xs) (drop liveBytes bs)
-  pub marked : (k : ℕ) → k < slots → markAt k xs ≡ 0 → ⊥
 
 -- all but the spare stretches and the long one is as it was
 pub record Beside (xs bs xs′ bs′ : List ℕ) : Type 0 where
@@ -68,9 +68,21 @@ pub record Staging (at : ℕ → Result (Option Table)) (gs : List ℕ) (f : Fla
   pub ready : Ready xs′ bs′
   pub beside : Beside xs bs xs′ bs′
 
--- the first n spare stretches are marked as holding no group
+-- the first n spare stretches hold no group
 pub record Begun (n : ℕ) (xs xs′ : List ℕ) : Type 0 where
-  pub marks : (k : ℕ) → k < n → markAt k xs′ ≡ 2
+  pub marks : (k : ℕ) → k < n → markAt k xs′ ≡ 0
+  pub live : take liveNumbers xs′ ≡ take liveNumbers xs
+  pub behind : drop numbersInUse xs′ ≡ drop numbersInUse xs
+  pub length-is : length xs′ ≡ length xs
+
+-- the mark of a spare stretch with the first number m: it holds a whole stretch, or none
+unfoldable pub sealedMark : ℕ → ℕ
+sealedMark m = cond (eqb m 1) 3 1
+
+-- the first n spare stretches have their marks
+pub record Sealed (n : ℕ) (xs xs′ : List ℕ) : Type 0 where
+  pub sealed : (k : ℕ) → k < n → stretchAt (slots + k) xs′ ≡ set (stretchAt (slots + k) xs) 0 (sealedMark (markAt k xs))
+  pub still : (k : ℕ) → n ≤ k → k < slots → stretchAt (slots + k) xs′ ≡ stretchAt (slots + k) xs
   pub live : take liveNumbers xs′ ≡ take liveNumbers xs
   pub behind : drop numbersInUse xs′ ≡ drop numbersInUse xs
   pub length-is : length xs′ ≡ length xs

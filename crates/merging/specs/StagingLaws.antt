@@ -8,26 +8,29 @@ use Prim.Native.Nat.{ℕ, _+_, _*_, _≤_, _<_}
 use native.Mathlib.Nat.{add-zero}
 use native.Mathlib.Omega.{arith}
 use lib.Dec.{eqb}
-use lib.ListN.{length, take, drop, getD, length-drop}
-use borrow.Author.Tests.{eqb-true, eqb-false}
-use Rattle.cells.specs.Part.{part}
-use Rattle.cells.specs.PartLaws.{getD-part, part-drop, part-of-front, part-of-back, shorter-front}
+use lib.ListN.{length, set, take, drop, getD, length-set, length-drop}
+use lib.Seq.{getD-set-same, getD-set-other}
+use borrow.Author.Tests.{eqb-true}
+use Rattle.cells.specs.Part.{part, put}
+use Rattle.cells.specs.PartLaws.{length-part, part-none, part-cons, part-drop, part-of-front, part-of-back, shorter-front, set-put, put-put, put-part}
 use Rattle.maps.specs.OrderLaws.{split}
 use Rattle.rules.specs.Causes.{Result}
 use Rattle.rules.specs.Table.{Table}
 use Rattle.rules_by_group.specs.Stage.{Staged, noneStaged, stageAll}
 use Rattle.rules_by_group.specs.StageLaws.{stage-append}
-use Rattle.stretch.specs.Layout.{stretchWidth, bytesWidth}
-use Rattle.stretch.specs.Stretch.{isUsed}
+use Rattle.stretch.specs.Layout.{stretchWidth, bytesWidth, entriesAt, entryNumbers}
+use Rattle.stretch.specs.Stretch.{isUsed, headIn, entryRows}
+use Rattle.stretch.specs.Stretch as stretch
 use Rattle.groups.specs.Area.{slots, numbersInUse, bytesInUse, stretchAt, bytesAt, cellAt, cells, groupsOf, Found}
 use Rattle.groups.specs.Area as groups
 use Rattle.groups.specs.declared.Slot.{Slot}
 use Rattle.groups.specs.AreaLaws.{Same, same-groups, same-wf, same-found, same-stretch, same-bytes}
 use Rattle.groups.specs.Laws.{none-used, free-cell, cells-groups}
-use Rattle.groups.specs.Undo.{liveNumbers, liveBytes, markAt, undoneCell, undoneCells, Undoable, Undone}
-use Rattle.groups.specs.UndoLaws.{mark-is, undone-saved, undone-free, undone-are}
+use Rattle.groups.specs.PlaceLaws.{part-short}
+use Rattle.groups.specs.Undo.{liveNumbers, liveBytes, markAt, undoneCell, undoneCells, Saved, Undoable, Undone}
+use Rattle.groups.specs.UndoLaws.{mark-is, undone-free, undone-are, undone-whole, saved-whole}
 use Rattle.merging.specs.declared.Flags.{Flags}
-use Rattle.merging.specs.Staging.{longNumbers, longBytes, between, betweenBytes, noFlags, stagedIn, Ready, Beside, Working, Staging, Begun}
+use Rattle.merging.specs.Staging.{longNumbers, longBytes, between, betweenBytes, noFlags, stagedIn, Ready, Beside, Working, Staging, Begun, sealedMark, Sealed}
 
 -- ---- spare stretch k is stretch k of what follows the stretches
 
@@ -122,7 +125,6 @@ module _ {xs bs xs′ bs′ : List ℕ} (w : Working xs bs xs′ bs′) where
       let n = w .bytes-length in
       record {
         staged = same-wf spares-same (r .staged) (rw (length-drop liveNumbers xs′, m, ← length-drop liveNumbers xs) a) (rw (length-drop liveBytes bs′, n, ← length-drop liveBytes bs) b);
-        marked = λ k l z. r .marked k l (mark-is k xs ∙ ap (λ (p : List ℕ). getD p 0 0) (sym (working-same (slots + k) (omega arith) .numbers)) ∙ sym (mark-is k xs′) ∙ z);
       }
 
 -- ---- nothing is staged
@@ -142,7 +144,7 @@ module _ (xs bs xs′ : List ℕ) (p : liveNumbers + numbersInUse ≤ length xs)
   begun-staged = rw (none-there .1)
 
   pub begun-ready : Ready xs′ bs
-  begun-ready = record { staged = none-there .0; marked = λ k l z. omega (arith, b .marks k l, z) }
+  begun-ready = record { staged = none-there .0 }
 
   pub begun-beside : Beside xs bs xs′ bs
   unfolding between betweenBytes
@@ -183,33 +185,100 @@ working-staging at gs f r xs bs ys ds zs es w s =
 
 -- ---- the staged groups become the groups
 
-module _ (xs bs : List ℕ) (r : Ready xs bs) where
-  unused : (k : ℕ) → eqb (markAt k xs) 1 ≡ false → isUsed (stretchAt (slots + k) xs) ≡ false
-  unfolding isUsed
-  unused k e = rw (← mark-is k xs) e
+-- a stretch whose first number was 1 and is another has its first number back
+first-back : (p : List ℕ) (v : ℕ) → length p ≡ stretchWidth → getD p 0 0 ≡ 1 → put (set p 0 v) 0 (1 ∷ []) ≡ p
+first-back p v l e =
+    let one : part 0 1 p ≡ 1 ∷ [] = sym (part-cons 0 0 p 0 (omega arith)) ∙ rw (e, part-none 1 p) in
+    rw (set-put p 0 v (omega arith), put-put p 0 (v ∷ []) (1 ∷ []) (omega arith) (omega arith), ← one) (put-part 0 1 p (omega arith))
 
-  used : (k : ℕ) → markAt k xs ≡ 1 → isUsed (stretchAt k (drop liveNumbers xs)) ≡ true
-  unfolding isUsed
-  used k m = rw (spare-stretch k xs, ← mark-is k xs, m)
+module _ (xs bs xs′ : List ℕ) (r : Ready xs bs) (s : Sealed slots xs xs′) where
+  long : numbersInUse ≤ length xs
+  long = omega (arith, r .staged .numbers-fit, length-drop liveNumbers xs)
 
-  -- what stretch k goes back to is what its spare one holds
-  undone-spare : (k : ℕ) → k < slots → undoneCell k xs bs ≡ cellAt k (drop liveNumbers xs) (drop liveBytes bs)
-  undone-spare k l =
-      split (eqb (markAt k xs) 1)
-      (λ e. undone-saved k xs bs (eqb-true (markAt k xs) 1 e) ∙ sym (spare-cell k xs bs))
-      (λ e. undone-free k xs bs (r .marked k l) (eqb-false (markAt k xs) 1 e) ∙ sym (free-cell (slots + k) xs bs (unused k e)) ∙ sym (spare-cell k xs bs))
+  spare-length : (k : ℕ) → k < slots → length (stretchAt (slots + k) xs) ≡ stretchWidth
+  unfolding stretchAt
+  spare-length k l = length-part ((slots + k) * stretchWidth) stretchWidth xs (omega (arith, long))
 
-  pub ready-undone : undoneCells xs bs ≡ cells (drop liveNumbers xs) (drop liveBytes bs)
-  ready-undone = undone-are xs bs (drop liveNumbers xs) (drop liveBytes bs) undone-spare
+  sealed-length : (k : ℕ) → k < slots → length (stretchAt (slots + k) xs′) ≡ stretchWidth
+  sealed-length k l = rw (s .sealed k l) (length-set (stretchAt (slots + k) xs) 0 _ ∙ spare-length k l)
 
-  pub ready-undoable : Undoable xs bs
-  ready-undoable =
+  sealed-mark : (k : ℕ) → k < slots → markAt k xs′ ≡ sealedMark (markAt k xs)
+  sealed-mark k l =
+      mark-is k xs′
+      ∙ ap (λ (p : List ℕ). getD p 0 0) (s .sealed k l)
+      ∙ getD-set-same (stretchAt (slots + k) xs) 0 (sealedMark (markAt k xs)) 0 (omega (arith, spare-length k l))
+
+  module _ (k : ℕ) (l : k < slots) where
+    -- a spare stretch without a group
+    module _ (e : eqb (markAt k xs) 1 ≡ false) where
+      free-mark : markAt k xs′ ≡ 1
+      unfolding sealedMark
+      free-mark = sealed-mark k l ∙ rw e
+
+      unused : isUsed (stretchAt (slots + k) xs) ≡ false
+      unfolding isUsed
+      unused = rw (← mark-is k xs) e
+
+      free-undone : undoneCell k xs′ bs ≡ cellAt (slots + k) xs bs
+      free-undone = undone-free k xs′ bs free-mark ∙ sym (free-cell (slots + k) xs bs unused)
+
+    -- one with a group
+    module _ (e : eqb (markAt k xs) 1 ≡ true) where
+      whole-mark : markAt k xs′ ≡ 3
+      unfolding sealedMark
+      whole-mark = sealed-mark k l ∙ rw e
+
+      back : put (stretchAt (slots + k) xs′) 0 (1 ∷ []) ≡ stretchAt (slots + k) xs
+      back = rw (s .sealed k l) (first-back (stretchAt (slots + k) xs) _ (spare-length k l) (sym (mark-is k xs) ∙ eqb-true (markAt k xs) 1 e))
+
+      whole-undone : undoneCell k xs′ bs ≡ cellAt (slots + k) xs bs
+      unfolding cellAt
+      whole-undone = undone-whole k xs′ bs (sealed-length k l) whole-mark ∙ rw back
+
+      used : isUsed (stretchAt k (drop liveNumbers xs)) ≡ true
+      unfolding isUsed
+      used = rw (spare-stretch k xs, ← mark-is k xs) e
+
+      held : stretch.Wf (stretchAt (slots + k) xs) (bytesAt (slots + k) bs)
+      held = rw (spare-stretch k xs, spare-bytes k bs) at (r .staged .used k l used)
+
+      few-rows : headIn (stretchAt (slots + k) xs′) .len ≤ 64
+      unfolding headIn
+      few-rows =
+          let p = stretchAt (slots + k) xs in
+          let n : length (entryRows p) ≤ 512 = unfold entryRows in part-short entriesAt entryNumbers p in
+          let m : getD p 3 0 * 8 ≤ length (entryRows p) = held .numbers .entries .room in
+          rw (s .sealed k l, getD-set-other p 0 3 (sealedMark (markAt k xs)) 0 (λ z. omega arith)) (omega (arith, n, m))
+
+      whole-saved : Saved k xs′ bs
+      whole-saved = saved-whole k xs′ bs (sealed-length k l) whole-mark few-rows (rw back held)
+
+    -- what stretch k goes back to is what its spare one holds
+    undone-spare : undoneCell k xs′ bs ≡ cellAt k (drop liveNumbers xs) (drop liveBytes bs)
+    undone-spare = split (eqb (markAt k xs) 1) whole-undone free-undone ∙ sym (spare-cell k xs bs)
+
+    spare-saved : 2 ≤ markAt k xs′ → Saved k xs′ bs
+    spare-saved h = split (eqb (markAt k xs) 1) whole-saved (λ e. absurd (omega (arith, h, free-mark e)))
+
+  sealed-undone : undoneCells xs′ bs ≡ cells (drop liveNumbers xs) (drop liveBytes bs)
+  sealed-undone = undone-are xs′ bs (drop liveNumbers xs) (drop liveBytes bs) undone-spare
+
+  pub sealed-undoable : Undoable xs′ bs
+  sealed-undoable = record { saved = spare-saved; distinct = rw sealed-undone (r .staged .distinct) }
+
+  pub sealed-beside : Beside xs bs xs′ bs
+  unfolding between betweenBytes
+  sealed-beside =
       record {
-        saved = λ k l m. rw (spare-stretch k xs, spare-bytes k bs) at (r .staged .used k l (used k m));
-        distinct = rw ready-undone (r .staged .distinct);
+        live = s .live;
+        live-bytes = refl;
+        middle = part-of-back 9376 5879 numbersInUse xs′ xs (s .behind) (omega arith);
+        middle-bytes = refl;
+        numbers-length = s .length-is;
+        bytes-length = refl;
       }
 
   -- the groups are those that were staged
-  pub undone-groups : (xs′ bs′ : List ℕ) → Undone xs bs xs′ bs′ → groupsOf xs′ bs′ ≡ groupsOf (drop liveNumbers xs) (drop liveBytes bs)
-  undone-groups xs′ bs′ u =
-      cells-groups xs′ bs′ _ (u .cells-are ∙ ready-undone) ∙ sym (cells-groups (drop liveNumbers xs) (drop liveBytes bs) _ refl)
+  pub sealed-groups : (ys ds : List ℕ) → Undone xs′ bs ys ds → groupsOf ys ds ≡ groupsOf (drop liveNumbers xs) (drop liveBytes bs)
+  sealed-groups ys ds u =
+      cells-groups ys ds _ (u .cells-are ∙ sealed-undone) ∙ sym (cells-groups (drop liveNumbers xs) (drop liveBytes bs) _ refl)

@@ -29,7 +29,7 @@ fn counts_fit(mode: Mode, older: Counts, newer: Counts) -> bool
 }
 
 // Whether the lists of both areas may become one.
-fn lists_fit(mode: Mode, xs: &[u64], ys: &[u64]) -> bool
+pub fn lists_fit(mode: Mode, xs: &[u64], ys: &[u64]) -> bool
     requires { ⌜ Few (countsOf (now xs)) × Few (countsOf (now ys)) ⌝ }
     requires { ⌜ (length (now xs) ≡ 18977) × (length (now ys) ≡ 18977) ⌝ }
     ensures { λ r. ⌜ r ≡ countsFit mode (countsOf (now (xs .entry))) (countsOf (now (ys .entry))) ⌝ }
@@ -41,7 +41,7 @@ fn lists_fit(mode: Mode, xs: &[u64], ys: &[u64]) -> bool
 }
 
 // The number of the refusal that a group may meet.
-fn clash_of(mode: Mode) -> u64
+pub fn clash_of(mode: Mode) -> u64
     ensures { λ r. ⌜ r ≡ numberOf (clashBy mode) ⌝ }
 {
     match mode {
@@ -52,7 +52,7 @@ fn clash_of(mode: Mode) -> u64
 }
 
 // A refusal that is met at no item.
-fn refuse(number: u64) -> Answer
+pub fn refuse(number: u64) -> Answer
     ensures { λ r. ⌜ r ≡ Answer.Refused number Position.None ⌝ }
 {
     Answer::Refused {

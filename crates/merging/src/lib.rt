@@ -1,11 +1,15 @@
 // Merge and join of recovery (src/memtable.rs), group by group: what becomes of a group is worked in the long stretch of the older
 // area and staged in a spare stretch; at the end the staged groups become the groups.
+mod calls;
 mod ends;
+mod growth;
 mod numbers;
 mod stages;
 mod staging;
 mod tombs;
 mod work;
+
+pub use calls::merge_append;
 
 // Whether some group was refused, and whether one passed a limit.
 pub struct Flags {

@@ -38,7 +38,7 @@ fn copy_key(bytes: &mut [u8], at: usize, kv: KeyValue, its_bytes: &[u8])
 }
 
 // Copies an item's bytes, if it has any, to place `at`.
-fn copy_bytes(bytes: &mut [u8], at: usize, content: LogItemContent, its_bytes: &[u8])
+pub fn copy_bytes(bytes: &mut [u8], at: usize, content: LogItemContent, its_bytes: &[u8])
     requires { ⌜ at + 64 ≤ length (now bytes) ⌝ }
     requires { ⌜ bytesWithin content (length (now «its_bytes»)) ⌝ }
     requires { ⌜ contentShort content ⌝ }
@@ -52,7 +52,12 @@ fn copy_bytes(bytes: &mut [u8], at: usize, content: LogItemContent, its_bytes: &
 }
 
 // Copies an item's rows of entries, if it has any, to row `row`, and answers the row behind them.
-fn copy_rows(entries: &mut [u64], row: usize, content: LogItemContent, its_entries: &[u64]) -> usize
+pub fn copy_rows(
+    entries: &mut [u64],
+    row: usize,
+    content: LogItemContent,
+    its_entries: &[u64],
+) -> usize
     requires { ⌜ (row + countOf content) * 8 ≤ length (now entries) ⌝ }
     requires { ⌜ rowsWithin content (length (now «its_entries»)) ⌝ }
     ensures { λ r. ⌜ now (entries .exit) ≡ put (now (entries .entry)) (row * 8) (rowsOf content (now («its_entries» .entry))) ⌝ }
@@ -75,7 +80,7 @@ fn copy_rows(entries: &mut [u64], row: usize, content: LogItemContent, its_entri
 }
 
 // How many entries an item has.
-fn count_of(content: LogItemContent) -> usize
+pub fn count_of(content: LogItemContent) -> usize
     ensures { λ r. ⌜ r ≡ countOf content ⌝ }
 {
     match content {

@@ -33,7 +33,7 @@ fn move_key(bytes: &mut [u8], to: usize, kv: KeyValue)
 }
 
 // Moves an item's bytes, if it has any, down to place `to`.
-fn move_bytes(bytes: &mut [u8], to: usize, content: LogItemContent)
+pub fn move_bytes(bytes: &mut [u8], to: usize, content: LogItemContent)
     requires { ⌜ bytesWithin content (length (now bytes)) ⌝ }
     requires { ⌜ bytesBehind content to ⌝ }
     ensures { λ _. ⌜ now (bytes .exit) ≡ put (now (bytes .entry)) to (bytesOf content (now (bytes .entry))) ⌝ }
@@ -46,7 +46,7 @@ fn move_bytes(bytes: &mut [u8], to: usize, content: LogItemContent)
 }
 
 // Moves an item's rows of entries, if it has any, down to row `row`, and answers the row behind them.
-fn move_rows(entries: &mut [u64], row: usize, content: LogItemContent) -> usize
+pub fn move_rows(entries: &mut [u64], row: usize, content: LogItemContent) -> usize
     requires { ⌜ rowsWithin content (length (now entries)) ⌝ }
     requires { ⌜ rowsBehind content row ⌝ }
     requires { ⌜ (row + countOf content) * 8 ≤ length (now entries) ⌝ }

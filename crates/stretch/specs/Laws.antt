@@ -1,6 +1,6 @@
 -- The laws of stretches that a crate above cites: a group's stretch as one of any width, as a cell of a map, as a group that was just
 -- made, and by what is in use. Assumes nothing.
-use mathlib.Core.Bool.{Bool, true, false, cond, _&&_}
+use mathlib.Core.Bool.{Bool, true, false, cond}
 use mathlib.Core.List.{List, [], _∷_}
 use mathlib.Core.Option.{Option, none, some}
 use mathlib.Core.Path.{_≡_, refl, sym, ap, _∙_}

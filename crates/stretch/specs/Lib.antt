@@ -4,3 +4,5 @@ pub mod Stretch
 pub mod StretchLaws
 pub mod Changes
 pub mod Laws
+pub mod Reach
+pub mod ReachLaws

@@ -86,7 +86,7 @@ head-put q h l =
 -- ---- what is laid in
 
 -- what is laid in before the rows of keys leaves them
-keys-after : (w : ℕ) (q : List ℕ) (at : ℕ) (s : List ℕ) → at + length s ≤ w → w ≤ length q → keyRowsAt w (put q at s) ≡ keyRowsAt w q
+pub keys-after : (w : ℕ) (q : List ℕ) (at : ℕ) (s : List ℕ) → at + length s ≤ w → w ≤ length q → keyRowsAt w (put q at s) ≡ keyRowsAt w q
 unfolding keyRowsAt
 keys-after w q at s a b = rw (length-put q at s (omega arith)) (part-put-after w (length q - w) q at s a (omega arith))
 

@@ -1,6 +1,7 @@
 // One change of a group's stretch.
-ghost use Rattle.stretch.specs.Stretch.{tableAt, WfAt};
+ghost use Rattle.stretch.specs.Stretch.{headIn, tableAt, WfAt};
 ghost use Rattle.stretch.specs.Changes.{ruleOf, Ready, ChangedAt};
+ghost use Rattle.stretch.specs.Reach.{rowFrom, writesKeys, LeavesAt};
 use crate::Change;
 use crate::Outcome;
 use crate::entries;
@@ -19,6 +20,7 @@ pub fn apply(
     requires { ⌜ WfAt «keys_at» (now p) (now b) ⌝ }
     requires { ⌜ Ready change (now rows) (now key) (now value) (tableAt «keys_at» (now p) (now b)) ⌝ }
     ensures { λ r. ⌜ ChangedAt «keys_at» (ruleOf change (now (rows .entry)) (now (key .entry)) (now (value .entry))) (now (p .entry)) (now (b .entry)) r (now (p .exit)) (now (b .exit)) ⌝ }
+    ensures { λ _. ⌜ LeavesAt «keys_at» (rowFrom change (headIn (now (p .entry)))) (writesKeys change) (now (p .entry)) (now (b .entry)) (now (p .exit)) (now (b .exit)) ⌝ }
 {
     match change {
         Change::Append { first, live } => entries::append(p, keys_at, first, rows, live),

@@ -1,7 +1,7 @@
 // Changes of a group's entries, each by the head's own method on the rows of the stretch before `keys_at`. They see no bytes.
 ghost use mathlib.Core.List.{List};
 ghost use mathlib.Core.Path.{_≡_};
-ghost use Prim.Native.Nat.{ℕ, _/_, _≤_};
+ghost use Prim.Native.Nat.{ℕ, _-_, _/_, _≤_};
 ghost use lib.ListN.{length};
 ghost use Rattle.pipe_log.specs.Numbers.{gateOf};
 ghost use Rattle.pipe_log.specs.Rows.{window};
@@ -10,6 +10,7 @@ ghost use Rattle.rules.specs.Table.{appended, replayedRewrite, rewritten, compa
 ghost use Rattle.memtable.specs.Appends.{Lent};
 ghost use Rattle.stretch.specs.Stretch.{headIn, NumbersAt, WfAt};
 ghost use Rattle.stretch.specs.Changes.{ChangedAt, laidOutcome, laidNumbers, movedOutcome, movedNumbers};
+ghost use Rattle.stretch.specs.Reach.{keptBefore, LeavesRows};
 use crate::ABOVE_LAST;
 use crate::ALREADY_REWRITTEN;
 use crate::APPEND_LEFT;
@@ -44,6 +45,7 @@ pub fn append(p: &mut [u64], keys_at: usize, first: u64, rows: &[u64], live: boo
     requires { ⌜ NumbersAt «keys_at» (now p) ⌝ }
     requires { ⌜ Lent 0 first (now rows) ⌝ }
     ensures { λ r. ⌜ ((b : List ℕ) → WfAt «keys_at» (now (p .entry)) b → ChangedAt «keys_at» (appended live (window first (length (now (rows .entry)) / 8) (now (rows .entry)))) (now (p .entry)) b r (now (p .exit)) b) ⌝ }
+    ensures { λ _. ⌜ LeavesRows «keys_at» (keptBefore (headIn (now (p .entry))) first) (now (p .entry)) (now (p .exit)) ⌝ }
 {
     let head = head_in(p);
     let a = ENTRIES_AT;
@@ -57,6 +59,7 @@ pub fn replay_rewrite(p: &mut [u64], keys_at: usize, first: u64, rows: &[u64]) -
     requires { ⌜ Lent 1 first (now rows) ⌝ }
     requires { ⌜ headIn (now p) .len ≤ headIn (now p) .«rewrite_count» ⌝ }
     ensures { λ r. ⌜ ((b : List ℕ) → WfAt «keys_at» (now (p .entry)) b → ChangedAt «keys_at» (λ t. ok (replayedRewrite (window first (length (now (rows .entry)) / 8) (now (rows .entry))) t)) (now (p .entry)) b r (now (p .exit)) b) ⌝ }
+    ensures { λ _. ⌜ LeavesRows «keys_at» (keptBefore (headIn (now (p .entry))) first) (now (p .entry)) (now (p .exit)) ⌝ }
 {
     let head = head_in(p);
     let a = ENTRIES_AT;
@@ -96,6 +99,7 @@ pub fn rewrite(p: &mut [u64], keys_at: usize, first: u64, rows: &[u64], gate: Ga
     requires { ⌜ NumbersAt «keys_at» (now p) ⌝ }
     requires { ⌜ Lent 1 first (now rows) ⌝ }
     ensures { λ r. ⌜ ((b : List ℕ) → WfAt «keys_at» (now (p .entry)) b → ChangedAt «keys_at» (rewritten (gateOf gate) (window first (length (now (rows .entry)) / 8) (now (rows .entry)))) (now (p .entry)) b r (now (p .exit)) b) ⌝ }
+    ensures { λ _. ⌜ LeavesRows «keys_at» (first - headIn (now (p .entry)) .«first_index») (now (p .entry)) (now (p .exit)) ⌝ }
 {
     let head = head_in(p);
     let a = ENTRIES_AT;
@@ -107,6 +111,7 @@ pub fn rewrite(p: &mut [u64], keys_at: usize, first: u64, rows: &[u64], gate: Ga
 pub fn compact(p: &mut [u64], keys_at: usize, index: u64) -> Outcome
     requires { ⌜ NumbersAt «keys_at» (now p) ⌝ }
     ensures { λ r. ⌜ ((b : List ℕ) → WfAt «keys_at» (now (p .entry)) b → ChangedAt «keys_at» (λ t. ok (compacted index t)) (now (p .entry)) b r (now (p .exit)) b) ⌝ }
+    ensures { λ _. ⌜ LeavesRows «keys_at» 0 (now (p .entry)) (now (p .exit)) ⌝ }
 {
     let head = head_in(p);
     let a = ENTRIES_AT;

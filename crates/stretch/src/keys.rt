@@ -1,11 +1,12 @@
 // Changes of a group's keys, each by the keys' own function on the rows of the stretch from `keys_at` on and its bytes.
+ghost use mathlib.Core.Path.{_≡_};
 ghost use Prim.Native.Nat.{_≤_};
 ghost use lib.ListN.{length};
 ghost use Rattle.pipe_log.specs.Numbers.{gateOf};
 ghost use Rattle.rules.specs.Causes.{ok};
 ghost use Rattle.rules.specs.Table.{putKey, deleteKey, rewrittenKey};
 ghost use Rattle.kvs.specs.Calls.{heldBy};
-ghost use Rattle.stretch.specs.Stretch.{WfAt, tableIn, Wf};
+ghost use Rattle.stretch.specs.Stretch.{entryRowsAt, WfAt, tableIn, Wf};
 ghost use Rattle.stretch.specs.Changes.{ChangedAt, keysLaid};
 use crate::KEY_GOES_BACK;
 use crate::KEYS_AT;
@@ -31,6 +32,7 @@ pub fn put(
     requires { ⌜ WfAt «keys_at» (now p) (now b) ⌝ }
     requires { ⌜ (length (now key) ≤ 32) × (length (now value) ≤ 32) ⌝ }
     ensures { λ r. ⌜ ChangedAt «keys_at» (λ t. ok (putKey (now (key .entry)) (heldBy (now (value .entry)) queue seq) t)) (now (p .entry)) (now (b .entry)) r (now (p .exit)) (now (b .exit)) ⌝ }
+    ensures { λ _. ⌜ entryRowsAt «keys_at» (now (p .exit)) ≡ entryRowsAt «keys_at» (now (p .entry)) ⌝ }
 {
     let n = p[KEY_COUNT] as usize;
     let e = p.len();
@@ -46,6 +48,7 @@ pub fn put(
 pub fn delete(p: &mut [u64], b: &mut [u8], keys_at: usize, key: &[u8]) -> Outcome
     requires { ⌜ WfAt «keys_at» (now p) (now b) ⌝ }
     ensures { λ r. ⌜ ChangedAt «keys_at» (λ t. ok (deleteKey (now (key .entry)) t)) (now (p .entry)) (now (b .entry)) r (now (p .exit)) (now (b .exit)) ⌝ }
+    ensures { λ _. ⌜ entryRowsAt «keys_at» (now (p .exit)) ≡ entryRowsAt «keys_at» (now (p .entry)) ⌝ }
 {
     let n = p[KEY_COUNT] as usize;
     let e = p.len();
@@ -65,6 +68,7 @@ pub fn rewrite_key(
 ) -> Outcome
     requires { ⌜ WfAt «keys_at» (now p) (now b) ⌝ }
     ensures { λ r. ⌜ ChangedAt «keys_at» (rewrittenKey (now (key .entry)) (gateOf gate) seq) (now (p .entry)) (now (b .entry)) r (now (p .exit)) (now (b .entry)) ⌝ }
+    ensures { λ _. ⌜ entryRowsAt «keys_at» (now (p .exit)) ≡ entryRowsAt «keys_at» (now (p .entry)) ⌝ }
 {
     let n = p[KEY_COUNT] as usize;
     let e = p.len();

@@ -1,9 +1,11 @@
-// The stretch of an area that holds one group: a header, rows of entries and rows of keys in numbers, and the keys' bytes.
+// The stretch of an area that holds one group: a header, rows of entries and rows of keys in numbers, and the keys' bytes. Its width is
+// told by the place where the rows of keys begin and by the lengths of the slices.
 // A change is carried out by the tables' own functions, `memtable` and `kvs`, each on its part of the stretch.
 mod changes;
 mod entries;
 mod header;
 mod keys;
+mod reach;
 mod spans;
 
 pub use changes::apply;
@@ -16,6 +18,8 @@ pub use header::write_head;
 pub use keys::lay_keys;
 use pipe_log::Gate;
 use pipe_log::LogQueue;
+pub use reach::row_from;
+pub use reach::writes_keys;
 pub use spans::set_span;
 pub use spans::write_span;
 

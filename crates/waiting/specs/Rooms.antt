@@ -123,14 +123,13 @@ pub record NoPart (k : ℕ) (xs : List Tagged) : Type 0 where
 pub record OnePart (k : ℕ) (h : List ℕ) (xs : List Tagged) : Type 0 where
   pub tag : Tag k (newestTag h)
   pub free : itemsWith (otherTag k (newestTag h)) xs ≡ []
-  pub status : getD h 3 0 ≤ 2
 
 -- two parts: a Begin with an End behind it
 pub record TwoParts (k : ℕ) (h : List ℕ) : Type 0 where
   pub tag : Tag k (newestTag h)
   pub other : olderTag h ≡ otherTag k (newestTag h)
   pub begins : getD h 3 0 ≡ 0
-  pub ends : getD h 7 0 ≡ 2
+  pub ends : 2 ≤ getD h 7 0
 
 unfoldable pub Counted : ℕ → ℕ → List ℕ → List Tagged → Type 0
 Counted zero k h xs = NoPart k xs

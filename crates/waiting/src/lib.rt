@@ -1,9 +1,17 @@
-// Waiting parts of Rewrite replay in a room: cells of part heads, and one store of their items. A room has any number of cells.
-ghost use mathlib.Core.List.{List};
-ghost use mathlib.Core.Path.{_≡_};
-ghost use Prim.Native.Nat.{ℕ, _+_, _*_};
-ghost use lib.ListN.{length};
-ghost use Rattle.waiting.specs.Layout.{Empty};
+// Waiting parts of Rewrite replay in a room: cells of part heads, and one store of their items. A room has any number of cells; it
+// stands in one slice of numbers and one of bytes.
+mod accept;
+mod batches;
+pub mod find;
+mod heads;
+mod items;
+mod places;
+mod rooms;
+
+pub use accept::accept_first;
+pub use heads::take_part;
+use log_batch::item::LogItem;
+pub use rooms::clear;
 
 // How many cells the room of a context has: 01's 8 groups.
 pub const CELLS: usize = 8;
@@ -13,21 +21,49 @@ pub const NUMBERS: usize = 1746;
 
 pub const BYTES: usize = 4096;
 
-// The numbers of a cell, and where the cells of a room stand.
-const HEAD_WIDTH: usize = 10;
+// The numbers of a cell.
+pub const HEAD_WIDTH: usize = 10;
 
-const HEADS_AT: usize = 2;
+// Where the parts of a room of n cells stand: each at a place and so many numbers a cell. The counts stand before the cells.
+pub const HEADS_AT: usize = 2;
 
-// Makes a room of so many cells one in which nothing waits.
-pub fn clear(ws: &mut [u64], cells: usize)
-    requires { ⌜ length (now ws) ≡ 2 + cells * 218 ⌝ }
-    ensures { λ _. ⌜ ((vs : List ℕ) → length vs ≡ cells * 512 → Empty cells (now (ws .exit)) vs) ⌝ }
-{
-    ws[0] = 0;
-    ws[1] = 0;
-    let mut k = 0;
-    while k < cells {
-        ws[HEADS_AT + k * HEAD_WIDTH] = 0;
-        k += 1;
-    }
+pub const TAGS_FROM: usize = 10;
+
+pub const TAGS: usize = 8;
+
+pub const ITEMS_FROM: usize = 18;
+
+pub const ITEMS: usize = 72;
+
+pub const ENTRIES_FROM: usize = 90;
+
+pub const ENTRIES: usize = 128;
+
+// Where the parts of a group wait: in a cell, or nowhere with a free cell for them, or nowhere and all are used.
+pub enum Place {
+    At(usize),
+    Free(usize),
+    Full,
+}
+
+// What becomes of a part that comes to the newest part of its group.
+pub enum Step {
+    // it waits in place of the newest part
+    Replace,
+    // it waits in front of the newest part
+    Front,
+    // it joins the newest part
+    Join,
+    // it is dropped
+    Drop,
+    // it finishes the newest part
+    Finish,
+    // files go back
+    Back,
+}
+
+// An item of a marked batch: the mark, or one that waits with the part.
+pub enum Unmarked {
+    Mark,
+    Item(LogItem),
 }

@@ -1,9 +1,9 @@
 -- Each way through the end of the work on a group. Assumes nothing.
-use mathlib.Core.Bool.{Bool, true, false, _&&_}
+use mathlib.Core.Bool.{true, false, _&&_}
 use mathlib.Core.List.{List}
-use mathlib.Core.Option.{Option, some}
-use mathlib.Core.Path.{_≡_, refl, sym, ap, _∙_}
-use Prim.Native.Nat.{ℕ, _*_, _≤_, _<_}
+use mathlib.Core.Option.{some}
+use mathlib.Core.Path.{_≡_, refl}
+use Prim.Native.Nat.{ℕ, _≤_, _<_}
 use native.Mathlib.Omega.{arith}
 use lib.Dec.{leb}
 use lib.ListN.{length, getD}
@@ -22,7 +22,7 @@ use Rattle.stretch.specs.StretchLaws.{length-entries, length-keys}
 use Rattle.stretch.specs.Changes.{ChangedAt}
 use Rattle.worktable.specs.declared.Mode.the-variants as mode
 use Rattle.worktable.specs.Work.{longKeysAt, longEntries, longKeys, workIn, Stands}
-use Rattle.worktable.specs.Calls.{spanLaid, Ends, TableEnds}
+use Rattle.worktable.specs.Calls.{spanLaid, Ends}
 use Rattle.worktable.specs.WorkLaws.{work-some, made-some, step-rule, step-stands}
 use Rattle.worktable.specs.LayLaws.{ends, within-of, span-beside, room-beside}
 

@@ -1,19 +1,17 @@
 -- Each way through laying a newer table over: entries that are refused, all steps taken, and a table that is adopted. Assumes nothing.
 use mathlib.Core.Bool.{true, false}
 use mathlib.Core.List.{List, [], _∷_}
-use mathlib.Core.Option.{Option, none, some}
+use mathlib.Core.Option.{none, some}
 use mathlib.Core.Path.{_≡_, refl, sym, ap, _∙_}
 use Prim.Native.Nat.{ℕ, _+_, _-_, _*_, _≤_}
 use native.Mathlib.Omega.{arith}
 use lib.ListN.{length, getD, set, take, drop}
 use Rattle.cells.specs.Part.{part, put}
-use Rattle.cells.specs.PartLaws.{length-put, set-put}
-use Rattle.maps.specs.Lists.{orElse}
-use Rattle.rules.specs.Causes.{Result, ok, refused, andThen}
-use Rattle.rules.specs.Table.{Table, made, uncounted}
+use Rattle.cells.specs.PartLaws.{length-part, length-put, set-put}
+use Rattle.rules.specs.Causes.{ok, refused, andThen}
+use Rattle.rules.specs.Table.{Table, uncounted}
 use Rattle.rules_by_group.specs.RoomLaws.{Within, table-room}
 use Rattle.rules_by_group.specs.TableLaws.{keysOver, spanOver, spannedBy}
-use Rattle.kvs.specs.Rows.{keysIn}
 use Rattle.memtable.specs.Views.{tableOf}
 use Rattle.stretch.specs.declared.Outcome.{Outcome}
 use Rattle.stretch.specs.declared.Outcome.the-variants.{Done, Refused}
@@ -27,8 +25,8 @@ use Rattle.worktable.specs.declared.Mode.{Mode}
 use Rattle.worktable.specs.declared.Mode.the-variants as mode
 use Rattle.worktable.specs.Work.{longKeysAt, longNumbers, longBytes, longEntries, longKeys, Stands}
 use Rattle.worktable.specs.Calls.{Becomes, entriesOver, spanLaid, tableOver, TableEnds}
-use Rattle.worktable.specs.WorkLaws.{step-rule, step-stands, step-to, becomes}
-use Rattle.worktable.specs.LayLaws.{few-of, entries-grown, span-beside, room-entries, room-keys, room-beside}
+use Rattle.worktable.specs.WorkLaws.{few-of, step-rule, step-stands, step-to, becomes}
+use Rattle.worktable.specs.LayLaws.{entries-grown, span-beside, room-entries, room-keys, room-beside}
 
 -- a group's table is within the limits
 pub newer-few : (q d : List ℕ) → stretch.Wf q d → (length (tableIn q d .entries) ≤ 64) × (length (tableIn q d .keys) ≤ 16)
@@ -100,18 +98,14 @@ lent-short a n e l h = rw (lent-part a n e l h) (part-short a n l)
 
 -- the numbers of entries and keys in a group's header
 pub header-few : (q d : List ℕ) → stretch.Wf q d → (getD q 3 0 ≤ 64) × (getD q 8 0 ≤ 16)
+unfolding headIn keyCount entryRows keyRows
 header-few q d w =
-    let o = wf-any q d w in
     let l = w .numbers .numbers-are in
+    let e : length (entryRows q) ≡ 512 = length-part 10 512 q (omega arith) in
+    let k : length (keyRows q) ≡ 64 = length-part 522 64 q (omega arith) in
     let r = w .numbers .entries .room in
     let s = w .keys .rows-fit in
-    (few-entries q l r, few-keys q l s)
-  where
-    few-entries : (q : List ℕ) → length q ≡ 586 → headIn q .len * 8 ≤ length (entryRows q) → getD q 3 0 ≤ 64
-    few-entries q l r = unfold headIn entryRows in (let e = Rattle.cells.specs.PartLaws.length-part 10 512 q (omega arith) in omega (arith, e, r))
-
-    few-keys : (q : List ℕ) → length q ≡ 586 → keyCount q * 4 ≤ length (keyRows q) → getD q 8 0 ≤ 16
-    few-keys q l r = unfold keyCount keyRows in (let e = Rattle.cells.specs.PartLaws.length-part 522 64 q (omega arith) in omega (arith, e, r))
+    (omega (arith, e, r), omega (arith, k, s))
 
 module _ (p b q d : List ℕ) (l : length p ≡ longNumbers) (m : length b ≡ longBytes) (w : stretch.Wf q d) (u : isUsed q ≡ true) where
   o : WfAt 522 q d

@@ -1,31 +1,27 @@
 -- A stretch of one width that is copied to a place of another width in the same area. Assumes nothing.
-use mathlib.Core.Bool.{Bool, true}
+use mathlib.Core.Bool.{true}
 use mathlib.Core.List.{List, [], _∷_}
-use mathlib.Core.Option.{some}
-use mathlib.Core.Path.{_≡_, refl, sym, ap, _∙_}
+use mathlib.Core.Path.{_≡_, sym, ap, _∙_}
 use Prim.Native.Nat.{ℕ, _+_, _-_, _*_, _≤_, _<_}
 use native.Mathlib.Nat.{add-zero}
 use native.Mathlib.Omega.{arith}
 use lib.ListN.{length, getD, set}
 use Rattle.cells.specs.Part.{part, put}
-use Rattle.cells.specs.PartLaws.{length-part, length-put, getD-part, getD-put-in, getD-put-before, getD-put-after, part-part, part-set-in, part-put-before, part-put-after, part-put-around, put-in-part, put-put, set-put}
-use Rattle.maps.specs.MapLaws.{pair}
+use Rattle.cells.specs.PartLaws.{length-part, length-put, getD-part, getD-put-in, getD-put-before, getD-put-after, part-part, part-put-before, part-put-after, part-put-around, put-in-part, put-put, set-put}
 use Rattle.rules.specs.Table.{Table, made}
 use Rattle.rules.specs.Context.{tableFits}
 use Rattle.rules_by_group.specs.RoomLaws.{table-room}
-use Rattle.memtable.specs.declared.Head.{Head}
 use Rattle.memtable.specs.Views.{tableOf}
 use Rattle.memtable.specs.WindowLaws.{length-window}
 use Rattle.kvs.specs.RowLaws.{length-keys}
-use Rattle.stretch.specs.Stretch.{isUsed, groupIn, spanIn, headIn, keyCount, isCounted, entryRowsAt, keyRowsAt, tableAt, WfAt, tableIn}
+use Rattle.stretch.specs.Stretch.{isUsed, groupIn, spanIn, headIn, keyCount, isCounted, entryRowsAt, keyRowsAt, tableAt, WfAt}
 use Rattle.stretch.specs.Stretch as stretch
 use Rattle.stretch.specs.StretchLaws.{Holds, own, table-of, wf-of}
 use Rattle.stretch.specs.Laws.{table-short, wf-any, wf-short, cell-used, copied-length, copied-bytes-length, copied-table, copied-wf, copied-used}
-use Rattle.groups.specs.Area.{slots, stretchAt, bytesAt, cellAt, Only}
-use Rattle.worktable.specs.Work.{longKeysAt, longNumbers, longBytes, workIn, Stands}
+use Rattle.groups.specs.Area.{stretchAt, bytesAt, cellAt}
+use Rattle.worktable.specs.Work.{longKeysAt, longNumbers, longBytes, workIn}
 use Rattle.worktable.specs.Moves.{workAt, workBytesAt, areaNumbers, areaBytes, longIn, longBytesIn, Loaded, Fitting, Unloaded}
-use Rattle.worktable.specs.WorkLaws.{stands-own}
-use Rattle.worktable.specs.LayLaws.{few-of}
+use Rattle.worktable.specs.WorkLaws.{few-of, stands-own}
 use Rattle.worktable.proofs.LayWays.{header-few}
 
 -- s is laid in at place i of the n numbers from place c on

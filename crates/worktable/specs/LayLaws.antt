@@ -1,6 +1,6 @@
 -- The laws of a newer table laid over: its rows as a lent list, the room that each step needs, and that the steps are the rules'.
 -- Assumes nothing.
-use mathlib.Core.Bool.{true, false, _&&_}
+use mathlib.Core.Bool.{true, false}
 use mathlib.Core.List.{List, [], _∷_}
 use mathlib.Core.Option.{Option, none, some}
 use mathlib.Core.Path.{_≡_, refl, sym, ap, _∙_}
@@ -10,18 +10,17 @@ use native.Mathlib.Omega.{arith}
 use lib.ListN.{length, getD}
 use Rattle.cells.specs.Part.{part}
 use Rattle.cells.specs.PartLaws.{length-part, getD-part}
-use Rattle.maps.specs.BoolLaws.{clash, and-false}
-use Rattle.maps.specs.Lists.{every, orElse}
+use Rattle.maps.specs.BoolLaws.{clash}
+use Rattle.maps.specs.Lists.{orElse}
 use Rattle.maps.specs.Maps.{Map}
 use Rattle.maps.specs.MapLaws.{laid}
 use Rattle.maps.specs.OrderLaws.{split}
 use Rattle.pipe_log.specs.Numbers.{queueNumber}
 use Rattle.pipe_log.specs.Rows.{queueAt, window}
-use Rattle.rules.specs.Causes.{Refusal, Result, ok, refused, andThen}
+use Rattle.rules.specs.Causes.{Result, ok, refused, andThen}
 use Rattle.rules.specs.Items.{LogQueue, Append, Rewrite, EntryIndex, fileOf, sameQueue, isRewrite}
 use Rattle.rules.specs.Table.{Held, Span, Table, made, withEntries, withKeys, withSpan, uncounted, isAboveLast, over, overGap, overKeys, appended, replayedRewrite, spanGoesBack, spanned}
 use Rattle.rules.specs.Calls.{overOf, mergeTable, joinTable}
-use Rattle.rules_by_group.specs.Group.{layOver}
 use Rattle.rules_by_group.specs.RoomLaws.{Within, laid-room}
 use Rattle.rules_by_group.specs.TableLaws.{keysOver, spanOver, spannedBy, lay-append, lay-rewrite, join-over}
 use Rattle.memtable.specs.declared.Head.{Head}
@@ -30,16 +29,16 @@ use Rattle.memtable.specs.Views.{Row, Rows}
 use Rattle.memtable.specs.Views as memtable
 use Rattle.memtable.specs.RowLaws.{row-moved, rowAt-queue}
 use Rattle.memtable.specs.SameLaws.{all-rewritten}
-use Rattle.memtable.specs.WindowLaws.{length-window, window-same, window-every}
+use Rattle.memtable.specs.WindowLaws.{window-same, window-every}
 use Rattle.stretch.specs.declared.Outcome.{Outcome}
 use Rattle.stretch.specs.declared.Outcome.the-variants.{Done, Refused}
 use Rattle.stretch.specs.Stretch.{headIn, entryRows, tableAt, NumbersWf}
 use Rattle.stretch.specs.Changes.{outcomeAs}
 use Rattle.worktable.specs.declared.Mode.{Mode}
 use Rattle.worktable.specs.declared.Mode.the-variants as mode
-use Rattle.worktable.specs.Work.{longKeysAt, longEntries, longKeys, workIn, Wf, Stands}
-use Rattle.worktable.specs.Calls.{Ends, AllOf, laidOver, OlderFor, Layable, entriesHeld, HeadFor, entriesOver, spanLaid, tableOver, TableEnds}
-use Rattle.worktable.specs.WorkLaws.{not-ok, same-ok, becomes}
+use Rattle.worktable.specs.Work.{longKeysAt, longEntries, longKeys, workIn, Wf}
+use Rattle.worktable.specs.Calls.{Becomes, Ends, AllOf, laidOver, OlderFor, Layable, entriesHeld, HeadFor, entriesOver, spanLaid, tableOver, TableEnds}
+use Rattle.worktable.specs.WorkLaws.{few-of, not-ok, same-ok, becomes}
 
 -- ---- a table's rows in use, lent as a list of its queue
 
@@ -74,16 +73,13 @@ module _ (s : List ℕ) (w : NumbersWf s) where
   abbrev lentRows : List ℕ
   lentRows = part 10 (headIn s .len * 8) s
 
-  held-few : headIn s .len ≤ 64
+  pub held-few : headIn s .len ≤ 64
   unfolding entryRows
   held-few =
       let l = w .numbers-are in
       let m : length (entryRows s) ≡ 512 = length-part 10 512 s (omega arith) in
       let r = w .entries .room in
       omega arith
-
-  pub held-count : headIn s .len ≤ 64
-  held-count = held-few
 
   lent-length : length lentRows ≡ headIn s .len * 8
   lent-length = let f = held-few in let l = w .numbers-are in length-part 10 (headIn s .len * 8) s (omega arith)
@@ -179,10 +175,6 @@ pub within-of : (t : Table) → length (t .entries) ≤ longEntries → length (
 unfolding made orElse
 within-of t a b = record { few-entries = a; few-keys = b }
 
-pub few-of : (e k : ℕ) (t : Table) → Within e k (some t) → (length (t .entries) ≤ e) × (length (t .keys) ≤ k)
-unfolding made orElse
-few-of e k t w = (w .few-entries, w .few-keys)
-
 -- there is room for each step
 module _ (newer t u : Table) (few : (length (newer .entries) ≤ 64) × (length (newer .keys) ≤ 16)) (room : Within 320 144 (some t)) (g : Grown (newer .entries) t u) where
   pub room-entries : Within longEntries longKeys (some u)
@@ -275,5 +267,5 @@ adopts : (newer : Table) → laidOver mode.Join newer none ≡ ok (some (uncount
 unfolding laidOver laid joinTable
 adopts newer = refl
 
-pub ends-adopted : (newer : Table) (p b : List ℕ) → Rattle.worktable.specs.Calls.Becomes (some (uncounted newer)) p b → Ends (laidOver mode.Join newer none) Done p b
+pub ends-adopted : (newer : Table) (p b : List ℕ) → Becomes (some (uncounted newer)) p b → Ends (laidOver mode.Join newer none) Done p b
 ends-adopted newer p b c = record { rule = ap ok (c .is) ∙ sym (adopts newer); wf = c .wf }

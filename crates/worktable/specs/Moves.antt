@@ -4,7 +4,6 @@ use mathlib.Core.List.{List}
 use mathlib.Core.Option.{some}
 use mathlib.Core.Path.{_≡_}
 use Prim.Native.Nat.{ℕ, _+_}
-use lib.ListN.{length}
 use Rattle.cells.specs.Part.{part, put}
 use Rattle.maps.specs.MapLaws.{pair}
 use Rattle.rules.specs.Table.{made}

@@ -1,5 +1,5 @@
 -- The laws of the work table: present or absent, made, and one change of it after another. Assumes nothing.
-use mathlib.Core.Bool.{true, false, _&&_}
+use mathlib.Core.Bool.{true, false}
 use mathlib.Core.List.{List}
 use mathlib.Core.Option.{Option, none, some}
 use mathlib.Core.Path.{_≡_, refl, sym, ap, _∙_}
@@ -12,19 +12,19 @@ use Rattle.cells.specs.Part.{put}
 use Rattle.maps.specs.BoolLaws.{clash}
 use Rattle.maps.specs.Lists.{orElse}
 use Rattle.rules.specs.Causes.{Refusal, Result, ok, refused, andThen, left}
-use Rattle.rules.specs.Table.{Table, made}
+use Rattle.rules.specs.Table.{Table, emptyTable, made}
 use Rattle.rules_by_group.specs.RoomLaws.{Within}
 use Rattle.kvs.specs.Rows.{fits}
 use Rattle.stretch.specs.declared.Change.{Change}
 use Rattle.stretch.specs.declared.Outcome.{Outcome}
 use Rattle.stretch.specs.declared.Outcome.the-variants.{Done, Refused}
-use Rattle.stretch.specs.Stretch.{isUsed, madeHeader, tableAt}
+use Rattle.stretch.specs.Stretch.{isUsed, madeHeader, keyRowsAt, tableAt}
 use Rattle.stretch.specs.StretchLaws.{length-entries, length-keys}
 use Rattle.stretch.specs.Changes.{ruleOf, roomAt, outcomeAs, ChangedAt}
 use Rattle.stretch.specs.Laws.{limited-same, front-used, made-used, made-length, make-table, make-wf}
 use Rattle.deeds.specs.declared.Deed as deed
 use Rattle.worktable.specs.Work.{longKeysAt, longNumbers, longBytes, longEntries, longKeys, workIn, Wf, Stands}
-use Rattle.worktable.specs.Calls.{Becomes, deedTo, ReadyTo, Taken}
+use Rattle.worktable.specs.Calls.{Becomes, deedTo, Taken}
 
 -- ---- present and absent
 
@@ -51,7 +51,7 @@ stands-own p b w u =
       wf = w .used u;
     }
 
-made-none : made none ≡ Rattle.rules.specs.Table.emptyTable
+made-none : made none ≡ emptyTable
 unfolding made orElse
 made-none = refl
 
@@ -91,7 +91,7 @@ skipped p b w = record { is = refl; wf = w }
 
 -- ---- room
 
-few-of : (e k : ℕ) (t : Table) → Within e k (some t) → (length (t .entries) ≤ e) × (length (t .keys) ≤ k)
+pub few-of : (e k : ℕ) (t : Table) → Within e k (some t) → (length (t .entries) ≤ e) × (length (t .keys) ≤ k)
 unfolding made orElse
 few-of e k t w = (w .few-entries, w .few-keys)
 
@@ -100,7 +100,12 @@ unfolding roomAt fits
 room-long p b t l m w =
     let f = few-of longEntries longKeys t w in
     let k = length-keys longKeysAt p (omega arith) in
-    rw (length-entries longKeysAt p (omega arith) (omega arith), le-leb (length (t .entries)) 384 (f .0), le-leb (length (t .keys) * 4) (length (Rattle.stretch.specs.Stretch.keyRowsAt longKeysAt p)) (omega arith), le-leb (length (t .keys) * 64) (length b) (omega arith))
+    rw (
+      length-entries longKeysAt p (omega arith) (omega arith),
+      le-leb (length (t .entries)) longEntries (f .0),
+      le-leb (length (t .keys) * 4) (length (keyRowsAt longKeysAt p)) (omega arith),
+      le-leb (length (t .keys) * 64) (length b) (omega arith),
+    )
 
 -- ---- one change after another
 

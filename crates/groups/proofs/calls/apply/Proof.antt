@@ -2,7 +2,7 @@
 use Rattle.stretch.specs.Laws.{empty-taken}
 use Rattle.groups.specs.Laws.{found-at, found-full}
 use Rattle.stretch.specs.Changes.{ruleOf}
-use Rattle.groups.proofs.Applying.{at-table, at-changed, full-refused, full-table}
+use Rattle.groups.proofs.Applying.{at-table, at-changed, at-leaves, full-refused, full-leaves, full-table}
 use borrow.Author.Needs.{needs}
 use Rattle.groups.proofs.calls.apply.Statement.{statement}
 use Rattle.groups.proofs.calls.apply.Tie as tie
@@ -40,7 +40,7 @@ returns c =
     let start = c .before .before .before .before .before .before .before .before .before .before .before .before .before .before .before in
     let slot = c .before .before .before .before .before .before .before .before .slot in
     let apply-at = c .before .before .before .before .apply-at in
-    rw (slot .given .1) (at-changed (ruleOf (start .args .change) (start .args .rows .now) (start .args .key .now) (start .args .value .now)) _ _ (start .args .xs .now) (start .args .bs .now) _ _ _ (start .pre .0) (found-at _ _ _ _ (start .pre .1 .0) (slot .given .1)) (apply-at .ensures))
+    rw (slot .given .1) (at-changed (ruleOf (start .args .change) (start .args .rows .now) (start .args .key .now) (start .args .value .now)) _ _ (start .args .xs .now) (start .args .bs .now) _ _ _ (start .pre .0) (found-at _ _ _ _ (start .pre .1 .0) (slot .given .1)) (apply-at .ensures .0), at-leaves (start .args .change) _ _ (start .args .xs .now) (start .args .bs .now) _ _ _ (apply-at .ensures .0) (apply-at .ensures .1))
 
 same-length-3 : tie.Need-same-length-3
 same-length-3 c = search needs
@@ -60,7 +60,7 @@ returns-3 c =
     let enum-told = c .enum-told in
     let f = found-full _ _ _ (start .pre .1 .0) (enum-told .given .1) in
     rw (enum-told .given .1)
-    (full-refused _ (start .args .group) (start .args .xs .now) (start .args .bs .now) (start .pre .0) f (empty-taken (start .args .change) (start .args .rows .now) (start .args .key .now) (start .args .value .now) (rw (full-table (start .args .group) (start .args .xs .now) (start .args .bs .now) f) at (start .pre .1 .1))))
+    (full-refused _ (start .args .group) (start .args .xs .now) (start .args .bs .now) (start .pre .0) f (empty-taken (start .args .change) (start .args .rows .now) (start .args .key .now) (start .args .value .now) (rw (full-table (start .args .group) (start .args .xs .now) (start .args .bs .now) f) at (start .pre .1 .1))), full-leaves (start .args .change) _ (start .args .xs .now) (start .args .bs .now))
 
 pub apply-spec : {M : Type 1} → statement M
 apply-spec =

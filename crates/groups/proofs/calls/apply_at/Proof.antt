@@ -1,7 +1,7 @@
 -- `groups::calls::apply_at` meets its contract. Assumes nothing.
 use Rattle.stretch.specs.Changes.{ruleOf}
 use Rattle.stretch.specs.Laws.{wf-any, table-short}
-use Rattle.groups.proofs.Applying.{lent-numbers, lent-bytes, changed-back}
+use Rattle.groups.proofs.Applying.{lent-numbers, lent-bytes, changed-back, leaves-back}
 use borrow.Author.Needs.{needs}
 use Rattle.groups.proofs.calls.apply_at.Statement.{statement}
 use Rattle.groups.proofs.calls.apply_at.Tie as tie
@@ -56,7 +56,7 @@ returns : tie.Need-returns
 returns c =
     let start = c .before .before .before .before .before .before .before .before .before .before .before .before in
     let apply = c .before .before .before .before .apply in
-    changed-back (ruleOf (start .args .change) (start .args .rows .now) (start .args .key .now) (start .args .value .now)) (start .args .k) (start .args .xs .now) (start .args .bs .now) _ _ _ (start .pre .1 .0 .0) (start .pre .0 .numbers-fit) (start .pre .0 .bytes-fit) (apply .kept .0) (apply .kept .1 .0) (apply .ensures)
+    (changed-back (ruleOf (start .args .change) (start .args .rows .now) (start .args .key .now) (start .args .value .now)) (start .args .k) (start .args .xs .now) (start .args .bs .now) _ _ _ (start .pre .1 .0 .0) (start .pre .0 .numbers-fit) (start .pre .0 .bytes-fit) (apply .kept .0) (apply .kept .1 .0) (apply .ensures .0), leaves-back (start .args .change) (start .args .k) (start .args .xs .now) (start .args .bs .now) _ _ (start .pre .1 .0 .0) (start .pre .0 .numbers-fit) (start .pre .0 .bytes-fit) (apply .kept .0) (apply .kept .1 .0) (apply .ensures .1))
 
 pub apply-at-spec : {M : Type 1} → statement M
 apply-at-spec =

@@ -3,7 +3,7 @@ use mathlib.Core.Path.{refl}
 use native.Mathlib.Omega.{arith}
 use Rattle.groups.specs.Laws.{found-free}
 use Rattle.stretch.specs.Changes.{ruleOf}
-use Rattle.groups.proofs.Applying.{made-wf, made-at, made-same, grown-wf, made-done, made-refused}
+use Rattle.groups.proofs.Applying.{made-wf, made-at, made-same, grown-wf, made-done, made-refused, made-done-leaves, made-refused-leaves}
 use borrow.Author.Needs.{needs}
 use Rattle.groups.proofs.calls.apply_made.Statement.{statement}
 use Rattle.groups.proofs.calls.apply_made.Tie as tie
@@ -34,7 +34,7 @@ free-at-requires c κs =
     let make-at = c .before .before .before .before .before .before .before .before .before .before .before .before .before .make-at in
     let apply-at = c .before .before .before .before .before .before .before .before .apply-at in
     let f = found-free _ _ _ _ (start .pre .1 .0) refl in
-    (omega (arith, f .inside), grown-wf (start .args .group) (start .args .k) (start .args .xs .now) (start .args .bs .now) (start .pre .0) f (ruleOf (start .args .change) (start .args .rows .now) (start .args .key .now) (start .args .value .now)) _ _ _ (rw (make-at .ensures) at (apply-at .ensures)) .numbers-fit)
+    (omega (arith, f .inside), grown-wf (start .args .group) (start .args .k) (start .args .xs .now) (start .args .bs .now) (start .pre .0) f (ruleOf (start .args .change) (start .args .rows .now) (start .args .key .now) (start .args .value .now)) _ _ _ (rw (make-at .ensures) at (apply-at .ensures .0)) .numbers-fit)
 
 same-length : tie.Need-same-length
 same-length c = search needs
@@ -49,7 +49,7 @@ returns c =
     let apply-at = c .before .before .before .before .before .before .apply-at in
     let enum-told = c .enum-told in
     let f = found-free _ _ _ _ (start .pre .1 .0) refl in
-    made-done (start .args .group) (start .args .k) (start .args .xs .now) (start .args .bs .now) (start .pre .0) f _ _ _ (rw (make-at .ensures, enum-told .given .1) at (apply-at .ensures))
+    (made-done (start .args .group) (start .args .k) (start .args .xs .now) (start .args .bs .now) (start .pre .0) f _ _ _ (rw (make-at .ensures, enum-told .given .1) at (apply-at .ensures .0)), made-done-leaves (start .args .group) (start .args .k) (start .args .xs .now) (start .args .bs .now) (start .pre .0) f (start .args .change) _ _)
 
 same-length-3 : tie.Need-same-length-3
 same-length-3 c = search needs
@@ -65,7 +65,9 @@ returns-2 c =
     let answer = c .before .before .before .before .before .answer in
     let free-at = c .before .before .free-at in
     let f = found-free _ _ _ _ (start .pre .1 .0) refl in
-    rw (free-at .ensures) (made-refused (start .args .group) (start .args .k) (start .args .xs .now) (start .args .bs .now) (start .pre .0) f _ _ _ _ (rw (make-at .ensures, answer .given .1) at (apply-at .ensures)))
+    let a = rw (make-at .ensures, answer .given .1) at (apply-at .ensures .0) in
+    rw (free-at .ensures)
+    (made-refused (start .args .group) (start .args .k) (start .args .xs .now) (start .args .bs .now) (start .pre .0) f _ _ _ _ a, made-refused-leaves (start .args .group) (start .args .k) (start .args .xs .now) (start .args .bs .now) (start .pre .0) f (start .args .change) _ _ _ _ a)
 
 pub apply-made-spec : {M : Type 1} → statement M
 apply-made-spec =

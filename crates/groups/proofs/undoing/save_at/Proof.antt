@@ -1,89 +1,27 @@
 -- `groups::undoing::save_at` meets its contract. Assumes nothing.
-use mathlib.Core.Path.{refl}
-use Prim.Native.Nat.{_+_}
-use native.Mathlib.Omega.{arith}
-use Rattle.groups.proofs.Copies.{in-use, copied}
+use Rattle.groups.proofs.Savings.{entries-few}
+use Rattle.groups.proofs.Securings.{kept-restorable, kept-ready, keys-ready, covering-rows, covering-keys}
 use borrow.Author.Needs.{needs}
 use Rattle.groups.proofs.undoing.save_at.Statement.{statement}
 use Rattle.groups.proofs.undoing.save_at.Tie as tie
 
-mul-from : tie.Need-mul-from
-mul-from c = search needs
+save-header-requires : tie.Need-save-header-requires
+save-header-requires c κs =
+    let start = c .before .before .before in
+    ((start .pre .0 .inside, start .pre .0 .numbers-fit), entries-few _ _ (start .pre .0 .used (start .pre .1)))
 
-add-to : tie.Need-add-to
-add-to c = search needs
+save-rows-requires : tie.Need-save-rows-requires
+save-rows-requires c κs =
+    let start = c .before .before .before .before .before .before .before in
+    let save-header = c .before .before .before .save-header in
+    let ready = kept-ready (start .args .k) (start .args .xs .now) (start .args .bs .now) _ _ (start .pre .0) ((save-header .ensures (start .args .bs .now) (start .pre .0) (start .pre .1)) .kept) in ((ready .0, ready .1), ready .2)
 
-mul-to : tie.Need-mul-to
-mul-to c = search needs
-
-add-entries : tie.Need-add-entries
-add-entries c = search needs
-
-mul-entries : tie.Need-mul-entries
-mul-entries c = search needs
-
-slice-read-entries : tie.Need-slice-read-entries
-slice-read-entries c = search needs
-
-add-keys : tie.Need-add-keys
-add-keys c = search needs
-
-mul-keys : tie.Need-mul-keys
-mul-keys c = search needs
-
-slice-read-keys : tie.Need-slice-read-keys
-slice-read-keys c = search needs
-
-mul-shift-up-u64 : tie.Need-mul-shift-up-u64
-mul-shift-up-u64 c =
-    let start = c .before .before .before .before .before in
-    omega (arith, in-use (start .args .k) (start .args .xs .now) (start .args .bs .now) (start .pre .1))
-
-add-shift-up-u64 : tie.Need-add-shift-up-u64
-add-shift-up-u64 c =
-    let start = c .before .before .before .before .before in
-    omega (arith, in-use (start .args .k) (start .args .xs .now) (start .args .bs .now) (start .pre .1))
-
-shift-up-u64-requires : tie.Need-shift-up-u64-requires
-shift-up-u64-requires c κs =
-    let start = c .before .before .before .before .before in
-    omega (arith, in-use (start .args .k) (start .args .xs .now) (start .args .bs .now) (start .pre .1))
-
-add-shift-up-u64-2 : tie.Need-add-shift-up-u64-2
-add-shift-up-u64-2 c = search needs
-
-add-shift-up-u64-3 : tie.Need-add-shift-up-u64-3
-add-shift-up-u64-3 c = search needs
-
-mul-shift-up-u64-2 : tie.Need-mul-shift-up-u64-2
-mul-shift-up-u64-2 c =
-    let start = c .before .before .before .before .before .before .before .before .before in
-    omega (arith, in-use (start .args .k) (start .args .xs .now) (start .args .bs .now) (start .pre .1))
-
-shift-up-u64-requires-2 : tie.Need-shift-up-u64-requires-2
-shift-up-u64-requires-2 c κs =
-    let start = c .before .before .before .before .before .before .before .before .before in
-    let xs = c .before .before .xs in
-    let few = in-use (start .args .k) (start .args .xs .now) (start .args .bs .now) (start .pre .1) in omega (arith, few, start .pre, xs .given)
-
-mul-shift-up-u8 : tie.Need-mul-shift-up-u8
-mul-shift-up-u8 c = search needs
-
-add-shift-up-u8 : tie.Need-add-shift-up-u8
-add-shift-up-u8 c = search needs
-
-mul-shift-up-u8-2 : tie.Need-mul-shift-up-u8-2
-mul-shift-up-u8-2 c = search needs
-
-mul-shift-up-u8-3 : tie.Need-mul-shift-up-u8-3
-mul-shift-up-u8-3 c =
+save-keys-requires : tie.Need-save-keys-requires
+save-keys-requires c κs =
     let start = c .before .before .before .before .before .before .before .before .before .before .before .before .before in
-    omega (arith, in-use (start .args .k) (start .args .xs .now) (start .args .bs .now) (start .pre .1))
-
-shift-up-u8-requires : tie.Need-shift-up-u8-requires
-shift-up-u8-requires c κs =
-    let start = c .before .before .before .before .before .before .before .before .before .before .before .before .before in
-    omega (arith, in-use (start .args .k) (start .args .xs .now) (start .args .bs .now) (start .pre .1))
+    let save-header = c .before .before .before .before .before .before .before .before .before .save-header in
+    let save-rows = c .before .before .before .before .before .save-rows in
+    keys-ready (start .args .k) (start .args .first) (start .args .xs .now) (start .args .bs .now) _ _ (start .pre .0) (save-header .ensures (start .args .bs .now) (start .pre .0) (start .pre .1)) (save-rows .ensures (start .args .bs .now) (kept-restorable (start .args .k) (start .args .xs .now) (start .args .bs .now) _ _ (start .pre .0) ((save-header .ensures (start .args .bs .now) (start .pre .0) (start .pre .1)) .kept)))
 
 same-length : tie.Need-same-length
 same-length c = search needs
@@ -93,37 +31,32 @@ same-length-2 c = search needs
 
 returns : tie.Need-returns
 returns c =
-    let start = c .before .before .before .before .before .before .before .before .before .before .before .before .before .before .before .before in
-    let shift-up-u64 = c .before .before .before .before .before .before .before .before .before .before .shift-up-u64 in
-    let shift-up-u642 = c .before .before .before .before .before .before .shift-up-u642 in
-    let shift-up-u8 = c .before .before .shift-up-u8 in
-    copied (start .args .k) (8 + start .args .k) (start .args .xs .now) (start .args .bs .now) (omega arith) (omega arith) (λ e. omega arith) (start .pre .0 .1) (start .pre .0 .2) (start .pre .1) _ _ _ _ _ refl refl (shift-up-u64 .ensures) (shift-up-u642 .ensures) (shift-up-u8 .ensures)
+    let start = c .before .before .before .before .before .before .before .before .before .before .before .before .before .before .before .before .before .before in
+    let save-header = c .before .before .before .before .before .before .before .before .before .before .before .before .before .before .save-header in
+    let save-rows = c .before .before .before .before .before .before .before .before .before .before .save-rows in
+    let save-keys = c .before .before .before .before .save-keys in
+    covering-keys (start .args .k) (start .args .first) (start .args .xs .now) (start .args .bs .now) _ _ (start .pre .0) (save-header .ensures (start .args .bs .now) (start .pre .0) (start .pre .1)) (save-rows .ensures (start .args .bs .now) (kept-restorable (start .args .k) (start .args .xs .now) (start .args .bs .now) _ _ (start .pre .0) ((save-header .ensures (start .args .bs .now) (start .pre .0) (start .pre .1)) .kept))) (start .args .keys) _ _ (save-keys .ensures)
+
+same-length-3 : tie.Need-same-length-3
+same-length-3 c = search needs
+
+returns-2 : tie.Need-returns-2
+returns-2 c =
+    let start = c .before .before .before .before .before .before .before .before .before .before .before in
+    let save-header = c .before .before .before .before .before .before .before .save-header in
+    let save-rows = c .before .before .before .save-rows in
+    let if1 = c .if1 in
+    covering-rows (start .args .k) (start .args .first) (start .args .xs .now) (start .args .bs .now) _ _ (start .pre .0) (save-header .ensures (start .args .bs .now) (start .pre .0) (start .pre .1)) (save-rows .ensures (start .args .bs .now) (kept-restorable (start .args .k) (start .args .xs .now) (start .args .bs .now) _ _ (start .pre .0) ((save-header .ensures (start .args .bs .now) (start .pre .0) (start .pre .1)) .kept))) (start .args .keys) (if1 .left)
 
 pub save-at-spec : {M : Type 1} → statement M
 save-at-spec =
     tie.close
     (tie.spec
-    mul-from
-    add-to
-    mul-to
-    add-entries
-    mul-entries
-    slice-read-entries
-    add-keys
-    mul-keys
-    slice-read-keys
-    mul-shift-up-u64
-    add-shift-up-u64
-    shift-up-u64-requires
-    add-shift-up-u64-2
-    add-shift-up-u64-3
-    mul-shift-up-u64-2
-    shift-up-u64-requires-2
-    mul-shift-up-u8
-    add-shift-up-u8
-    mul-shift-up-u8-2
-    mul-shift-up-u8-3
-    shift-up-u8-requires
+    save-header-requires
+    save-rows-requires
+    save-keys-requires
     same-length
     same-length-2
-    returns)
+    returns
+    same-length-3
+    returns-2)

@@ -1,5 +1,6 @@
 -- `index::acts::change_group` meets its contract. Assumes nothing.
-use Rattle.stretch.specs.Changes.{Ready}
+use Rattle.stretch.specs.Changes.{ruleOf, Ready}
+use Rattle.groups.specs.Undo.{ReadyFor}
 use Rattle.index.specs.ActLaws.{found-still, ready-still, acted-change}
 use borrow.Author.Needs.{needs}
 use Rattle.index.proofs.acts.change_group.Statement.{statement}
@@ -16,7 +17,7 @@ apply-requires c κs =
     let start = c .before .before .before .before .before .before .before .before .before .before .before .before .before .before .before .before in
     let find = c .before .before .before .before .before .before .before .before .before .find in
     let secure-unless = c .before .before .before .before .before .before .secure-unless in
-    (secure-unless .ensures .wf, (found-still (start .args .group) (find .result) (start .args .last) (start .args .xs .now) (start .args .bs .now) _ _ (find .ensures) (secure-unless .ensures), ready-still (start .args .group) (find .result) (start .args .last) (start .args .xs .now) (start .args .bs .now) _ _ (find .ensures) (secure-unless .ensures) (Ready (start .args .change) (start .args .rows .now) (start .args .key .now) (start .args .value .now)) (start .pre .1 .1)))
+    (secure-unless .ensures .wf, (found-still (start .args .group) (find .result) (start .args .last) (ReadyFor (start .args .change) (find .result)) (start .args .xs .now) (start .args .bs .now) _ _ (find .ensures) (secure-unless .ensures), ready-still (start .args .group) (find .result) (start .args .last) (ReadyFor (start .args .change) (find .result)) (start .args .xs .now) (start .args .bs .now) _ _ (find .ensures) (secure-unless .ensures) (Ready (start .args .change) (start .args .rows .now) (start .args .key .now) (start .args .value .now)) (start .pre .1 .1)))
 
 same-length : tie.Need-same-length
 same-length c = search needs
@@ -30,7 +31,7 @@ returns c =
     let find = c .before .before .before .before .before .before .before .before .before .before .before .before .before .before .find in
     let secure-unless = c .before .before .before .before .before .before .before .before .before .before .before .secure-unless in
     let apply = c .before .before .before .before .apply in
-    acted-change (start .args .group) (find .result) (start .args .last) (start .args .xs .now) (start .args .bs .now) _ _ (find .ensures) (secure-unless .ensures) _ _ _ _ (apply .ensures)
+    acted-change (start .args .group) (find .result) (start .args .last) (start .args .xs .now) (start .args .bs .now) _ _ (find .ensures) (start .args .change) (ruleOf (start .args .change) (start .args .rows .now) (start .args .key .now) (start .args .value .now)) (secure-unless .ensures) _ _ _ (apply .ensures .0) (apply .ensures .1)
 
 pub change-group-spec : {M : Type 1} → statement M
 change-group-spec =

@@ -1,4 +1,5 @@
 -- `index::acts::clean` meets its contract. Assumes nothing.
+use Rattle.groups.specs.Undo.{ReadyToGo}
 use Rattle.index.specs.ActLaws.{found-still, acted-clean}
 use borrow.Author.Needs.{needs}
 use Rattle.index.proofs.acts.clean.Statement.{statement}
@@ -7,15 +8,15 @@ use Rattle.index.proofs.acts.clean.Tie as tie
 find-requires : tie.Need-find-requires
 find-requires c κs = search needs
 
-secure-unless-requires : tie.Need-secure-unless-requires
-secure-unless-requires c κs = search needs
+secure-removal-unless-requires : tie.Need-secure-removal-unless-requires
+secure-removal-unless-requires c κs = search needs
 
 remove-requires : tie.Need-remove-requires
 remove-requires c κs =
-    let start = c .before .before .before .before .before .before .before .before .before .before .before .before in
-    let find = c .before .before .before .before .before .before .before .before .find in
-    let secure-unless = c .before .before .before .before .before .secure-unless in
-    (secure-unless .ensures .wf .numbers-fit, found-still (start .args .group) (find .result) (start .args .last) (start .args .xs .now) (start .args .bs .now) _ _ (find .ensures) (secure-unless .ensures))
+    let start = c .before .before .before .before .before .before .before .before .before .before in
+    let find = c .before .before .before .before .before .before .find in
+    let secure-removal-unless = c .before .before .before .secure-removal-unless in
+    (secure-removal-unless .ensures .wf .numbers-fit, found-still (start .args .group) (find .result) (start .args .last) (ReadyToGo (find .result)) (start .args .xs .now) (start .args .bs .now) _ _ (find .ensures) (secure-removal-unless .ensures))
 
 same-length : tie.Need-same-length
 same-length c = search needs
@@ -25,18 +26,18 @@ same-length-2 c = search needs
 
 returns : tie.Need-returns
 returns c =
-    let start = c .before .before .before .before .before .before .before .before .before .before .before .before .before .before .before in
-    let find = c .before .before .before .before .before .before .before .before .before .before .before .find in
-    let secure-unless = c .before .before .before .before .before .before .before .before .secure-unless in
+    let start = c .before .before .before .before .before .before .before .before .before .before .before .before .before in
+    let find = c .before .before .before .before .before .before .before .before .before .find in
+    let secure-removal-unless = c .before .before .before .before .before .before .secure-removal-unless in
     let remove = c .before .before .remove in
-    acted-clean (start .args .group) (find .result) (start .args .last) (start .args .xs .now) (start .args .bs .now) _ _ (find .ensures) (secure-unless .ensures) _ (remove .ensures _ (secure-unless .ensures .wf))
+    acted-clean (start .args .group) (find .result) (start .args .last) (start .args .xs .now) (start .args .bs .now) _ _ (find .ensures) (secure-removal-unless .ensures) _ (remove .ensures _ (secure-removal-unless .ensures .wf))
 
 pub clean-spec : {M : Type 1} → statement M
 clean-spec =
     tie.close
     (tie.spec
     find-requires
-    secure-unless-requires
+    secure-removal-unless-requires
     remove-requires
     same-length
     same-length-2

@@ -1,27 +1,17 @@
 -- `memtable::Head::fetch_entries_to` meets its contract. Assumes nothing.
 use borrow.Author.Needs.{needs}
-use Rattle.memtable.proofs.FetchWays.{answered-by, compacted-answer, not-found-answer}
+use Rattle.memtable.proofs.FetchWays.{answered-by}
 use Rattle.memtable.proofs.Head.fetch_entries_to.Statement.{statement}
 use Rattle.memtable.proofs.Head.fetch_entries_to.Tie as tie
 
-fetch-range-requires : tie.Need-fetch-range-requires
-fetch-range-requires c κs = search needs
+range-to-requires : tie.Need-range-to-requires
+range-to-requires c κs = search needs
 
-enum-known-range : tie.Need-enum-known-range
-enum-known-range c = search needs
-
-answer-rows-requires : tie.Need-answer-rows-requires
-answer-rows-requires c κs =
-    let start = c .before .before .before .before .before .before .before .before .before .before .before .before .before .before .before .before .before .before .before .before .before in
-    let fetch-range = c .before .before .before .before .before .before .before .before .before .before .before .fetch-range in
-    let range = c .before .before .before .before .before .before .before .before .before .range in
-    (start .pre .0, ((rw (range .given .1) at (fetch-range .ensures)) .within, start .pre .1))
-
-enum-told : tie.Need-enum-told
-enum-told c = search needs
-
-enum-told-2 : tie.Need-enum-told-2
-enum-told-2 c = search needs
+answer-range-requires : tie.Need-answer-range-requires
+answer-range-requires c κs =
+    let start = c .before .before .before .before .before .before .before .before .before .before .before .before .before .before .before .before .before .before in
+    let range-to = c .before .before .before .before .before .before .before .before .range-to in
+    (start .pre .0, (range-to .ensures .within, start .pre .1))
 
 same-length : tie.Need-same-length
 same-length c = search needs
@@ -49,30 +39,16 @@ same-length-8 c = search needs
 
 returns : tie.Need-returns
 returns c =
-    let fetch-range = c .before .before .before .before .before .before .before .before .before .before .before .before .before .before .before .before .before .before .before .before .before .before .before .before .before .before .before .before .fetch-range in
-    let range = c .before .before .before .before .before .before .before .before .before .before .before .before .before .before .before .before .before .before .before .before .before .before .before .before .before .before .range in
-    let answer-rows = c .before .before .before .before .before .before .before .before .before .before .before .before .before .before .before .before .answer-rows in
-    λ keys counted. answered-by ((rw (range .given .1) at (fetch-range .ensures)) .rule keys counted) (answer-rows .ensures)
-
-returns-2 : tie.Need-returns-2
-returns-2 c =
-    let fetch-range = c .before .before .fetch-range in
-    λ keys counted. answered-by ((rw (c .enum-told .given .1) at (fetch-range .ensures)) .rule keys counted) (compacted-answer _)
-
-returns-3 : tie.Need-returns-3
-returns-3 c =
-    let fetch-range = c .before .before .fetch-range in
-    λ keys counted. answered-by ((rw (c .enum-told2 .given .1) at (fetch-range .ensures)) .rule keys counted) (not-found-answer _)
+    let range-to = c .before .before .before .before .before .before .before .before .before .before .before .before .before .before .before .before .before .before .before .before .before .before .before .before .before .range-to in
+    let answer-range = c .before .before .before .before .before .before .before .before .before .before .before .before .before .before .before .before .answer-range in
+    λ keys counted. answered-by (range-to .ensures .rule keys counted) (answer-range .ensures)
 
 pub fetch-entries-to-spec : {M : Type 1} → statement M
 fetch-entries-to-spec =
     tie.close
     (tie.spec
-    fetch-range-requires
-    enum-known-range
-    answer-rows-requires
-    enum-told
-    enum-told-2
+    range-to-requires
+    answer-range-requires
     same-length
     same-length-2
     same-length-3
@@ -81,6 +57,4 @@ fetch-entries-to-spec =
     same-length-6
     same-length-7
     same-length-8
-    returns
-    returns-2
-    returns-3)
+    returns)

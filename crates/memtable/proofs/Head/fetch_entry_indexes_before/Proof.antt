@@ -1,21 +1,17 @@
 -- `memtable::Head::fetch_entry_indexes_before` meets its contract. Assumes nothing.
-use native.Mathlib.Omega.{arith}
 use borrow.Author.Needs.{needs}
-use Rattle.memtable.proofs.FetchWays.{answered-by, before-rows}
+use Rattle.memtable.proofs.FetchWays.{answered-by}
 use Rattle.memtable.proofs.Head.fetch_entry_indexes_before.Statement.{statement}
 use Rattle.memtable.proofs.Head.fetch_entry_indexes_before.Tie as tie
 
-sub-count-before : tie.Need-sub-count-before
-sub-count-before c = search needs
+range-before-requires : tie.Need-range-before-requires
+range-before-requires c κs = search needs
 
-count-before-requires : tie.Need-count-before-requires
-count-before-requires c κs = search needs
-
-answer-rows-requires : tie.Need-answer-rows-requires
-answer-rows-requires c κs =
-    let start = c .before .before .before .before .before .before .before .before .before .before .before .before .before .before .before .before .before .before .before in
-    let count-before = c .before .before .before .before .before .before .before .before .count-before in
-    let w = start .pre .0 in let e = count-before .ensures .1 in (w, (omega arith, start .pre .1))
+answer-range-requires : tie.Need-answer-range-requires
+answer-range-requires c κs =
+    let start = c .before .before .before .before .before .before .before .before .before .before .before .before .before .before .before .before .before .before in
+    let range-before = c .before .before .before .before .before .before .before .before .range-before in
+    (start .pre .0, (range-before .ensures .within, start .pre .1))
 
 same-length : tie.Need-same-length
 same-length c = search needs
@@ -43,18 +39,16 @@ same-length-8 c = search needs
 
 returns : tie.Need-returns
 returns c =
-    let start = c .before .before .before .before .before .before .before .before .before .before .before .before .before .before .before .before .before .before .before .before .before .before .before .before .before .before .before .before .before .before .before .before .before .before .before .before in
-    let count-before = c .before .before .before .before .before .before .before .before .before .before .before .before .before .before .before .before .before .before .before .before .before .before .before .before .before .count-before in
-    let answer-rows = c .before .before .before .before .before .before .before .before .before .before .before .before .before .before .before .before .answer-rows in
-    λ keys counted. answered-by (before-rows _ _ (start .pre .0) _ _ (count-before .ensures .0) keys counted) (answer-rows .ensures)
+    let range-before = c .before .before .before .before .before .before .before .before .before .before .before .before .before .before .before .before .before .before .before .before .before .before .before .before .before .range-before in
+    let answer-range = c .before .before .before .before .before .before .before .before .before .before .before .before .before .before .before .before .answer-range in
+    λ keys counted. answered-by (range-before .ensures .rule keys counted) (answer-range .ensures)
 
 pub fetch-entry-indexes-before-spec : {M : Type 1} → statement M
 fetch-entry-indexes-before-spec =
     tie.close
     (tie.spec
-    sub-count-before
-    count-before-requires
-    answer-rows-requires
+    range-before-requires
+    answer-range-requires
     same-length
     same-length-2
     same-length-3

@@ -1,14 +1,17 @@
 -- `memtable::Head::fetch_rewritten_entry_indexes` meets its contract. Assumes nothing.
-use native.Mathlib.Omega.{arith}
 use borrow.Author.Needs.{needs}
-use Rattle.memtable.proofs.FetchWays.{answered-by, rewritten-rows}
+use Rattle.memtable.proofs.FetchWays.{answered-by}
 use Rattle.memtable.proofs.Head.fetch_rewritten_entry_indexes.Statement.{statement}
 use Rattle.memtable.proofs.Head.fetch_rewritten_entry_indexes.Tie as tie
 
-answer-rows-requires : tie.Need-answer-rows-requires
-answer-rows-requires c κs =
-    let start = c .before .before .before .before .before .before .before .before .before .before .before .before .before .before .before .before .before in
-    let w = start .pre .0 in (w, (omega arith, start .pre .1))
+range-rewritten-requires : tie.Need-range-rewritten-requires
+range-rewritten-requires c κs = search needs
+
+answer-range-requires : tie.Need-answer-range-requires
+answer-range-requires c κs =
+    let start = c .before .before .before .before .before .before .before .before .before .before .before .before .before .before .before .before .before .before in
+    let range-rewritten = c .before .before .before .before .before .before .before .before .range-rewritten in
+    (start .pre .0, (range-rewritten .ensures _ (start .pre .0) .within, start .pre .1))
 
 same-length : tie.Need-same-length
 same-length c = search needs
@@ -36,15 +39,17 @@ same-length-8 c = search needs
 
 returns : tie.Need-returns
 returns c =
-    let start = c .before .before .before .before .before .before .before .before .before .before .before .before .before .before .before .before .before .before .before .before .before .before .before .before .before .before .before .before .before .before .before .before .before .before in
-    let answer-rows = c .before .before .before .before .before .before .before .before .before .before .before .before .before .before .before .before .answer-rows in
-    λ keys counted. answered-by (rewritten-rows _ _ (start .pre .0) keys counted) (answer-rows .ensures)
+    let start = c .before .before .before .before .before .before .before .before .before .before .before .before .before .before .before .before .before .before .before .before .before .before .before .before .before .before .before .before .before .before .before .before .before .before .before in
+    let range-rewritten = c .before .before .before .before .before .before .before .before .before .before .before .before .before .before .before .before .before .before .before .before .before .before .before .before .before .range-rewritten in
+    let answer-range = c .before .before .before .before .before .before .before .before .before .before .before .before .before .before .before .before .answer-range in
+    λ keys counted. answered-by (range-rewritten .ensures _ (start .pre .0) .rule keys counted) (answer-range .ensures)
 
 pub fetch-rewritten-entry-indexes-spec : {M : Type 1} → statement M
 fetch-rewritten-entry-indexes-spec =
     tie.close
     (tie.spec
-    answer-rows-requires
+    range-rewritten-requires
+    answer-range-requires
     same-length
     same-length-2
     same-length-3

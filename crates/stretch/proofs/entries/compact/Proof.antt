@@ -2,6 +2,7 @@
 use Rattle.cells.specs.Part.{part}
 use Rattle.stretch.specs.Stretch.{entryRowsAt}
 use Rattle.stretch.proofs.EntryWays.{compacting}
+use Rattle.stretch.proofs.Reaches.{compacting-leaves}
 use borrow.Author.Needs.{needs}
 use Rattle.stretch.proofs.entries.compact.Statement.{statement}
 use Rattle.stretch.proofs.entries.compact.Tie as tie
@@ -41,7 +42,7 @@ returns c =
     let head-in = c .before .before .before .before .before .before .before .before .before .head-in in
     let compact-to = c .before .before .before .before .before .before .before .compact-to in
     let write-head = c .before .before .write-head in
-    λ b w. compacting _ _ (start .args .p .now) (compact-to .last .1 .0) (compact-to .kept .1 .0) _ _ b w (rw (head-in .ensures) at (compact-to .ensures)) (write-head .ensures)
+    (λ b w. compacting _ _ (start .args .p .now) (compact-to .last .1 .0) (compact-to .kept .1 .0) _ _ b w (rw (head-in .ensures) at (compact-to .ensures)) (write-head .ensures), compacting-leaves (start .args .keys-at) (start .args .p .now) (compact-to .last .1 .0) (start .pre) (compact-to .kept .1 .0) _ _ (write-head .ensures))
 
 pub compact-spec : {M : Type 1} → statement M
 compact-spec =

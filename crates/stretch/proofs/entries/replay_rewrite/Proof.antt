@@ -1,7 +1,8 @@
 -- `stretch::entries::replay_rewrite` meets its contract. Assumes nothing.
 use Rattle.cells.specs.Part.{part}
-use Rattle.stretch.specs.Stretch.{entryRowsAt}
+use Rattle.stretch.specs.Stretch.{headIn, entryRowsAt}
 use Rattle.stretch.proofs.EntryWays.{laying}
+use Rattle.stretch.proofs.Reaches.{replay-keeps, laying-leaves}
 use borrow.Author.Needs.{needs}
 use Rattle.stretch.proofs.entries.replay_rewrite.Statement.{statement}
 use Rattle.stretch.proofs.entries.replay_rewrite.Tie as tie
@@ -41,7 +42,7 @@ returns c =
     let head-in = c .before .before .before .before .before .before .before .before .head-in in
     let replay-rewrite = c .before .before .before .before .before .before .replay-rewrite in
     let settle-laid = c .before .before .settle-laid in
-    λ b w. laying _ _ (start .args .p .now) (replay-rewrite .last .1 .0) (start .args .rows .now) (replay-rewrite .kept .1 .0) _ _ b w _ (rw (head-in .ensures) at (replay-rewrite .ensures)) (settle-laid .ensures .0) (settle-laid .ensures .1)
+    (λ b w. laying _ _ (start .args .p .now) (replay-rewrite .last .1 .0) (start .args .rows .now) (replay-rewrite .kept .1 .0) _ _ b w _ (rw (head-in .ensures) at (replay-rewrite .ensures)) (settle-laid .ensures .0) (settle-laid .ensures .1), laying-leaves (start .args .keys-at) (start .args .p .now) (replay-rewrite .last .1 .0) (start .pre .0) (replay-rewrite .kept .1 .0) _ _ 1 (start .args .first) (start .args .rows .now) (start .pre .1 .0) (replay-keeps (headIn (start .args .p .now)) (entryRowsAt (start .args .keys-at) (start .args .p .now)) (start .args .first) (start .args .rows .now)) _ (rw (head-in .ensures) at (replay-rewrite .ensures)) (settle-laid .ensures .1))
 
 pub replay-rewrite-spec : {M : Type 1} → statement M
 replay-rewrite-spec =

@@ -2,6 +2,7 @@
 use Rattle.cells.specs.Part.{part}
 use Rattle.stretch.specs.Stretch.{entryRowsAt}
 use Rattle.stretch.proofs.EntryWays.{moving}
+use Rattle.stretch.proofs.Reaches.{moving-leaves}
 use borrow.Author.Needs.{needs}
 use Rattle.stretch.proofs.entries.rewrite.Statement.{statement}
 use Rattle.stretch.proofs.entries.rewrite.Tie as tie
@@ -41,7 +42,7 @@ returns c =
     let head-in = c .before .before .before .before .before .before .before .before .head-in in
     let rewrite = c .before .before .before .before .before .before .rewrite in
     let settle-rewritten = c .before .before .settle-rewritten in
-    λ b w. moving _ _ _ (start .args .p .now) (rewrite .last .1 .0) (start .args .rows .now) (rewrite .kept .1 .0) _ _ b w _ (rw (head-in .ensures) at (rewrite .ensures)) (settle-rewritten .ensures .0) (settle-rewritten .ensures .1)
+    (λ b w. moving _ _ _ (start .args .p .now) (rewrite .last .1 .0) (start .args .rows .now) (rewrite .kept .1 .0) _ _ b w _ (rw (head-in .ensures) at (rewrite .ensures)) (settle-rewritten .ensures .0) (settle-rewritten .ensures .1), moving-leaves (start .args .keys-at) (start .args .p .now) (rewrite .last .1 .0) (start .pre .0) (rewrite .kept .1 .0) _ _ (start .args .first) (start .args .rows .now) _ (rw (head-in .ensures) at (rewrite .ensures)) (settle-rewritten .ensures .1))
 
 pub rewrite-spec : {M : Type 1} → statement M
 rewrite-spec =

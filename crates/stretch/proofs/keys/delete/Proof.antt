@@ -2,6 +2,7 @@
 use Rattle.cells.specs.Part.{part}
 use Rattle.stretch.specs.Stretch.{keyCount, keyRowsAt}
 use Rattle.stretch.proofs.KeyWays.{deleting}
+use Rattle.stretch.proofs.Reaches.{counted-keys-leave}
 use borrow.Author.Needs.{needs}
 use Rattle.stretch.proofs.keys.delete.Statement.{statement}
 use Rattle.stretch.proofs.keys.delete.Tie as tie
@@ -41,7 +42,7 @@ unfolding keyCount keyRowsAt part
 returns c =
     let start = c .before .before .before .before .before .before .before .before .before .before .before in
     let delete = c .before .before .before .before .delete in
-    deleting _ (start .args .p .now) (start .args .b .now) _ _ (start .pre) (delete .kept .1 .0) (delete .kept .1 .1 .0) _ _ (delete .ensures)
+    (deleting _ (start .args .p .now) (start .args .b .now) _ _ (start .pre) (delete .kept .1 .0) (delete .kept .1 .1 .0) _ _ (delete .ensures), counted-keys-leave (start .args .keys-at) (start .args .p .now) (delete .last .1 .0) (start .pre .numbers) (delete .kept .1 .0) (delete .result))
 
 pub delete-spec : {M : Type 1} → statement M
 delete-spec =

@@ -2,6 +2,7 @@
 use Rattle.cells.specs.Part.{part}
 use Rattle.stretch.specs.Stretch.{keyCount, keyRowsAt}
 use Rattle.stretch.proofs.KeyWays.{put-done, put-full}
+use Rattle.stretch.proofs.Reaches.{lent-keys-leave, counted-keys-leave}
 use borrow.Author.Needs.{needs}
 use Rattle.stretch.proofs.keys.put.Statement.{statement}
 use Rattle.stretch.proofs.keys.put.Tie as tie
@@ -44,7 +45,7 @@ unfolding keyCount keyRowsAt part
 returns c =
     let start = c .before .before .before .before .before .before .before .before .before .before .before .before .before .before in
     let put = c .before .before .before .before .before .before .put in
-    put-full _ (start .args .p .now) (start .args .b .now) _ _ (start .pre .0) (put .kept .1 .0) _ _ (rw (c .enum-told .given .1) at (put .ensures))
+    (put-full _ (start .args .p .now) (start .args .b .now) _ _ (start .pre .0) (put .kept .1 .0) _ _ (rw (c .enum-told .given .1) at (put .ensures)), lent-keys-leave (start .args .keys-at) (start .args .p .now) (put .last .1 .0) (start .pre .0 .numbers) (put .kept .1 .0))
 
 slice-write-p : tie.Need-slice-write-p
 slice-write-p c = search needs
@@ -61,7 +62,7 @@ returns-2 c =
     let start = c .before .before .before .before .before .before .before .before .before .before .before .before .before .before .before in
     let put = c .before .before .before .before .before .before .before .put in
     let answer = c .before .answer in
-    put-done _ (start .args .p .now) (start .args .b .now) _ _ (start .pre .0) (put .kept .1 .0) _ _ _ (put .kept .1 .1 .0) (rw (answer .given .1) at (put .ensures))
+    (put-done _ (start .args .p .now) (start .args .b .now) _ _ (start .pre .0) (put .kept .1 .0) _ _ _ (put .kept .1 .1 .0) (rw (answer .given .1) at (put .ensures)), counted-keys-leave (start .args .keys-at) (start .args .p .now) (put .last .1 .0) (start .pre .0 .numbers) (put .kept .1 .0) (answer .given .0 .0))
 
 pub put-spec : {M : Type 1} → statement M
 put-spec =

@@ -2,6 +2,7 @@
 use Rattle.cells.specs.Part.{part}
 use Rattle.stretch.specs.Stretch.{keyCount, keyRowsAt}
 use Rattle.stretch.proofs.KeyWays.{rewrite-done, rewrite-back}
+use Rattle.stretch.proofs.Reaches.{lent-keys-leave}
 use borrow.Author.Needs.{needs}
 use Rattle.stretch.proofs.keys.rewrite_key.Statement.{statement}
 use Rattle.stretch.proofs.keys.rewrite_key.Tie as tie
@@ -42,7 +43,7 @@ returns c =
     let start = c .before .before .before .before .before .before .before .before .before .before in
     let rewrite-key = c .before .before .before .before .rewrite-key in
     let enum-told = c .enum-told in
-    rewrite-done _ (start .args .p .now) (start .args .b .now) _ (start .pre) (rewrite-key .kept .1 .0) _ _ _ (rw (enum-told .given .1) at (rewrite-key .ensures))
+    (rewrite-done _ (start .args .p .now) (start .args .b .now) _ (start .pre) (rewrite-key .kept .1 .0) _ _ _ (rw (enum-told .given .1) at (rewrite-key .ensures)), lent-keys-leave (start .args .keys-at) (start .args .p .now) (rewrite-key .last .1 .0) (start .pre .numbers) (rewrite-key .kept .1 .0))
 
 same-length-2 : tie.Need-same-length-2
 same-length-2 c = search needs
@@ -53,7 +54,7 @@ returns-2 c =
     let start = c .before .before .before .before .before .before .before .before .before .before in
     let rewrite-key = c .before .before .before .before .rewrite-key in
     let enum-told2 = c .enum-told2 in
-    rewrite-back _ (start .args .p .now) (start .args .b .now) _ (start .pre) (rewrite-key .kept .1 .0) _ _ _ (rw (enum-told2 .given .1) at (rewrite-key .ensures))
+    (rewrite-back _ (start .args .p .now) (start .args .b .now) _ (start .pre) (rewrite-key .kept .1 .0) _ _ _ (rw (enum-told2 .given .1) at (rewrite-key .ensures)), lent-keys-leave (start .args .keys-at) (start .args .p .now) (rewrite-key .last .1 .0) (start .pre .numbers) (rewrite-key .kept .1 .0))
 
 pub rewrite-key-spec : {M : Type 1} → statement M
 rewrite-key-spec =

@@ -27,7 +27,7 @@ returns c =
     let start = c .before .before .before .before .before .before .before .before .before .before .before .before .before .before .before .before in
     let provide = c .before .before .before .before .before .before .before .before .before .provide in
     let apply = c .before .before .before .before .apply in
-    acted _ _ _ _ _ _ _ (start .pre .1) (provide .ensures (start .args .b .now) (start .pre .0)) _ _ _ (apply .ensures) (apply .kept .0) (apply .kept .1 .0)
+    acted _ _ _ _ _ _ _ (start .pre .1) (provide .ensures (start .args .b .now) (start .pre .0)) _ _ _ (apply .ensures .0) (apply .kept .0) (apply .kept .1 .0)
 
 pub change-table-spec : {M : Type 1} → statement M
 change-table-spec =

@@ -116,7 +116,7 @@ same-length : tie.Need-same-length
 same-length c =
     let copy-in-u64 = c .before .before .before .before .before .before .before .before .before .before .before .before .copy-in-u64 in
     let copy-in-u642 = c .before .before .before .before .before .before .before .copy-in-u642 in
-    length-set (copy-in-u642 .last .0) 9 0 ∙ copy-in-u642 .kept .0 ∙ copy-in-u64 .kept .0
+    length-set (copy-in-u642 .last .0) _ _ ∙ copy-in-u642 .kept .0 ∙ copy-in-u64 .kept .0
 
 same-length-2 : tie.Need-same-length-2
 same-length-2 c = search needs

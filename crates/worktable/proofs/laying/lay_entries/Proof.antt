@@ -1,6 +1,6 @@
 -- `worktable::laying::lay_entries` meets its contract. Assumes nothing.
 use Rattle.worktable.specs.Calls.{newerQueue, HeadFor, entriesOver}
-use Rattle.worktable.specs.LayLaws.{held-count, lent-held, lent-window}
+use Rattle.worktable.specs.LayLaws.{held-few, lent-held, lent-window}
 use borrow.Author.Needs.{needs}
 use Rattle.worktable.proofs.laying.lay_entries.Statement.{statement}
 use Rattle.worktable.proofs.laying.lay_entries.Tie as tie
@@ -12,7 +12,7 @@ rows-of-requires : tie.Need-rows-of-requires
 rows-of-requires c κs =
     let start = c .before .before .before in
     let head-in = c .head-in in
-    (start .pre .1 .0 .numbers-are, rw (head-in .ensures) (held-count _ (start .pre .1 .0)))
+    (start .pre .1 .0 .numbers-are, rw (head-in .ensures) (held-few _ (start .pre .1 .0)))
 
 enum-told : tie.Need-enum-told
 enum-told c = search needs
@@ -61,7 +61,7 @@ returns c =
     let rows-of = c .before .before .before .before .before .before .rows-of in
     let enum-told = c .before .before .before .before .enum-told in
     let append = c .before .before .append in
-    λ b w. rw (enum-told .given .1) (rw (rows-of .ensures, head-in .ensures, lent-window _ (start .pre .1 .0)) at (append .ensures b w))
+    λ b w. rw (enum-told .given .1) (rw (rows-of .ensures, head-in .ensures, lent-window _ (start .pre .1 .0)) at (append .ensures .0 b w))
 
 same-length-2 : tie.Need-same-length-2
 same-length-2 c = search needs
@@ -74,7 +74,7 @@ returns-2 c =
     let rows-of = c .before .before .before .before .before .before .rows-of in
     let enum-told2 = c .before .before .before .before .enum-told2 in
     let replay-rewrite = c .before .before .replay-rewrite in
-    λ b w. rw (enum-told2 .given .1) (rw (rows-of .ensures, head-in .ensures, lent-window _ (start .pre .1 .0)) at (replay-rewrite .ensures b w))
+    λ b w. rw (enum-told2 .given .1) (rw (rows-of .ensures, head-in .ensures, lent-window _ (start .pre .1 .0)) at (replay-rewrite .ensures .0 b w))
 
 same-length-3 : tie.Need-same-length-3
 same-length-3 c = search needs

@@ -1,0 +1,77 @@
+//! Times of the port beside the Rust's: the same work, in one process, taking turns. See ../docs/PERFORMANCE.md.
+
+mod port;
+mod rust;
+mod work;
+
+use std::time::Duration;
+use work::Work;
+
+/// How often a piece of work is done in a turn.
+const REPEATS: u32 = 20;
+
+/// One side of a comparison: does the work once and gives the time that it took, without making what it needs.
+pub type Side = Box<dyn FnMut() -> Duration>;
+
+pub struct Row {
+    name: &'static str,
+    /// How many calls the work has.
+    calls: u32,
+    rust: Side,
+    port: Side,
+}
+
+/// The times of a turn, in nanoseconds a call. Each piece of work is short, so that few of them are interrupted.
+fn turn(side: &mut Side, calls: u32, times: &mut Vec<f64>) {
+    for _ in 0..REPEATS {
+        times.push(side().as_nanos() as f64 / f64::from(calls));
+    }
+}
+
+fn median(mut times: Vec<f64>) -> f64 {
+    times.sort_by(|a, b| a.partial_cmp(b).unwrap());
+    times[times.len() / 2]
+}
+
+/// The medians over all turns but the first, Rust and port.
+fn measure(row: &mut Row, rounds: usize) -> (f64, f64) {
+    let (mut rust, mut port) = (Vec::new(), Vec::new());
+    turn(&mut row.rust, row.calls, &mut Vec::new());
+    turn(&mut row.port, row.calls, &mut Vec::new());
+    for _ in 0..rounds {
+        turn(&mut row.rust, row.calls, &mut rust);
+        turn(&mut row.port, row.calls, &mut port);
+    }
+    (median(rust), median(port))
+}
+
+fn main() {
+    let rounds = std::env::args().nth(1).and_then(|t| t.parse().ok()).unwrap_or(25);
+    println!("| call | Rust, ns | port, ns | port / Rust |");
+    println!("|---|---|---|---|");
+    for mut row in rows() {
+        let (rust, port) = measure(&mut row, rounds);
+        println!("| {} | {:.0} | {:.0} | {:.2} |", row.name, rust, port, port / rust);
+    }
+}
+
+fn rows() -> Vec<Row> {
+    let mut out = Vec::new();
+    for (name, before, work) in work::replays() {
+        out.push(replay_row(name, before, work));
+    }
+    out.extend(work::queries().into_iter().map(|(name, query)| query_row(name, query)));
+    out
+}
+
+/// Batches replayed into an Append context that has replayed others before.
+fn replay_row(name: &'static str, before: Work, work: Work) -> Row {
+    let calls = work.batches.len() as u32;
+    Row { name, calls, rust: rust::replay(&before, &work), port: port::replay(&before, &work) }
+}
+
+/// A query of each of eight groups with 32 entries and 16 keys.
+fn query_row(name: &'static str, query: work::Query) -> Row {
+    let before = work::filled();
+    Row { name, calls: work::ASKED, rust: rust::query(&before, query), port: port::query(&before, query) }
+}

@@ -1,0 +1,102 @@
+//! The port's side.
+
+use crate::work::{key, Item, Query, Work, ASKED, GROUPS};
+use crate::Side;
+use galdnyrr::{Batch, Compression, Context, Entry, FileId, Pairs, Queue, Records};
+use std::hint::black_box;
+use std::time::Instant;
+
+fn batch(items: &[Item]) -> Batch {
+    let mut b = Batch::new(Queue::Append, 1);
+    for item in items {
+        match item {
+            Item::Entries(group, first, count, seq) => {
+                let list: Vec<Entry> = (0..*count).map(|i| entry(first + i, *seq)).collect();
+                b.entries(*group, &list)
+            }
+            Item::Put(group, key, value, seq) => {
+                let file = FileId { queue: Queue::Append, seq: *seq };
+                b.put_of(*group, key, Some(value), Some(file))
+            }
+            Item::Del(group, key) => b.delete(*group, key),
+            Item::Compact(group, index) => b.compact(*group, *index),
+        };
+    }
+    b
+}
+
+fn entry(index: u64, seq: u64) -> Entry {
+    Entry {
+        index,
+        file: FileId { queue: Queue::Append, seq },
+        block_offset: index * 64,
+        block_len: 4096,
+        compression: Compression::None,
+        offset: 64,
+        len: 64,
+    }
+}
+
+fn replay_all(c: &mut Context, batches: &[Batch]) {
+    for b in batches {
+        c.replay_append(b).expect("a batch of the benchmark is taken");
+    }
+}
+
+fn batches(work: &Work) -> Vec<Batch> {
+    work.batches.iter().map(|b| batch(b)).collect()
+}
+
+pub fn replay(before: &Work, work: &Work) -> Side {
+    let (before, work) = (batches(before), work.clone());
+    let mut c = Context::new(Queue::Append);
+    Box::new(move || {
+        c.reset();
+        replay_all(&mut c, &before);
+        let lent = batches(&work);
+        let start = Instant::now();
+        replay_all(&mut c, &lent);
+        let took = start.elapsed();
+        black_box(&c);
+        took
+    })
+}
+
+pub fn query(before: &Work, query: Query) -> Side {
+    let mut c = Context::new(Queue::Append);
+    replay_all(&mut c, &batches(before));
+    let keys: Vec<Vec<u8>> = (0..16).map(key).collect();
+    let mut list = Records::with_room(64);
+    let mut pairs = Pairs::with_room(16);
+    let mut out = [0; 32];
+    Box::new(move || {
+        let area = c.area();
+        let start = Instant::now();
+        for i in 0..u64::from(ASKED) {
+            let group = i % GROUPS + 1;
+            match query {
+                Query::FirstIndex => drop(black_box(area.first_index(group))),
+                Query::LastIndex => drop(black_box(area.last_index(group))),
+                Query::GetEntry => drop(black_box(area.get_entry(group, i % 32 + 1))),
+                Query::Get => {
+                    let _ = black_box(area.get(group, &keys[i as usize % 16], &mut out));
+                }
+                Query::Fetch(n) => {
+                    let begin = i % (33 - n) + 1;
+                    area.fetch_entries_to(group, begin, begin + n, None, &mut list).unwrap();
+                    black_box(&list);
+                }
+                Query::Scan => {
+                    area.scan(group, None, None, false, 16, &mut pairs).unwrap();
+                    black_box(&pairs);
+                }
+                Query::MinFileSeq => drop(black_box(area.min_file_seq(group, Queue::Append))),
+                Query::SomeBefore => {
+                    let count = i as usize % 32 + 1;
+                    let _ = black_box(area.has_at_least_some_entries_before(group, 1, count));
+                }
+            }
+        }
+        start.elapsed()
+    })
+}

@@ -1,0 +1,115 @@
+//! The Rust's side.
+
+use crate::work::{key, Item, Query, Work, ASKED, GROUPS};
+use crate::Side;
+use raft_engine::env::probe::{self, Context};
+use raft_engine::env::{
+    Command, CompressionType, EntryIndex, FileBlockHandle, FileId, KeyValue, LogItem,
+    LogItemContent, LogQueue, OpType,
+};
+use std::hint::black_box;
+use std::time::Instant;
+
+const APPEND: LogQueue = LogQueue::Append;
+
+fn item(item: &Item) -> LogItem {
+    let of = |group: u64, content| LogItem { raft_group_id: group, content };
+    match item {
+        Item::Entries(group, first, count, seq) => {
+            let list = (0..*count).map(|i| entry(first + i, *seq)).collect();
+            LogItem::new_entry_indexes(*group, list)
+        }
+        Item::Put(group, key, value, seq) => of(
+            *group,
+            LogItemContent::Kv(KeyValue {
+                op_type: OpType::Put,
+                key: key.clone(),
+                value: Some(value.clone()),
+                file_id: Some(FileId::new(APPEND, *seq)),
+            }),
+        ),
+        Item::Del(group, key) => {
+            of(*group, LogItemContent::Kv(KeyValue::new(OpType::Del, key.clone(), None)))
+        }
+        Item::Compact(group, index) => {
+            of(*group, LogItemContent::Command(Command::Compact { index: *index }))
+        }
+    }
+}
+
+fn entry(index: u64, seq: u64) -> EntryIndex {
+    EntryIndex {
+        index,
+        entries: Some(FileBlockHandle { id: FileId::new(APPEND, seq), offset: index * 64, len: 4096 }),
+        compression_type: CompressionType::None,
+        entry_offset: 64,
+        entry_len: 64,
+    }
+}
+
+fn batches(work: &Work) -> Vec<Vec<LogItem>> {
+    work.batches.iter().map(|b| b.iter().map(item).collect()).collect()
+}
+
+fn context(work: &Work) -> Context {
+    let mut c = probe::new_context();
+    batches(work).into_iter().for_each(|b| probe::replay(&mut c, b, FileId::new(APPEND, 1)));
+    c
+}
+
+pub fn replay(before: &Work, work: &Work) -> Side {
+    let (before, work) = (before.clone(), work.clone());
+    Box::new(move || {
+        let mut c = context(&before);
+        let lent = batches(&work);
+        let start = Instant::now();
+        for batch in lent {
+            probe::replay(&mut c, batch, FileId::new(APPEND, 1));
+        }
+        let took = start.elapsed();
+        black_box(&c);
+        took
+    })
+}
+
+pub fn query(before: &Work, query: Query) -> Side {
+    let c = context(before);
+    let keys: Vec<Vec<u8>> = (0..16).map(key).collect();
+    let mut list = Vec::with_capacity(64);
+    let mut pairs = Vec::with_capacity(16);
+    Box::new(move || {
+        let tables = probe::context_tables(&c);
+        let start = Instant::now();
+        for i in 0..u64::from(ASKED) {
+            let table = tables.get(i % GROUPS + 1).unwrap();
+            let table = table.read();
+            match query {
+                Query::FirstIndex => drop(black_box(table.first_index())),
+                Query::LastIndex => drop(black_box(table.last_index())),
+                Query::GetEntry => drop(black_box(table.get_entry(i % 32 + 1))),
+                Query::Get => drop(black_box(table.get(&keys[i as usize % 16]))),
+                Query::Fetch(n) => {
+                    list.clear();
+                    let begin = i % (33 - n) + 1;
+                    table.fetch_entries_to(begin, begin + n, None, &mut list).unwrap();
+                    black_box(&list);
+                }
+                Query::Scan => {
+                    pairs.clear();
+                    let push = |k: &[u8], v: &[u8]| {
+                        pairs.push((k.to_vec(), v.to_vec()));
+                        true
+                    };
+                    table.scan(None, None, false, push).unwrap();
+                    black_box(&pairs);
+                }
+                Query::MinFileSeq => drop(black_box(table.min_file_seq(APPEND))),
+                Query::SomeBefore => {
+                    let gate = FileId::new(APPEND, 1);
+                    black_box(table.has_at_least_some_entries_before(gate, i as usize % 32 + 1));
+                }
+            }
+        }
+        start.elapsed()
+    })
+}

@@ -1,0 +1,119 @@
+//! What is measured: lists of Append batches, and queries.
+
+/// The groups of all work.
+pub const GROUPS: u64 = 8;
+
+/// How many queries are one piece of work.
+pub const ASKED: u32 = 256;
+
+/// An item of a batch.
+#[derive(Clone)]
+pub enum Item {
+    /// Entries from an index on: how many, and their file.
+    Entries(u64, u64, u64, u64),
+    Put(u64, Vec<u8>, Vec<u8>, u64),
+    Del(u64, Vec<u8>),
+    Compact(u64, u64),
+}
+
+pub type Batch = Vec<Item>;
+
+/// Batches in order.
+#[derive(Clone, Default)]
+pub struct Work {
+    pub batches: Vec<Batch>,
+}
+
+#[derive(Clone, Copy)]
+pub enum Query {
+    FirstIndex,
+    LastIndex,
+    GetEntry,
+    SomeBefore,
+    Get,
+    Fetch(u64),
+    Scan,
+    MinFileSeq,
+}
+
+/// A key of 16 bytes, of which the last four tell keys apart.
+pub fn key(n: u64) -> Vec<u8> {
+    format!("region-state{:04}", n).into_bytes()
+}
+
+fn value(n: u64) -> Vec<u8> {
+    format!("value-of-{:07}", n).into_bytes()
+}
+
+fn over_groups(n: u64, batch: impl Fn(u64, u64) -> Batch) -> Work {
+    let batches = (0..n).flat_map(|i| (0..GROUPS).map(move |g| (i, g + 1)));
+    Work { batches: batches.map(|(i, g)| batch(i, g)).collect() }
+}
+
+/// Eight groups with 32 entries each.
+fn entries_32() -> Work {
+    over_groups(1, |_, g| vec![Item::Entries(g, 1, 32, 1)])
+}
+
+/// Eight groups with 32 entries and 16 keys each.
+pub fn filled() -> Work {
+    let mut out = entries_32();
+    out.batches.extend(over_groups(16, |i, g| vec![Item::Put(g, key(i), value(i), 1)]).batches);
+    out
+}
+
+/// Each with what was replayed before it.
+pub fn replays() -> Vec<(&'static str, Work, Work)> {
+    let none = Work::default;
+    let keys = || over_groups(16, |i, g| vec![Item::Put(g, key(i), value(i), 1)]);
+    vec![
+        ("replay of 1 entry", none(), over_groups(60, |i, g| vec![Item::Entries(g, i + 1, 1, 1)])),
+        (
+            "replay of 32 entries",
+            none(),
+            over_groups(4, |i, g| vec![Item::Entries(g, if i == 0 { 1 } else { 33 }, 32, 1)]),
+        ),
+        (
+            "replay of 1 entry and 1 key",
+            none(),
+            over_groups(60, |i, g| {
+                vec![Item::Entries(g, i + 1, 1, 1), Item::Put(g, key(i % 16), value(i), 1)]
+            }),
+        ),
+        (
+            "replay of 32 items over 8 groups",
+            none(),
+            Work {
+                batches: (0..15)
+                    .map(|i| {
+                        (0..32)
+                            .map(|j| Item::Entries(j % 8 + 1, i * 4 + j / 8 + 1, 1, 1))
+                            .collect()
+                    })
+                    .collect(),
+            },
+        ),
+        ("Put of a key that is absent, up to 16", none(), keys()),
+        ("Put of one of 16 keys", keys(), keys()),
+        ("Del of one of 16 keys", keys(), over_groups(8, |i, g| vec![Item::Del(g, key(2 * i))])),
+        (
+            "Compact of 4 of 32 entries",
+            entries_32(),
+            over_groups(7, |i, g| vec![Item::Compact(g, i * 4 + 5)]),
+        ),
+    ]
+}
+
+pub fn queries() -> Vec<(&'static str, Query)> {
+    vec![
+        ("first_index", Query::FirstIndex),
+        ("last_index", Query::LastIndex),
+        ("get_entry", Query::GetEntry),
+        ("has_at_least_some_entries_before", Query::SomeBefore),
+        ("get of one of 16 keys", Query::Get),
+        ("fetch of 1 entry, parallel slices", Query::Fetch(1)),
+        ("fetch of 32 entries, parallel slices", Query::Fetch(32)),
+        ("scan of 16 keys", Query::Scan),
+        ("min_file_seq, 32 entries and 16 keys", Query::MinFileSeq),
+    ]
+}

@@ -1,0 +1,16 @@
+-- `galdnyrr::numbers::file_of` meets its contract. Assumes nothing.
+use mathlib.Core.Path.{ap}
+use Rattle.galdnyrr.specs.Told.{fileOf}
+use borrow.Author.Needs.{needs}
+use Rattle.galdnyrr.proofs.numbers.file_of.Statement.{statement}
+use Rattle.galdnyrr.proofs.numbers.file_of.Tie as tie
+
+queue-of-requires : tie.Need-queue-of-requires
+queue-of-requires c κs = search needs
+
+returns : tie.Need-returns
+unfolding fileOf
+returns c = ap (λ q. record { queue = q; seq = c .before .args .seq }) (c .queue-of .ensures)
+
+pub file-of-spec : {M : Type 1} → statement M
+file-of-spec = tie.close (tie.spec queue-of-requires returns)

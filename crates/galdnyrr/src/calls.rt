@@ -1,0 +1,88 @@
+// Contexts and the index for C and Rust: the calls of `index`, with number and place for an answer.
+ghost use mathlib.Core.Path.{_≡_};
+ghost use Prim.Native.Nat.{ℕ};
+ghost use lib.ListN.{length};
+ghost use Rattle.rules.specs.Items.{Append};
+ghost use Rattle.rules.specs.Calls as rules·calls;
+ghost use Rattle.pipe_log.specs.Rows.{queueAt};
+ghost use Rattle.log_batch.specs.Lent.{batchOf};
+ghost use Rattle.contexts.specs.Contexts.{Wf, FreshArea};
+ghost use Rattle.galdnyrr.specs.Told.{fileOf, gateOr, Told};
+use crate::numbers::file_of;
+use crate::numbers::gate_of;
+use crate::numbers::queue_of;
+use crate::numbers::tell;
+
+// Makes a fresh context of a queue, whatever the area held.
+#[no_mangle]
+pub extern "C" fn galdnyrr_fresh(xs: &mut [u64], bs: &mut [u8], queue: u64)
+    requires { ⌜ (length (now xs) ≡ 18977) × (length (now bs) ≡ 43008) ⌝ }
+    ensures { λ _. ⌜ FreshArea (queueAt queue) (now (xs .exit)) (now (bs .exit)) ⌝ }
+{
+    contexts::fresh(xs, bs, queue_of(queue));
+}
+
+// Replays a batch of the Append queue into an Append context.
+#[no_mangle]
+pub extern "C" fn galdnyrr_replay_append(
+    xs: &mut [u64],
+    bs: &mut [u8],
+    items: &[u64],
+    entries: &[u64],
+    bytes: &[u8],
+    place: &mut u64,
+) -> u64
+    requires { ⌜ Wf (now xs) (now bs) ⌝ }
+    ensures { λ r. ⌜ ((seq : ℕ) → Told (rules·calls.replay (batchOf (record { queue = Append; seq = seq }) (now (items .entry)) (now (entries .entry)) (now (bytes .entry)))) (now (xs .entry)) (now (bs .entry)) r (now (place .exit)) (now (xs .exit)) (now (bs .exit))) ⌝ }
+{
+    let answer = index::replay_append(xs, bs, items, entries, bytes);
+    tell(answer, place)
+}
+
+// Appends a batch to the index.
+#[no_mangle]
+pub extern "C" fn galdnyrr_append(
+    xs: &mut [u64],
+    bs: &mut [u8],
+    queue: u64,
+    seq: u64,
+    items: &[u64],
+    entries: &[u64],
+    bytes: &[u8],
+    place: &mut u64,
+) -> u64
+    requires { ⌜ Wf (now xs) (now bs) ⌝ }
+    ensures { λ r. ⌜ Told (rules·calls.append (batchOf (fileOf queue seq) (now (items .entry)) (now (entries .entry)) (now (bytes .entry)))) (now (xs .entry)) (now (bs .entry)) r (now (place .exit)) (now (xs .exit)) (now (bs .exit)) ⌝ }
+{
+    let answer = index::append(xs, bs, file_of(queue, seq), items, entries, bytes);
+    tell(answer, place)
+}
+
+// Rewrites a batch in the index, gated or not; a key's new number is the batch's.
+#[no_mangle]
+pub extern "C" fn galdnyrr_rewrite(
+    xs: &mut [u64],
+    bs: &mut [u8],
+    gated: bool,
+    gate: u64,
+    queue: u64,
+    seq: u64,
+    items: &[u64],
+    entries: &[u64],
+    bytes: &[u8],
+    place: &mut u64,
+) -> u64
+    requires { ⌜ Wf (now xs) (now bs) ⌝ }
+    ensures { λ r. ⌜ Told (rules·calls.rewrite (gateOr gated gate) (batchOf (fileOf queue seq) (now (items .entry)) (now (entries .entry)) (now (bytes .entry)))) (now (xs .entry)) (now (bs .entry)) r (now (place .exit)) (now (xs .exit)) (now (bs .exit)) ⌝ }
+{
+    let answer = index::rewrite(
+        xs,
+        bs,
+        gate_of(gated, gate),
+        file_of(queue, seq),
+        items,
+        entries,
+        bytes,
+    );
+    tell(answer, place)
+}

@@ -1,0 +1,81 @@
+-- `memtable::Head::answer_range` meets its contract. Assumes nothing.
+use borrow.Author.Needs.{needs}
+use Rattle.memtable.proofs.FetchWays.{range-answer, compacted-answer, not-found-answer}
+use Rattle.memtable.proofs.Head.answer_range.Statement.{statement}
+use Rattle.memtable.proofs.Head.answer_range.Tie as tie
+
+enum-known-range : tie.Need-enum-known-range
+enum-known-range c = search needs
+
+answer-rows-requires : tie.Need-answer-rows-requires
+answer-rows-requires c κs =
+    let start = c .before .before .before .before .before .before .before .before .before .before .before .before .before .before .before .before .before .before .before .before in
+    let range = c .before .before .before .before .before .before .before .before .before .range in
+    (start .pre .0, (rw (range .given .1) at (start .pre .1 .0), start .pre .1 .1))
+
+enum-told : tie.Need-enum-told
+enum-told c = search needs
+
+enum-told-2 : tie.Need-enum-told-2
+enum-told-2 c = search needs
+
+same-length : tie.Need-same-length
+same-length c = search needs
+
+same-length-2 : tie.Need-same-length-2
+same-length-2 c = search needs
+
+same-length-3 : tie.Need-same-length-3
+same-length-3 c = search needs
+
+same-length-4 : tie.Need-same-length-4
+same-length-4 c = search needs
+
+same-length-5 : tie.Need-same-length-5
+same-length-5 c = search needs
+
+same-length-6 : tie.Need-same-length-6
+same-length-6 c = search needs
+
+same-length-7 : tie.Need-same-length-7
+same-length-7 c = search needs
+
+same-length-8 : tie.Need-same-length-8
+same-length-8 c = search needs
+
+returns : tie.Need-returns
+returns c =
+    let start = c .before .before .before .before .before .before .before .before .before .before .before .before .before .before .before .before .before .before .before .before .before .before .before .before .before .before .before .before .before .before .before .before .before .before .before .before .before in
+    let range = c .before .before .before .before .before .before .before .before .before .before .before .before .before .before .before .before .before .before .before .before .before .before .before .before .before .before .range in
+    let answer-rows = c .before .before .before .before .before .before .before .before .before .before .before .before .before .before .before .before .answer-rows in
+    range-answer (start .args .self) (start .args .part .now) (range .given .1) (answer-rows .ensures)
+
+returns-2 : tie.Need-returns-2
+returns-2 c =
+    let start = c .before .before .before .before .before .before .before .before .before .before .before in
+    range-answer (start .args .self) (start .args .part .now) (c .enum-told .given .1) (compacted-answer _)
+
+returns-3 : tie.Need-returns-3
+returns-3 c =
+    let start = c .before .before .before .before .before .before .before .before .before .before .before in
+    range-answer (start .args .self) (start .args .part .now) (c .enum-told2 .given .1) (not-found-answer _)
+
+pub answer-range-spec : {M : Type 1} → statement M
+answer-range-spec =
+    tie.close
+    (tie.spec
+    enum-known-range
+    answer-rows-requires
+    enum-told
+    enum-told-2
+    same-length
+    same-length-2
+    same-length-3
+    same-length-4
+    same-length-5
+    same-length-6
+    same-length-7
+    same-length-8
+    returns
+    returns-2
+    returns-3)

@@ -1,0 +1,107 @@
+-- `queries::fetch::fetch_entries_to` meets its contract. Assumes nothing.
+use Rattle.queries.specs.PlaceLaws.{stands-at, asked-absent}
+use Rattle.queries.proofs.Ways.{numbers-there, entries-wf, fetched-there, fetched-absent}
+use Rattle.rules.specs.TableQueries.{fetchEntriesTo}
+use Rattle.pipe_log.specs.Numbers.{boundOf}
+use borrow.Author.Needs.{needs}
+use Rattle.queries.proofs.fetch.fetch_entries_to.Statement.{statement}
+use Rattle.queries.proofs.fetch.fetch_entries_to.Tie as tie
+
+place-of-requires : tie.Need-place-of-requires
+place-of-requires c κs = search needs
+
+enum-known-k : tie.Need-enum-known-k
+enum-known-k c = search needs
+
+enum-told : tie.Need-enum-told
+enum-told c = search needs
+
+returns : tie.Need-returns
+returns c =
+    let start = c .before .before .before .before .before .before .before .before .before .before .before .before .before in
+    let place-of = c .before .before .place-of in
+    let enum-told = c .enum-told in
+    fetched-absent (asked-absent _ _ _ _ _ (place-of .ensures (start .args .bs .now) (start .pre .0)) (enum-told .given .1))
+
+head-at-requires : tie.Need-head-at-requires
+head-at-requires c κs =
+    let start = c .before .before .before .before .before .before .before .before .before .before .before .before .before .before in
+    let place-of = c .before .before .before .place-of in
+    let k = c .before .k in
+    numbers-there (stands-at (place-of .ensures (start .args .bs .now) (start .pre .0)) (k .given .1)) (start .pre .0)
+
+entry-rows-requires : tie.Need-entry-rows-requires
+entry-rows-requires c κs =
+    let start = c .before .before .before .before .before .before .before .before .before .before .before .before .before .before .before in
+    let place-of = c .before .before .before .before .place-of in
+    let k = c .before .before .k in
+    numbers-there (stands-at (place-of .ensures (start .args .bs .now) (start .pre .0)) (k .given .1)) (start .pre .0)
+
+fetch-entries-to-requires : tie.Need-fetch-entries-to-requires
+fetch-entries-to-requires c κs =
+    let start = c .before .before .before .before .before .before .before .before .before .before .before .before .before .before .before .before .before .before .before .before .before .before .before .before in
+    let place-of = c .before .before .before .before .before .before .before .before .before .before .before .before .before .place-of in
+    let k = c .before .before .before .before .before .before .before .before .before .before .before .k in
+    let head-at = c .before .before .before .before .before .before .before .before .before .head-at in
+    let entry-rows = c .before .before .before .before .before .before .before .before .entry-rows in
+    (entries-wf (stands-at (place-of .ensures (start .args .bs .now) (start .pre .0)) (k .given .1)) (head-at .ensures) (entry-rows .ensures), start .pre .1)
+
+entries-fetched-requires : tie.Need-entries-fetched-requires
+entries-fetched-requires c κs = search needs
+
+same-length : tie.Need-same-length
+same-length c = search needs
+
+same-length-2 : tie.Need-same-length-2
+same-length-2 c = search needs
+
+same-length-3 : tie.Need-same-length-3
+same-length-3 c = search needs
+
+same-length-4 : tie.Need-same-length-4
+same-length-4 c = search needs
+
+same-length-5 : tie.Need-same-length-5
+same-length-5 c = search needs
+
+same-length-6 : tie.Need-same-length-6
+same-length-6 c = search needs
+
+same-length-7 : tie.Need-same-length-7
+same-length-7 c = search needs
+
+same-length-8 : tie.Need-same-length-8
+same-length-8 c = search needs
+
+returns-2 : tie.Need-returns-2
+returns-2 c =
+    let start = c .before .before .before .before .before .before .before .before .before .before .before .before .before .before .before .before .before .before .before .before .before .before .before .before .before .before .before .before .before .before .before .before .before .before .before .before .before .before .before .before .before .before in
+    let place-of = c .before .before .before .before .before .before .before .before .before .before .before .before .before .before .before .before .before .before .before .before .before .before .before .before .before .before .before .before .before .before .before .place-of in
+    let k = c .before .before .before .before .before .before .before .before .before .before .before .before .before .before .before .before .before .before .before .before .before .before .before .before .before .before .before .before .before .k in
+    let head-at = c .before .before .before .before .before .before .before .before .before .before .before .before .before .before .before .before .before .before .before .before .before .before .before .before .before .before .before .head-at in
+    let entry-rows = c .before .before .before .before .before .before .before .before .before .before .before .before .before .before .before .before .before .before .before .before .before .before .before .before .before .before .entry-rows in
+    let fetch-entries-to = c .before .before .before .before .before .before .before .before .before .before .before .before .before .before .before .before .before .fetch-entries-to in
+    let entries-fetched = c .entries-fetched in
+    fetched-there (stands-at (place-of .ensures (start .args .bs .now) (start .pre .0)) (k .given .1)) (head-at .ensures) (fetchEntriesTo (start .args .begin) (start .args .end) (boundOf (start .args .max-size))) (entry-rows .ensures) _ _ _ _ (fetch-entries-to .ensures) (entries-fetched .ensures)
+
+pub fetch-entries-to-spec : {M : Type 1} → statement M
+fetch-entries-to-spec =
+    tie.close
+    (tie.spec
+    place-of-requires
+    enum-known-k
+    enum-told
+    returns
+    head-at-requires
+    entry-rows-requires
+    fetch-entries-to-requires
+    entries-fetched-requires
+    same-length
+    same-length-2
+    same-length-3
+    same-length-4
+    same-length-5
+    same-length-6
+    same-length-7
+    same-length-8
+    returns-2)

@@ -1,0 +1,107 @@
+-- `queries::fetch::fetch_rewritten_entry_indexes` meets its contract. Assumes nothing.
+use Rattle.queries.specs.PlaceLaws.{stands-at, asked-absent}
+use Rattle.queries.proofs.Ways.{numbers-there, entries-wf, fetched-there, fetched-absent}
+use Rattle.rules.specs.TableQueries.{fetchRewrittenEntryIndexes}
+use Rattle.rules.specs.Causes.{ok}
+use borrow.Author.Needs.{needs}
+use Rattle.queries.proofs.fetch.fetch_rewritten_entry_indexes.Statement.{statement}
+use Rattle.queries.proofs.fetch.fetch_rewritten_entry_indexes.Tie as tie
+
+place-of-requires : tie.Need-place-of-requires
+place-of-requires c κs = search needs
+
+enum-known-k : tie.Need-enum-known-k
+enum-known-k c = search needs
+
+enum-told : tie.Need-enum-told
+enum-told c = search needs
+
+returns : tie.Need-returns
+returns c =
+    let start = c .before .before .before .before .before .before .before .before .before .before .before .before .before in
+    let place-of = c .before .before .place-of in
+    let enum-told = c .enum-told in
+    fetched-absent (asked-absent _ _ _ _ _ (place-of .ensures (start .args .bs .now) (start .pre .0)) (enum-told .given .1))
+
+head-at-requires : tie.Need-head-at-requires
+head-at-requires c κs =
+    let start = c .before .before .before .before .before .before .before .before .before .before .before .before .before .before in
+    let place-of = c .before .before .before .place-of in
+    let k = c .before .k in
+    numbers-there (stands-at (place-of .ensures (start .args .bs .now) (start .pre .0)) (k .given .1)) (start .pre .0)
+
+entry-rows-requires : tie.Need-entry-rows-requires
+entry-rows-requires c κs =
+    let start = c .before .before .before .before .before .before .before .before .before .before .before .before .before .before .before in
+    let place-of = c .before .before .before .before .place-of in
+    let k = c .before .before .k in
+    numbers-there (stands-at (place-of .ensures (start .args .bs .now) (start .pre .0)) (k .given .1)) (start .pre .0)
+
+fetch-rewritten-entry-indexes-requires : tie.Need-fetch-rewritten-entry-indexes-requires
+fetch-rewritten-entry-indexes-requires c κs =
+    let start = c .before .before .before .before .before .before .before .before .before .before .before .before .before .before .before .before .before .before .before .before .before .before .before .before in
+    let place-of = c .before .before .before .before .before .before .before .before .before .before .before .before .before .place-of in
+    let k = c .before .before .before .before .before .before .before .before .before .before .before .k in
+    let head-at = c .before .before .before .before .before .before .before .before .before .head-at in
+    let entry-rows = c .before .before .before .before .before .before .before .before .entry-rows in
+    (entries-wf (stands-at (place-of .ensures (start .args .bs .now) (start .pre .0)) (k .given .1)) (head-at .ensures) (entry-rows .ensures), start .pre .1)
+
+entries-fetched-requires : tie.Need-entries-fetched-requires
+entries-fetched-requires c κs = search needs
+
+same-length : tie.Need-same-length
+same-length c = search needs
+
+same-length-2 : tie.Need-same-length-2
+same-length-2 c = search needs
+
+same-length-3 : tie.Need-same-length-3
+same-length-3 c = search needs
+
+same-length-4 : tie.Need-same-length-4
+same-length-4 c = search needs
+
+same-length-5 : tie.Need-same-length-5
+same-length-5 c = search needs
+
+same-length-6 : tie.Need-same-length-6
+same-length-6 c = search needs
+
+same-length-7 : tie.Need-same-length-7
+same-length-7 c = search needs
+
+same-length-8 : tie.Need-same-length-8
+same-length-8 c = search needs
+
+returns-2 : tie.Need-returns-2
+returns-2 c =
+    let start = c .before .before .before .before .before .before .before .before .before .before .before .before .before .before .before .before .before .before .before .before .before .before .before .before .before .before .before .before .before .before .before .before .before .before .before .before .before .before .before .before .before .before in
+    let place-of = c .before .before .before .before .before .before .before .before .before .before .before .before .before .before .before .before .before .before .before .before .before .before .before .before .before .before .before .before .before .before .before .place-of in
+    let k = c .before .before .before .before .before .before .before .before .before .before .before .before .before .before .before .before .before .before .before .before .before .before .before .before .before .before .before .before .before .k in
+    let head-at = c .before .before .before .before .before .before .before .before .before .before .before .before .before .before .before .before .before .before .before .before .before .before .before .before .before .before .before .head-at in
+    let entry-rows = c .before .before .before .before .before .before .before .before .before .before .before .before .before .before .before .before .before .before .before .before .before .before .before .before .before .before .entry-rows in
+    let fetch-rewritten-entry-indexes = c .before .before .before .before .before .before .before .before .before .before .before .before .before .before .before .before .before .fetch-rewritten-entry-indexes in
+    let entries-fetched = c .entries-fetched in
+    fetched-there (stands-at (place-of .ensures (start .args .bs .now) (start .pre .0)) (k .given .1)) (head-at .ensures) (λ t. ok (fetchRewrittenEntryIndexes t)) (entry-rows .ensures) _ _ _ _ (fetch-rewritten-entry-indexes .ensures) (entries-fetched .ensures)
+
+pub fetch-rewritten-entry-indexes-spec : {M : Type 1} → statement M
+fetch-rewritten-entry-indexes-spec =
+    tie.close
+    (tie.spec
+    place-of-requires
+    enum-known-k
+    enum-told
+    returns
+    head-at-requires
+    entry-rows-requires
+    fetch-rewritten-entry-indexes-requires
+    entries-fetched-requires
+    same-length
+    same-length-2
+    same-length-3
+    same-length-4
+    same-length-5
+    same-length-6
+    same-length-7
+    same-length-8
+    returns-2)

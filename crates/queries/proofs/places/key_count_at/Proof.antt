@@ -1,0 +1,26 @@
+-- `queries::places::key_count_at` meets its contract. Assumes nothing.
+use Rattle.queries.proofs.Parts.{count-at}
+use borrow.Author.Needs.{needs}
+use Rattle.queries.proofs.places.key_count_at.Statement.{statement}
+use Rattle.queries.proofs.places.key_count_at.Tie as tie
+
+mul-result : tie.Need-mul-result
+mul-result c = search needs
+
+add-result : tie.Need-add-result
+add-result c = search needs
+
+mul-result-2 : tie.Need-mul-result-2
+mul-result-2 c = search needs
+
+shared-slice-read-result : tie.Need-shared-slice-read-result
+shared-slice-read-result c = search needs
+
+returns : tie.Need-returns
+returns c =
+    let start = c .before in
+    count-at (start .args .k) (start .args .xs .now)
+
+pub key-count-at-spec : {M : Type 1} → statement M
+key-count-at-spec =
+    tie.close (tie.spec mul-result add-result mul-result-2 shared-slice-read-result returns)

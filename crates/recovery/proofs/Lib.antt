@@ -1,0 +1,3 @@
+-- Demand 3 of the calls.
+pub mod Passes
+pub mod Theorem
