@@ -1,21 +1,28 @@
 -- The ways through the end of a merge or join, and the call as a whole. Assumes nothing.
-use mathlib.Core.Bool.{true, false, not, _||_, or-true}
+use mathlib.Core.Bool.{true, false, not, _&&_, _||_, or-true}
 use mathlib.Core.List.{List, []}
 use mathlib.Core.Option.{none}
 use mathlib.Core.Path.{_≡_, refl, sym, ap, _∙_}
-use Prim.Native.Nat.{ℕ, _+_, _≤_}
+use Prim.Native.Nat.{ℕ, _+_, _-_, _≤_, _<_}
 use native.Mathlib.Omega.{arith}
-use lib.ListN.{length, drop}
-use Rattle.rules.specs.Causes.{Cause, Result, ok, refuse, numberOf, limitPassed, left}
-use Rattle.rules.specs.Items.{Append}
-use Rattle.rules.specs.Context.{context, Context, withGroups}
-use Rattle.rules.specs.Calls.{merge}
+use lib.ListN.{length, getD, take, drop}
+use borrow.Rule.Slice.PartAt.{part-to-end}
+use Rattle.maps.specs.BoolLaws.{clash, both-left, both-right}
+use Rattle.rules.specs.Causes.{Cause, Result, ok, refuse, numberOf, wrongKind, limitPassed, left}
+use Rattle.rules.specs.Items.{LogQueue, Append, Rewrite, sameQueue}
+use Rattle.rules.specs.Context.{Kind, context, index, isContext, Context, withGroups, withWaiting}
+use Rattle.rules.specs.Calls.{merge, join}
 use Rattle.rules_by_group.specs.Stage.{mergedRest, joinedRest}
 use Rattle.rules_by_group.specs.KindLaws.{append-waits}
+use Rattle.rules_by_group.specs.ResultLaws.{refused-not-ok}
 use Rattle.groups.specs.Area.{slots, numbersInUse, bytesInUse, groupsOf}
 use Rattle.groups.specs.Area as groups
 use Rattle.groups.specs.Laws.{front-groups, front-wf}
 use Rattle.groups.specs.Undo.{liveNumbers, liveBytes, Undone}
+use Rattle.lists.specs.declared.Kind as lent
+use Rattle.lists.specs.Rest.{kindOf}
+use Rattle.lists.specs.Calls.{kindAs}
+use Rattle.lists.specs.Laws.{rest-kind}
 use Rattle.contexts.specs.declared.Answer.{Answer}
 use Rattle.contexts.specs.declared.Answer.the-variants as answer
 use Rattle.contexts.specs.declared.Position.the-variants as position
@@ -178,3 +185,55 @@ module _ (xs bs ys cs : List ℕ) where
   pub append-called : (r : Answer) (xs′ bs′ : List ℕ) → Called (callBy mode.Append (contextOf ys cs)) xs bs r xs′ bs′ → Called (merge (contextOf ys cs)) xs bs r xs′ bs′
   unfolding callBy
   append-called r xs′ bs′ c = c
+
+-- ---- an Append context and a Rewrite context
+
+pub of-context : (q r : LogQueue) (k : lent.Kind) → k ≡ lent.the-variants.Context r → sameQueue q r ≡ isContext q (kindAs k)
+unfolding isContext kindAs
+of-context q r k e = rw e
+
+pub of-index : (q : LogQueue) (k : lent.Kind) → k ≡ lent.the-variants.Index → false ≡ isContext q (kindAs k)
+unfolding isContext kindAs
+of-index q k e = rw e
+
+-- a context of a queue, by the test of its kind
+context-of : (q : LogQueue) (k : Kind) → isContext q k ≡ true → k ≡ context q
+unfolding isContext sameQueue
+context-of Append (context Append) e = refl
+context-of Append (context Rewrite) e = absurd (clash e)
+context-of Rewrite (context Append) e = absurd (clash e)
+context-of Rewrite (context Rewrite) e = refl
+context-of q index e = absurd (clash e)
+
+-- the kind, as it is read
+kind-is : (xs bs : List ℕ) (k : Kind) → k ≡ kindOf (getD (take (length xs - 9376) (drop 9376 xs)) 0 0) → contextOf xs bs .kind ≡ k
+unfolding contextOf restAt withGroups withWaiting
+kind-is xs bs k e = rest-kind (drop 9376 xs) (drop 16384 bs) ∙ sym (rw (part-to-end xs 9376) at e)
+
+module _ (xs bs ys cs : List ℕ) (o n : Kind) (p : o ≡ kindOf (getD (take (length xs - 9376) (drop 9376 xs)) 0 0)) (q : n ≡ kindOf (getD (take (length ys - 9376) (drop 9376 ys)) 0 0)) where
+  wrong-kinds : (isContext Append n && isContext Rewrite o) ≡ false → join (contextOf ys cs) (contextOf xs bs) ≡ refuse wrongKind
+  unfolding join
+  wrong-kinds e = rw (kind-is xs bs o p, kind-is ys cs n q, e)
+
+  pub join-wrong : Wf xs bs → (isContext Append n && isContext Rewrite o) ≡ false → Called (join (contextOf ys cs)) xs bs (answer.Refused 1 position.None) xs bs
+  unfolding left answerAs positionOf
+  join-wrong w e =
+      let h = wrong-kinds e in
+      answered-called (join (contextOf ys cs)) xs bs (answer.Refused 1 position.None) xs bs w
+      (λ d k. absurd (refused-not-ok (sym h ∙ k)))
+      (record { answers = sym h; leaves = sym (ap (left (contextOf xs bs)) h); formed = formed-of xs bs w })
+
+  pub join-given : Wf xs bs → Wf ys cs → (isContext Append n && isContext Rewrite o) ≡ true → Given mode.Join xs bs ys cs
+  unfolding olderKind newerKind
+  join-given w v e =
+      let a : contextOf ys cs .kind ≡ context Append = kind-is ys cs n q ∙ context-of Append n (both-left (isContext Append n) (isContext Rewrite o) e) in
+      let r : contextOf xs bs .kind ≡ context Rewrite = kind-is xs bs o p ∙ context-of Rewrite o (both-right (isContext Append n) (isContext Rewrite o) e) in
+      record { wf = w; newer-wf = v; kind = r; newer-kind = a; none-waits = append-waits (contextOf ys cs) (v .kept) a }
+
+pub join-called : (xs bs ys cs : List ℕ) (r : Answer) (xs′ bs′ : List ℕ) → Called (callBy mode.Join (contextOf ys cs)) xs bs r xs′ bs′ → Called (join (contextOf ys cs)) xs bs r xs′ bs′
+unfolding callBy
+join-called xs bs ys cs r xs′ bs′ c = c
+
+-- the numbers behind the groups begin with the kind
+pub kind-there : (xs bs : List ℕ) → Wf xs bs → 0 < length (take (length xs - 9376) (drop 9376 xs))
+kind-there xs bs w = rw (part-to-end xs 9376) (omega (arith, w .rest .numbers-are))

@@ -9,6 +9,7 @@ mod staging;
 mod tombs;
 mod work;
 
+pub use calls::join;
 pub use calls::merge_append;
 
 // Whether some group was refused, and whether one passed a limit.
