@@ -13,9 +13,9 @@ pub const NUMBERS: usize = 18977;
 pub const BYTES: usize = 43008;
 
 // Where the numbers of the waiting parts stand.
-const WAITING_FROM: usize = 10019;
+pub const WAITING_FROM: usize = 10019;
 
-const WAITING_TO: usize = 11765;
+pub const WAITING_TO: usize = 11765;
 
 // Where a refusal was met: at no item, or at the item with this position, counted from 0.
 pub enum Position {

@@ -128,19 +128,23 @@ groups-full g xs bs w f =
     let h : i < slots = omega (arith, length-cells xs bs) in rw (getD-cells i xs bs h, used-cell i xs bs (f .full i h)))
     ∙ length-cells xs bs
 
--- all stretches are free: there are no groups
-pub fresh : (xs bs : List ℕ) → numbersInUse ≤ length xs → bytesInUse ≤ length bs → ((k : ℕ) → k < slots → getD xs (k * stretchWidth) 0 ≡ 0) → Wf xs bs × (groupsOf xs bs ≡ [])
+-- no stretch is used: there are no groups
+pub none-used : (xs bs : List ℕ) → numbersInUse ≤ length xs → bytesInUse ≤ length bs → ((k : ℕ) → k < slots → isUsed (stretchAt k xs) ≡ false) → Wf xs bs × (groupsOf xs bs ≡ [])
 unfolding groupsOf
-fresh xs bs p q z =
-    let f = all-free (cells xs bs) (λ i l. let h : i < slots = omega (arith, length-cells xs bs) in getD-cells i xs bs h ∙ free-cell i xs bs (no-use i xs (z i h))) in (
+none-used xs bs p q z =
+    let f = all-free (cells xs bs) (λ i l. let h : i < slots = omega (arith, length-cells xs bs) in getD-cells i xs bs h ∙ free-cell i xs bs (z i h)) in (
       record {
         numbers-fit = p;
         bytes-fit = q;
-        used = λ k l u. absurd (false≢true (sym (no-use k xs (z k l)) ∙ u));
+        used = λ k l u. absurd (false≢true (sym (z k l) ∙ u));
         distinct = f .1;
       },
       f .0,
     )
+
+-- all stretches are free: there are no groups
+pub fresh : (xs bs : List ℕ) → numbersInUse ≤ length xs → bytesInUse ≤ length bs → ((k : ℕ) → k < slots → getD xs (k * stretchWidth) 0 ≡ 0) → Wf xs bs × (groupsOf xs bs ≡ [])
+fresh xs bs p q z = none-used xs bs p q (λ k l. no-use k xs (z k l))
 
 -- ---- the front of an area: numbers and bytes behind the stretches and the spare ones change nothing
 

@@ -2,3 +2,4 @@
 pub mod Rest
 pub mod Calls
 pub mod Laws
+pub mod SameLaws

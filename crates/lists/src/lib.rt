@@ -30,17 +30,17 @@ pub const MAX_CLEANED: usize = 64;
 // Where the numbers stand: the kind, the two counts, the cleaned numbers, and the tombstones' rows.
 const KIND_AT: usize = 0;
 
-const TOMBSTONES_AT: usize = 1;
+pub const TOMBSTONES_AT: usize = 1;
 
 const CLEANED_AT: usize = 2;
 
 const CLEANED_FROM: usize = 3;
 
-const ROWS_FROM: usize = 67;
+pub const ROWS_FROM: usize = 67;
 
-const ROWS_TO: usize = 643;
+pub const ROWS_TO: usize = 643;
 
-const ROW_BYTES: usize = 4096;
+pub const ROW_BYTES: usize = 4096;
 
 // The number of the index's kind.
 const INDEX: u64 = 2;

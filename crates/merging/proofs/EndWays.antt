@@ -1,0 +1,124 @@
+-- The ways through the functions that end a merge or join: the limits of the lists, and the refusal that a group may meet.
+-- Assumes nothing.
+use mathlib.Core.Bool.{Bool, true, false, not, _&&_, _||_, and-false, or-true}
+use mathlib.Core.List.{List, [], _++_, append-nil}
+use mathlib.Core.Path.{_≡_, refl, sym, ap, _∙_}
+use Prim.Native.Nat.{ℕ, _+_, _-_, _≤_, _<_}
+use native.Mathlib.Omega.{arith}
+use lib.Dec.{leb}
+use lib.ListN.{length, getD, take, drop, length-append}
+use borrow.Author.Tests.{le-leb, lt-leb}
+use borrow.Rule.Slice.PartAt.{part-to-end}
+use Rattle.maps.specs.Lists.{sum}
+use Rattle.rules.specs.Causes.{numberOf}
+use Rattle.rules.specs.Context.{Context, withGroups, withWaiting, waitingFits}
+use Rattle.rules.specs.Calls.{clash}
+use Rattle.rules_by_group.specs.Stage.{restFits, mergedRest, joinedRest, finishedTombs}
+use Rattle.groups.specs.Area.{numbersInUse, bytesInUse}
+use Rattle.lists.specs.declared.Counts.{Counts}
+use Rattle.lists.specs.Rest.{restOf, tombstonesIn, cleanedIn}
+use Rattle.lists.specs.Laws.{lengths}
+use Rattle.contexts.specs.Contexts.{restAt, contextOf, waitingNumbers, waitingBytes, Wf}
+use Rattle.contexts.specs.AreaLaws.{room-fits}
+use Rattle.worktable.specs.declared.Mode.{Mode}
+use Rattle.worktable.specs.declared.Mode.the-variants as mode
+use Rattle.merging.specs.Modes.{restBy, clashBy, countsFit, countsOf, Few, Given}
+
+-- ---- the refusal of a group
+
+pub clash-append : (m : Mode) → m ≡ mode.Append → 14 ≡ numberOf (clashBy m)
+unfolding clashBy clash
+clash-append m e = rw e
+
+pub clash-rewrite : (m : Mode) → m ≡ mode.Rewrite → 8 ≡ numberOf (clashBy m)
+unfolding clashBy clash
+clash-rewrite m e = rw e
+
+pub clash-join : (m : Mode) → m ≡ mode.Join → 14 ≡ numberOf (clashBy m)
+unfolding clashBy clash
+clash-join m e = rw e
+
+-- ---- the limits of the lists
+
+module _ (o n : Counts) where
+  pub cleaned-over : (m : Mode) → 64 < o .cleaned + n .cleaned → false ≡ countsFit m o n
+  unfolding countsFit
+  cleaned-over mode.Append l = rw (lt-leb (o .cleaned + n .cleaned) 64 l) (sym (and-false (leb (o .tombstones + n .tombstones) 64)))
+  cleaned-over mode.Rewrite l = rw (lt-leb (o .cleaned + n .cleaned) 64 l) (sym (and-false (leb (o .tombstones + n .tombstones) 64)))
+  cleaned-over mode.Join l = rw (lt-leb (o .cleaned + n .cleaned) 64 l)
+
+  and-true : (b : Bool) → b ≡ (b && true)
+  and-true true = refl
+  and-true false = refl
+
+  module _ (m : Mode) (l : o .cleaned + n .cleaned ≤ 64) where
+    pub append-fits : m ≡ mode.Append → leb (o .tombstones + n .tombstones) 64 ≡ countsFit m o n
+    unfolding countsFit
+    append-fits e = rw (e, le-leb (o .cleaned + n .cleaned) 64 l) (and-true (leb (o .tombstones + n .tombstones) 64))
+
+    pub rewrite-fits : m ≡ mode.Rewrite → leb (o .tombstones + n .tombstones) 64 ≡ countsFit m o n
+    unfolding countsFit
+    rewrite-fits e = rw (e, le-leb (o .cleaned + n .cleaned) 64 l) (and-true (leb (o .tombstones + n .tombstones) 64))
+
+    pub join-fits : m ≡ mode.Join → true ≡ countsFit m o n
+    unfolding countsFit
+    join-fits e = rw (e, le-leb (o .cleaned + n .cleaned) 64 l)
+
+-- the counts, as they are read
+pub counts-are : (xs : List ℕ) (n : Counts) → n .tombstones ≡ getD (take (length xs - 9376) (drop 9376 xs)) 1 0 → n .cleaned ≡ getD (take (length xs - 9376) (drop 9376 xs)) 2 0 → n ≡ countsOf xs
+unfolding countsOf
+counts-are xs n p q =
+    let t : n .tombstones ≡ getD (drop 9376 xs) 1 0 = rw (part-to-end xs 9376) at p in
+    let c : n .cleaned ≡ getD (drop 9376 xs) 2 0 = rw (part-to-end xs 9376) at q in
+    λ i. record { tombstones = t i; cleaned = c i }
+
+pub few-counts : (xs bs : List ℕ) → Wf xs bs → Few (countsOf xs)
+unfolding countsOf
+few-counts xs bs w =
+    let l = lengths (drop 9376 xs) (drop 16384 bs) (w .rest) in record { tombstones = l .2; cleaned = l .3 }
+
+-- ---- the limits of the rest are those of the lists
+
+module _ (m : Mode) (xs bs ys cs : List ℕ) (g : Given m xs bs ys cs) where
+  abbrev c : Context
+  c = contextOf xs bs
+
+  abbrev newer : Context
+  newer = contextOf ys cs
+
+  tombstones-length : length (c .tombstones ++ newer .tombstones) ≡ countsOf xs .tombstones + countsOf ys .tombstones
+  unfolding contextOf restAt withWaiting withGroups restOf countsOf
+  tombstones-length =
+      length-append (tombstonesIn (drop 9376 xs) (drop 16384 bs)) (tombstonesIn (drop 9376 ys) (drop 16384 cs))
+      ∙ rw (lengths (drop 9376 xs) (drop 16384 bs) (g .wf .rest) .0, lengths (drop 9376 ys) (drop 16384 cs) (g .newer-wf .rest) .0)
+
+  cleaned-length : length (c .cleaned ++ newer .cleaned) ≡ countsOf xs .cleaned + countsOf ys .cleaned
+  unfolding contextOf restAt withWaiting withGroups restOf countsOf
+  cleaned-length =
+      length-append (cleanedIn (drop 9376 xs)) (cleanedIn (drop 9376 ys))
+      ∙ rw (lengths (drop 9376 xs) (drop 16384 bs) (g .wf .rest) .1, lengths (drop 9376 ys) (drop 16384 cs) (g .newer-wf .rest) .1)
+
+  waits-fit : waitingFits (c .waiting) ≡ true
+  unfolding contextOf restAt withWaiting withGroups
+  waits-fit = room-fits (waitingNumbers xs) (waitingBytes bs) (g .wf .waiting)
+
+  no-tombs : finishedTombs (newer .waiting) (c .waiting) ≡ []
+  unfolding finishedTombs
+  no-tombs = rw (g .none-waits)
+
+  pub merged-fits : restFits (mergedRest newer (c .waiting) c) ≡ (leb (countsOf xs .tombstones + countsOf ys .tombstones) 64 && leb (countsOf xs .cleaned + countsOf ys .cleaned) 64)
+  unfolding restFits mergedRest
+  merged-fits =
+      rw (no-tombs, append-nil (c .tombstones ++ newer .tombstones), tombstones-length, cleaned-length, waits-fit)
+      (sym (and-true (countsOf xs) (countsOf ys) _))
+
+  pub joined-fits : restFits (joinedRest newer c) ≡ leb (countsOf xs .cleaned + countsOf ys .cleaned) 64
+  unfolding restFits joinedRest waitingFits sum
+  joined-fits = rw cleaned-length (sym (and-true (countsOf xs) (countsOf ys) _))
+
+-- the limits of the rest are those of the lists
+pub rest-fits : (m : Mode) (xs bs ys cs : List ℕ) → Given m xs bs ys cs → restFits (restBy m (contextOf ys cs) (contextOf xs bs)) ≡ countsFit m (countsOf xs) (countsOf ys)
+unfolding restBy countsFit
+rest-fits mode.Append xs bs ys cs g = merged-fits mode.Append xs bs ys cs g
+rest-fits mode.Rewrite xs bs ys cs g = merged-fits mode.Rewrite xs bs ys cs g
+rest-fits mode.Join xs bs ys cs g = joined-fits mode.Join xs bs ys cs g

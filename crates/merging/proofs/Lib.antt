@@ -1,0 +1,13 @@
+-- The laws that the functions' proofs cite.
+pub mod Beginning
+pub mod Settling
+pub mod NumberWays
+pub mod CoverLaws
+pub mod EndWays
+pub mod TombWays
+pub mod WorkWays
+pub mod StageWays
+pub mod TurnWays
+pub mod GrowthWays
+pub mod JoinWays
+pub mod FinishWays
