@@ -24,8 +24,8 @@ extern "C" {
 #endif
 
 /* The lengths of an area. */
-#define GALDNYRR_NUMBERS 18977
-#define GALDNYRR_BYTES 43008
+#define GALDNYRR_NUMBERS 17231
+#define GALDNYRR_BYTES 38912
 
 /* Queues. Any number but 0 stands for the Rewrite queue. */
 #define GALDNYRR_APPEND 0

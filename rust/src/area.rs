@@ -3,10 +3,10 @@
 use crate::{ffi, Entry, FileId, Pairs, Queue, Records, Refusal, Rows};
 
 /// The length of an area's numbers.
-pub const NUMBERS: usize = 18_977;
+pub const NUMBERS: usize = 17_231;
 
 /// The length of an area's bytes.
-pub const BYTES: usize = 43_008;
+pub const BYTES: usize = 38_912;
 
 const NO_PLACE: u64 = u64::MAX;
 const ABSENT: u64 = u64::MAX;

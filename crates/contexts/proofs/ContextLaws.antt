@@ -23,12 +23,12 @@ use Rattle.lists.specs.Rest.{restOf}
 use Rattle.lists.specs.Calls.{Becomes}
 use Rattle.waiting.specs.Layout.{contextCells, waitingOf, Empty}
 use Rattle.contexts.specs.Contexts.{restAt, contextOf, Cleared, FreshArea}
-use Rattle.contexts.specs.AreaLaws.{before-back, behind-back, lists-room}
+use Rattle.contexts.specs.AreaLaws.{before-back, behind-back, lists-room, none-wait}
 
 pub cleared-none : (xs : List ℕ) → Cleared 0 xs xs
 cleared-none xs = record { free = λ k l. absurd (omega arith); length-is = refl }
 
-pub cleared-more : (n : ℕ) (xs ys : List ℕ) → n < 8 → length xs ≡ 18977 → Cleared n xs ys → Cleared (n + 1) xs (set ys (n * 586) 0)
+pub cleared-more : (n : ℕ) (xs ys : List ℕ) → n < 8 → length xs ≡ 17231 → Cleared n xs ys → Cleared (n + 1) xs (set ys (n * 586) 0)
 cleared-more n xs ys h e c =
     let l = c .length-is in
     record {
@@ -40,26 +40,26 @@ cleared-more n xs ys h e c =
       length-is = length-set ys (n * 586) 0 ∙ l;
     }
 
-module _ (q : LogQueue) (xs ys bs v s : List ℕ) (n : length xs ≡ 18977) (m : length bs ≡ 43008) (c : Cleared 8 xs ys)
-    (r : (vs : List ℕ) → length vs ≡ 4096 → Empty contextCells v vs)
-    (f : (cs : List ℕ) → length cs ≡ 26624 → Becomes (rules.fresh q) (take (length (putMid 10019 1746 ys v) - 9376) (drop 9376 (putMid 10019 1746 ys v))) cs s) where
+module _ (q : LogQueue) (xs ys bs v s : List ℕ) (n : length xs ≡ 17231) (m : length bs ≡ 38912) (c : Cleared 8 xs ys)
+    (r : (vs : List ℕ) → length vs ≡ 8192 → Empty contextCells v vs)
+    (f : (cs : List ℕ) → length cs ≡ 22528 → Becomes (rules.fresh q) (take (length (putMid 10019 3490 ys v) - 9376) (drop 9376 (putMid 10019 3490 ys v))) cs s) where
   -- the area with its room cleared, and with its lists cleared then
   abbrev us : List ℕ
-  us = putMid 10019 1746 ys v
+  us = putMid 10019 3490 ys v
 
   abbrev zs : List ℕ
   zs = putMid 9376 (length us - 9376) us s
 
-  length-vs : length (part 20480 4096 bs) ≡ 4096
-  length-vs = length-part 20480 4096 bs (omega arith)
+  length-vs : length (part 20480 8192 bs) ≡ 8192
+  length-vs = length-part 20480 8192 bs (omega arith)
 
-  length-v : length v ≡ 1746
-  length-v = r (part 20480 4096 bs) length-vs .wf .numbers-are
+  length-v : length v ≡ 3490
+  length-v = r (part 20480 8192 bs) length-vs .wf .numbers-are
 
   us-is : us ≡ put ys 10019 v
-  us-is = loan-put 10019 1746 ys v length-v
+  us-is = loan-put 10019 3490 ys v length-v
 
-  length-us : length us ≡ 18977
+  length-us : length us ≡ 17231
   length-us = let l = length-v in rw us-is (length-put ys 10019 v (omega (arith, c .length-is)) ∙ c .length-is ∙ n)
 
   numbers-fit : 9376 ≤ length us
@@ -78,19 +78,19 @@ module _ (q : LogQueue) (xs ys bs v s : List ℕ) (n : length xs ≡ 18977) (m :
   fits-still : 9376 ≤ length zs
   fits-still = front-fits 9376 us zs (sym (before-back 9376 us s numbers-fit)) numbers-fit
 
-  pub fresh-length : length zs ≡ 18977
+  pub fresh-length : length zs ≡ 17231
   fresh-length = omega (arith, fits-still, lists-are .wf .numbers-are, length-drop 9376 zs)
 
   -- the room is the one that was cleared
-  room-is : part 10019 1746 zs ≡ v
+  room-is : part 10019 3490 zs ≡ v
   room-is =
       lists-room us bs zs bs (lists-are .behind) .numbers
-      ∙ rw us-is (part-put-same 1746 ys 10019 v length-v (omega (arith, c .length-is)))
+      ∙ rw us-is (part-put-same 3490 ys 10019 v length-v (omega (arith, c .length-is)))
 
-  room-empty : Empty contextCells (part 10019 1746 zs) (part 20480 4096 bs)
-  room-empty = rw room-is (r (part 20480 4096 bs) length-vs)
+  room-empty : Empty contextCells (part 10019 3490 zs) (part 20480 8192 bs)
+  room-empty = rw room-is (r (part 20480 8192 bs) length-vs)
 
-  none-waits : waitingOf (part 10019 1746 zs) (part 20480 4096 bs) ≡ []
+  none-waits : waitingOf (part 10019 3490 zs) (part 20480 8192 bs) ≡ []
   unfolding waitingOf
   none-waits = room-empty .waiting
 
@@ -112,5 +112,5 @@ module _ (q : LogQueue) (xs ys bs v s : List ℕ) (n : length xs ≡ 18977) (m :
       let e = fresh-context (g .1) in
       record {
         context-is = e;
-        wf = record { groups = g .0; rest = lists-are .wf; waiting = room-empty .wf; kept = rw e (fresh-kept q) };
+        wf = record { groups = g .0; rest = lists-are .wf; waiting = none-wait _ _ room-empty; kept = rw e (fresh-kept q) };
       }

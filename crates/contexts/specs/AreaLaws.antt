@@ -1,7 +1,7 @@
 -- Laws of an area: its lengths, and what is lent of it from a place on.
 -- Assumes nothing.
 use mathlib.Core.Bool.{true}
-use mathlib.Core.List.{List, _++_, append-nil}
+use mathlib.Core.List.{List, [], _++_, append-nil}
 use mathlib.Core.Path.{_≡_, refl, sym, ap, _∙_}
 use Prim.Native.Nat.{ℕ, _-_, _≤_}
 use native.Mathlib.Omega.{arith}
@@ -11,7 +11,7 @@ use borrow.Rule.Slice.PartMut.{putMid}
 use borrow.Author.Tests.{le-leb}
 use Rattle.cells.specs.PartLaws.{part-drop, part-of-back}
 use Rattle.maps.specs.BoolLaws.{both}
-use Rattle.maps.specs.CellLaws.{length-le}
+use Rattle.maps.specs.Lists.{sum}
 use Rattle.rules.specs.Causes.{Result, ok}
 use Rattle.rules.specs.Context.{Context, withGroups, withWaiting, waitingFits, fits}
 use Rattle.rules_by_group.specs.Kept.{Kept}
@@ -20,10 +20,7 @@ use Rattle.groups.specs.Laws.{groups-fit}
 use Rattle.lists.specs.Rest.{tombstonesIn, cleanedIn, restOf}
 use Rattle.lists.specs.Calls.{Behind}
 use Rattle.lists.specs.Laws.{lengths}
-use Rattle.waiting.specs.Rooms.{Room, itemsIn, cellsOf, waitingIn, itemCount, entryCount, waitingItems, waitingEntries}
-use Rattle.waiting.specs.Layout.{contextCells, storeOf, roomOf, waitingOf, RoomWf}
-use Rattle.waiting.specs.RoomLaws.{length-cells}
-use Rattle.waiting.specs.LayoutLaws.{length-items, length-entries, cell-count}
+use Rattle.waiting.specs.Layout.{contextCells, waitingOf, ContextRoom, Empty}
 use Rattle.contexts.specs.Contexts.{restAt, contextOf, waitingNumbers, waitingBytes, Formed, Wf, RoomKept, Answered, Called}
 use Rattle.contexts.specs.declared.Answer.{Answer}
 
@@ -56,10 +53,10 @@ answered-called call xs bs r xs′ bs′ w k a =
 
 -- ---- the lengths of an area
 
-pub area-length : (xs bs : List ℕ) → Formed xs bs → length xs ≡ 18977
+pub area-length : (xs bs : List ℕ) → Formed xs bs → length xs ≡ 17231
 area-length xs bs w = omega (arith, w .groups .numbers-fit, w .rest .numbers-are, length-drop 9376 xs)
 
-pub area-bytes : (xs bs : List ℕ) → Formed xs bs → length bs ≡ 43008
+pub area-bytes : (xs bs : List ℕ) → Formed xs bs → length bs ≡ 38912
 area-bytes xs bs w = omega (arith, w .groups .bytes-fit, w .rest .bytes-are, length-drop 16384 bs)
 
 pub same-lengths : {a b n : ℕ} → a ≡ n → b ≡ n → a ≡ b
@@ -70,14 +67,14 @@ same-lengths p q = p ∙ sym q
 -- what lies behind the groups is as it was, and so is the room
 pub behind-room : (xs bs xs′ bs′ : List ℕ) → drop 9376 xs′ ≡ drop 9376 xs → drop 16384 bs′ ≡ drop 16384 bs → RoomKept xs bs xs′ bs′
 behind-room xs bs xs′ bs′ n b =
-    record { numbers = part-of-back 10019 1746 9376 xs′ xs n (omega arith); bytes = part-of-back 20480 4096 16384 bs′ bs b (omega arith) }
+    record { numbers = part-of-back 10019 3490 9376 xs′ xs n (omega arith); bytes = part-of-back 20480 8192 16384 bs′ bs b (omega arith) }
 
 -- what lies behind the lists is as it was, and so is the room
 pub lists-room : (xs bs xs′ bs′ : List ℕ) → Behind (drop 9376 xs) (drop 16384 bs) (drop 9376 xs′) (drop 16384 bs′) → RoomKept xs bs xs′ bs′
 lists-room xs bs xs′ bs′ b =
     record {
-      numbers = sym (part-drop 643 1746 9376 xs′) ∙ part-of-back 643 1746 643 (drop 9376 xs′) (drop 9376 xs) (b .numbers) (omega arith) ∙ part-drop 643 1746 9376 xs;
-      bytes = sym (part-drop 4096 4096 16384 bs′) ∙ part-of-back 4096 4096 4096 (drop 16384 bs′) (drop 16384 bs) (b .bytes) (omega arith) ∙ part-drop 4096 4096 16384 bs;
+      numbers = sym (part-drop 643 3490 9376 xs′) ∙ part-of-back 643 3490 643 (drop 9376 xs′) (drop 9376 xs) (b .numbers) (omega arith) ∙ part-drop 643 3490 9376 xs;
+      bytes = sym (part-drop 4096 8192 16384 bs′) ∙ part-of-back 4096 8192 4096 (drop 16384 bs′) (drop 16384 bs) (b .bytes) (omega arith) ∙ part-drop 4096 8192 16384 bs;
     }
 
 pub room-all : (xs bs : List ℕ) → RoomKept xs bs xs bs
@@ -86,7 +83,7 @@ room-all xs bs = record { numbers = refl; bytes = refl }
 pub room-then : (xs bs ys cs zs ds : List ℕ) → RoomKept xs bs ys cs → RoomKept ys cs zs ds → RoomKept xs bs zs ds
 room-then xs bs ys cs zs ds p q = record { numbers = q .numbers ∙ p .numbers; bytes = q .bytes ∙ p .bytes }
 
-pub room-wf : (xs bs xs′ bs′ : List ℕ) → RoomKept xs bs xs′ bs′ → RoomWf contextCells (waitingNumbers xs) (waitingBytes bs) → RoomWf contextCells (waitingNumbers xs′) (waitingBytes bs′)
+pub room-wf : (xs bs xs′ bs′ : List ℕ) → RoomKept xs bs xs′ bs′ → ContextRoom (waitingNumbers xs) (waitingBytes bs) → ContextRoom (waitingNumbers xs′) (waitingBytes bs′)
 room-wf xs bs xs′ bs′ k w = rw (k .numbers, k .bytes) w
 
 pub room-waiting : (xs bs xs′ bs′ : List ℕ) → RoomKept xs bs xs′ bs′ → waitingOf (waitingNumbers xs′) (waitingBytes bs′) ≡ waitingOf (waitingNumbers xs) (waitingBytes bs)
@@ -94,32 +91,11 @@ room-waiting xs bs xs′ bs′ k = rw (k .numbers, k .bytes)
 
 -- ---- the limits
 
-module _ (ws vs : List ℕ) (w : RoomWf contextCells ws vs) where
-  abbrev room : Room
-  room = roomOf contextCells ws vs
-
-  few-groups : length (waitingOf ws vs) ≤ 8
-  unfolding waitingOf waitingIn
-  few-groups =
-      let xs = itemsIn (storeOf ws) room in
-      omega (arith, length-le (cellsOf (room .heads) xs), length-cells (room .heads) xs, cell-count contextCells ws vs (w .numbers-are) (w .bytes-are))
-
-  few-items : waitingItems (waitingOf ws vs) ≤ 64
-  unfolding waitingOf
-  few-items =
-      let l : length (room .items) ≡ 576 = length-items contextCells ws vs (w .numbers-are) (w .bytes-are) in
-      omega (arith, w .wf .all-items, w .wf .stored .rows, l)
-
-  few-entries : waitingEntries (waitingOf ws vs) ≤ 128
-  unfolding waitingOf
-  few-entries =
-      let l : length (room .entries) ≡ 1024 = length-entries contextCells ws vs (w .numbers-are) (w .bytes-are) in
-      omega (arith, w .wf .all-entries, w .wf .stored .lists, l)
-
-  -- the parts of a room of 8 cells pass no limit
-  pub room-fits : waitingFits (waitingOf ws vs) ≡ true
-  unfolding waitingFits waitingItems waitingEntries itemCount entryCount
-  room-fits = both (both (le-leb _ 8 few-groups) (le-leb _ 64 few-items)) (le-leb _ 128 few-entries)
+-- a room where nothing waits passes none
+pub none-wait : (ws vs : List ℕ) → Empty contextCells ws vs → ContextRoom ws vs
+none-wait ws vs e =
+    let w : waitingOf ws vs ≡ [] = unfold waitingOf in e .waiting in
+    record { room = e .wf; fits = rw w (unfold waitingFits sum in refl) }
 
 -- an area that is formed passes no limit
 pub context-fits : (xs bs : List ℕ) → Formed xs bs → fits (contextOf xs bs) ≡ true
@@ -129,4 +105,4 @@ context-fits xs bs w =
     let l = lengths (drop 9376 xs) (drop 16384 bs) (w .rest) in
     let t : length (tombstonesIn (drop 9376 xs) (drop 16384 bs)) ≤ 64 = omega (arith, l) in
     let n : length (cleanedIn (drop 9376 xs)) ≤ 64 = omega (arith, l) in
-    both (both (both (both (le-leb _ 8 (g .0)) (g .1)) (le-leb _ 64 t)) (le-leb _ 64 n)) (room-fits (waitingNumbers xs) (waitingBytes bs) (w .waiting))
+    both (both (both (both (le-leb _ 8 (g .0)) (g .1)) (le-leb _ 64 t)) (le-leb _ 64 n)) (w .waiting .fits)

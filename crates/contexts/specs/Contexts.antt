@@ -13,24 +13,24 @@ use Rattle.groups.specs.Area.{numbersInUse, bytesInUse, groupsOf}
 use Rattle.groups.specs.Area as groups
 use Rattle.lists.specs.Rest.{restOf}
 use Rattle.lists.specs.Rest as lists
-use Rattle.waiting.specs.Layout.{contextCells, waitingOf, RoomWf}
+use Rattle.waiting.specs.Layout.{waitingOf, ContextRoom}
 use Rattle.contexts.specs.declared.Answer.{Answer}
 use Rattle.contexts.specs.declared.Answer.the-variants as answer
 use Rattle.contexts.specs.declared.Position as position
 
 -- the numbers and the bytes of an area
 abbrev pub areaNumbers : ℕ
-areaNumbers = 18977
+areaNumbers = 17231
 
 abbrev pub areaBytes : ℕ
-areaBytes = 43008
+areaBytes = 38912
 
 -- the room of its waiting parts
 abbrev pub waitingNumbers : List ℕ → List ℕ
-waitingNumbers xs = part 10019 1746 xs
+waitingNumbers xs = part 10019 3490 xs
 
 abbrev pub waitingBytes : List ℕ → List ℕ
-waitingBytes bs = part 20480 4096 bs
+waitingBytes bs = part 20480 8192 bs
 
 -- all of the context but its groups: the lists and the waiting parts
 unfoldable pub restAt : List ℕ → List ℕ → Context
@@ -45,13 +45,13 @@ contextOf xs bs = withGroups (groupsOf xs bs) (restAt xs bs)
 pub record Formed (xs bs : List ℕ) : Type 0 where
   pub groups : groups.Wf xs bs
   pub rest : lists.Wf (drop numbersInUse xs) (drop bytesInUse bs)
-  pub waiting : RoomWf contextCells (waitingNumbers xs) (waitingBytes bs)
+  pub waiting : ContextRoom (waitingNumbers xs) (waitingBytes bs)
 
 -- what holds of an area between calls
 pub record Wf (xs bs : List ℕ) : Type 0 where
   pub groups : groups.Wf xs bs
   pub rest : lists.Wf (drop numbersInUse xs) (drop bytesInUse bs)
-  pub waiting : RoomWf contextCells (waitingNumbers xs) (waitingBytes bs)
+  pub waiting : ContextRoom (waitingNumbers xs) (waitingBytes bs)
   pub kept : Kept (contextOf xs bs)
 
 -- the room of the waiting parts is as it was

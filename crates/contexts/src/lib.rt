@@ -8,14 +8,14 @@ use pipe_log::LogQueue;
 use stretch::STRETCH;
 
 // The lengths of an area: its numbers and its bytes.
-pub const NUMBERS: usize = 18977;
+pub const NUMBERS: usize = 17231;
 
-pub const BYTES: usize = 43008;
+pub const BYTES: usize = 38912;
 
 // Where the numbers of the waiting parts stand.
 pub const WAITING_FROM: usize = 10019;
 
-pub const WAITING_TO: usize = 11765;
+pub const WAITING_TO: usize = 13509;
 
 // Where a refusal was met: at no item, or at the item with this position, counted from 0.
 pub enum Position {
@@ -31,7 +31,7 @@ pub enum Answer {
 
 // Marks the eight stretches as free.
 fn clear_groups(xs: &mut [u64])
-    requires { ⌜ length (now xs) ≡ 18977 ⌝ }
+    requires { ⌜ length (now xs) ≡ 17231 ⌝ }
     ensures { λ _. ⌜ Cleared 8 (now (xs .entry)) (now (xs .exit)) ⌝ }
 {
     let mut k = 0;
@@ -43,7 +43,7 @@ fn clear_groups(xs: &mut [u64])
 
 // Makes a fresh context of a queue, whatever the area held.
 pub fn fresh(xs: &mut [u64], bs: &mut [u8], queue: LogQueue)
-    requires { ⌜ (length (now xs) ≡ 18977) × (length (now bs) ≡ 43008) ⌝ }
+    requires { ⌜ (length (now xs) ≡ 17231) × (length (now bs) ≡ 38912) ⌝ }
     ensures { λ _. ⌜ FreshArea queue (now (xs .exit)) (now (bs .exit)) ⌝ }
 {
     clear_groups(xs);

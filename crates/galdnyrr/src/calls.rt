@@ -16,7 +16,7 @@ use crate::numbers::tell;
 // Makes a fresh context of a queue, whatever the area held.
 #[no_mangle]
 pub extern "C" fn galdnyrr_fresh(xs: &mut [u64], bs: &mut [u8], queue: u64)
-    requires { ⌜ (length (now xs) ≡ 18977) × (length (now bs) ≡ 43008) ⌝ }
+    requires { ⌜ (length (now xs) ≡ 17231) × (length (now bs) ≡ 38912) ⌝ }
     ensures { λ _. ⌜ FreshArea (queueAt queue) (now (xs .exit)) (now (bs .exit)) ⌝ }
 {
     contexts::fresh(xs, bs, queue_of(queue));

@@ -102,5 +102,5 @@ module _ (xs bs : List ℕ) (k : Kind) (e : k ≡ kindOf (getD (take (length xs 
           same-called _ (writes-it (liveRewrite gate (file .seq)) file items es ds xs bs) xs bs r ys fs w (λ d e. rewrite-kept gate (batchOf file items es ds) (contextOf xs bs) d (w .kept) e) (rw (kind-is, y)) c
 
 -- the numbers behind the groups begin with the kind
-pub zero-below : (l : List ℕ) → length l ≡ 9601 → 0 < length l
+pub zero-below : (l : List ℕ) → length l ≡ 7855 → 0 < length l
 zero-below l e = omega arith

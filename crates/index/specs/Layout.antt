@@ -9,7 +9,7 @@ use Rattle.lists.specs.Rest.{listNumbers, listBytes, restNumbers, restBytes}
 use Rattle.waiting.specs.Layout.{contextCells, numbersOf, bytesOf}
 use Rattle.contexts.specs.Contexts.{areaNumbers, areaBytes}
 
--- ---- numbers: eight stretches, eight spare ones, the lists, the waiting parts, a merge's room for waiting parts, its long stretch
+-- ---- numbers: eight stretches, eight spare ones, the lists, the waiting parts, a merge's long stretch
 
 abbrev pub sparesAt : ℕ
 sparesAt = 4688
@@ -20,11 +20,8 @@ listsAt = 9376
 abbrev pub waitingAt : ℕ
 waitingAt = 10019
 
-abbrev pub secondRoomAt : ℕ
-secondRoomAt = 11765
-
 abbrev pub longStretchAt : ℕ
-longStretchAt = 15255
+longStretchAt = 13509
 
 -- ---- bytes, in the same order
 
@@ -37,16 +34,10 @@ listBytesAt = 16384
 abbrev pub waitingBytesAt : ℕ
 waitingBytesAt = 20480
 
-abbrev pub secondRoomBytesAt : ℕ
-secondRoomBytesAt = 24576
-
 abbrev pub longStretchBytesAt : ℕ
-longStretchBytesAt = 32768
+longStretchBytesAt = 28672
 
--- a merge's room has twice as many cells as a context's; the long stretch has a header, 384 rows of entries and 160 of keys
-abbrev pub secondCells : ℕ
-secondCells = 2 * contextCells
-
+-- the long stretch has a header, 384 rows of entries and 160 of keys
 abbrev pub longNumbers : ℕ
 longNumbers = 10 + 384 * 8 + 160 * 4
 
@@ -59,16 +50,14 @@ pub record Parts : Type 0 where
   pub lists : listsAt ≡ sparesAt + slots * stretchWidth
   pub lists-behind : listsAt ≡ numbersInUse
   pub waiting : waitingAt ≡ listsAt + listNumbers
-  pub second-room : secondRoomAt ≡ waitingAt + numbersOf contextCells
-  pub long-stretch : longStretchAt ≡ secondRoomAt + numbersOf secondCells
+  pub long-stretch : longStretchAt ≡ waitingAt + numbersOf contextCells
   pub all : areaNumbers ≡ longStretchAt + longNumbers
   pub rest : areaNumbers ≡ numbersInUse + restNumbers
   pub spare-bytes : spareBytesAt ≡ slots * bytesWidth
   pub list-bytes : listBytesAt ≡ spareBytesAt + slots * bytesWidth
   pub list-bytes-behind : listBytesAt ≡ bytesInUse
   pub waiting-bytes : waitingBytesAt ≡ listBytesAt + listBytes
-  pub second-room-bytes : secondRoomBytesAt ≡ waitingBytesAt + bytesOf contextCells
-  pub long-stretch-bytes : longStretchBytesAt ≡ secondRoomBytesAt + bytesOf secondCells
+  pub long-stretch-bytes : longStretchBytesAt ≡ waitingBytesAt + bytesOf contextCells
   pub all-bytes : areaBytes ≡ longStretchBytesAt + longBytes
   pub rest-bytes : areaBytes ≡ bytesInUse + restBytes
   -- within 192 KiB
@@ -81,7 +70,6 @@ parts =
       lists = refl;
       lists-behind = refl;
       waiting = refl;
-      second-room = refl;
       long-stretch = refl;
       all = refl;
       rest = refl;
@@ -89,7 +77,6 @@ parts =
       list-bytes = refl;
       list-bytes-behind = refl;
       waiting-bytes = refl;
-      second-room-bytes = refl;
       long-stretch-bytes = refl;
       all-bytes = refl;
       rest-bytes = refl;

@@ -106,7 +106,7 @@ fn room_if(added: bool, n: usize, most: usize) -> bool
 
 // Whether the lists have room for what is added.
 pub fn have_room(ys: &[u64], tombstone: bool, cleaned: bool) -> bool
-    requires { ⌜ length (now ys) ≡ 9601 ⌝ }
+    requires { ⌜ length (now ys) ≡ 7855 ⌝ }
     ensures { λ r. ⌜ r ≡ roomIf tombstone (getD (now (ys .entry)) 1 0) 64 && roomIf cleaned (getD (now (ys .entry)) 2 0) 64 ⌝ }
 {
     let counts = lists::counts_in(ys);

@@ -7,7 +7,7 @@ use lib.ListN.{length, length-drop}
 use Rattle.contexts.specs.Contexts.{Wf}
 
 -- what stands behind the groups has a fixed length, and so have the groups
-pub lengths-are : (xs bs : List ℕ) → Wf xs bs → (length xs ≡ 18977) × (length bs ≡ 43008)
+pub lengths-are : (xs bs : List ℕ) → Wf xs bs → (length xs ≡ 17231) × (length bs ≡ 38912)
 lengths-are xs bs w =
     let numbers = w .rest .numbers-are in
     let bytes = w .rest .bytes-are in

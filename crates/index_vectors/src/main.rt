@@ -28,7 +28,7 @@ fn say_counts(calls: u64, differ: u64) {
 
 // Compares the calls one after another, each on what the one before it left.
 fn compare_all(text: &[u8], xs: &mut [u64], bs: &mut [u8])
-    requires { ⌜ (length (now xs) ≡ 18977) × (length (now bs) ≡ 43008) ⌝ }
+    requires { ⌜ (length (now xs) ≡ 17231) × (length (now bs) ≡ 38912) ⌝ }
 {
     index::fresh(xs, bs, LogQueue::Append);
     let mut at = 0;
@@ -68,7 +68,7 @@ fn main() {
         say(b"index: too many calls\n");
         return;
     }
-    let mut xs = [0u64; 18977];
-    let mut bs = [0u8; 43008];
+    let mut xs = [0u64; 17231];
+    let mut bs = [0u8; 38912];
     compare_all(&text[..length], &mut xs, &mut bs);
 }

@@ -47,7 +47,7 @@ no-tombstones : (a : Area) → storeItems (storeOf 0) a ≡ []
 unfolding storeItems itemsFrom
 no-tombstones a = refl
 
-none-stored : (ys cs : List ℕ) → length ys ≡ 9601 → length cs ≡ 26624 → Stored (storeOf 0) (tombstoneArea ys cs)
+none-stored : (ys cs : List ℕ) → length ys ≡ 7855 → length cs ≡ 22528 → Stored (storeOf 0) (tombstoneArea ys cs)
 unfolding entriesBefore
 none-stored ys cs e f =
     record {
@@ -58,7 +58,7 @@ none-stored ys cs e f =
       total = refl;
     }
 
-module _ (ys cs : List ℕ) (e : length ys ≡ 9601) (f : length cs ≡ 26624) (q : rules.LogQueue) (k : getD ys 0 0 ≡ queueNumber q) (t : getD ys 1 0 ≡ 0) (n : getD ys 2 0 ≡ 0) where
+module _ (ys cs : List ℕ) (e : length ys ≡ 7855) (f : length cs ≡ 22528) (q : rules.LogQueue) (k : getD ys 0 0 ≡ queueNumber q) (t : getD ys 1 0 ≡ 0) (n : getD ys 2 0 ≡ 0) where
   -- lists of no elements are a fresh context's
   fresh-lists : (xs : List ℕ) → drop 643 ys ≡ drop 643 xs → Becomes (fresh q) xs cs ys
   unfolding fresh
@@ -77,12 +77,12 @@ module _ (ys cs : List ℕ) (e : length ys ≡ 9601) (f : length cs ≡ 26624) (
             };
       }
 
-pub cleared : (ys : List ℕ) (q : rules.LogQueue) (k : ℕ) → length ys ≡ 9601 → k ≡ queueNumber q → (cs : List ℕ) → length cs ≡ 26624 → Becomes (fresh q) ys cs (set (set (set ys 0 k) 1 0) 2 0)
+pub cleared : (ys : List ℕ) (q : rules.LogQueue) (k : ℕ) → length ys ≡ 7855 → k ≡ queueNumber q → (cs : List ℕ) → length cs ≡ 22528 → Becomes (fresh q) ys cs (set (set (set ys 0 k) 1 0) 2 0)
 cleared ys q k e f cs h =
     let a = set ys 0 k in
     let b = set a 1 0 in
-    let la : length a ≡ 9601 = length-set ys 0 k ∙ e in
-    let lb : length b ≡ 9601 = length-set a 1 0 ∙ la in
+    let la : length a ≡ 7855 = length-set ys 0 k ∙ e in
+    let lb : length b ≡ 7855 = length-set a 1 0 ∙ la in
     fresh-lists (set b 2 0) cs (length-set b 2 0 ∙ lb) h q
     (getD-set-other b 2 0 0 0 (λ z. omega arith) ∙ getD-set-other a 1 0 0 0 (λ z. omega arith) ∙ getD-set-same ys 0 k 0 (omega arith) ∙ f)
     (getD-set-other b 2 1 0 0 (λ z. omega arith) ∙ getD-set-same a 1 0 0 (omega arith))
@@ -92,7 +92,7 @@ cleared ys q k e f cs h =
 -- ---- add_cleaned
 
 -- numbers gs are laid in behind the cleaned ones
-module _ (ys gs : List ℕ) (e : length ys ≡ 9601) (h : getD ys 2 0 + length gs ≤ 64) (cs : List ℕ) (w : Wf ys cs) where
+module _ (ys gs : List ℕ) (e : length ys ≡ 7855) (h : getD ys 2 0 + length gs ≤ 64) (cs : List ℕ) (w : Wf ys cs) where
   abbrev count : ℕ
   count = getD ys 2 0
 
@@ -105,7 +105,7 @@ module _ (ys gs : List ℕ) (e : length ys ≡ 9601) (h : getD ys 2 0 + length g
   abbrev after : List ℕ
   after = set numbered 2 total
 
-  number-length : length numbered ≡ 9601
+  number-length : length numbered ≡ 7855
   number-length = length-put ys (3 + count) gs (omega arith) ∙ e
 
   kind-stays : getD after 0 0 ≡ getD ys 0 0
@@ -173,7 +173,7 @@ module _ (ys gs : List ℕ) (e : length ys ≡ 9601) (h : getD ys 2 0 + length g
       }
 
 -- one number
-pub cleaned-added : (ys : List ℕ) (g : ℕ) → length ys ≡ 9601 → getD ys 2 0 < 64 → (cs : List ℕ) → Wf ys cs → CleanedAdded g ys cs (set (set ys (3 + getD ys 2 0) g) 2 (getD ys 2 0 + 1))
+pub cleaned-added : (ys : List ℕ) (g : ℕ) → length ys ≡ 7855 → getD ys 2 0 < 64 → (cs : List ℕ) → Wf ys cs → CleanedAdded g ys cs (set (set ys (3 + getD ys 2 0) g) 2 (getD ys 2 0 + 1))
 cleaned-added ys g e h cs w =
     rw (set-put ys (3 + getD ys 2 0) g (omega arith)) (all-cleaned-added ys (g ∷ []) e (omega arith) cs w)
 
@@ -187,7 +187,7 @@ same-store : (t : Store) (n : ℕ) → t .items ≡ n → t .entries ≡ 0 → t
 same-store t n p q = λ i. record { items = p i; entries = q i }
 
 -- there is a row for one more, and it has no entries
-pub tombstone-room : (ys : List ℕ) (k : ℕ) → length ys ≡ 9601 → getD ys 1 0 < 64 → k ≡ 0 → hasRoom k (storeOf (getD ys 1 0)) (length (take 576 (drop 67 ys))) 0 ≡ true
+pub tombstone-room : (ys : List ℕ) (k : ℕ) → length ys ≡ 7855 → getD ys 1 0 < 64 → k ≡ 0 → hasRoom k (storeOf (getD ys 1 0)) (length (take 576 (drop 67 ys))) 0 ≡ true
 unfolding hasRoom part
 tombstone-room ys k e h z =
     let l : length (take 576 (drop 67 ys)) ≡ 576 = length-part 67 576 ys (omega arith) in
@@ -211,7 +211,7 @@ module _ (ys cs xs bs : List ℕ) (its : List rules.LogItem) (m : ℕ) (w : Wf y
   unfolding tombstoneArea
   length-bytes = let n = w .bytes-are in a .sized .places ∙ length-part 0 4096 cs (omega arith)
 
-  length-laid : length laid ≡ 9601
+  length-laid : length laid ≡ 7855
   length-laid = let n = w .numbers-are in let l = length-rows in length-put ys 67 xs (omega arith) ∙ n
 
   before-rows : (i : ℕ) → i ≢ 1 → i < 67 → getD told i 0 ≡ getD ys i 0
@@ -337,7 +337,7 @@ module _ (ys cs us vs : List ℕ) (w : Wf ys cs) (v : Wf us vs) (h : getD ys 1 0
 -- ---- the index, and no cleaned numbers
 
 -- a list of ys whose first three numbers alone differ
-module _ (ys cs us : List ℕ) (w : Wf ys cs) (e : length us ≡ 9601) (k : drop 3 us ≡ drop 3 ys) where
+module _ (ys cs us : List ℕ) (w : Wf ys cs) (e : length us ≡ 7855) (k : drop 3 us ≡ drop 3 ys) where
   same-behind : Behind ys cs us cs
   same-behind = record { numbers = shorter-back 3 643 us ys (omega arith) k; bytes = refl }
 
@@ -383,16 +383,16 @@ module _ (ys cs us : List ℕ) (w : Wf ys cs) (e : length us ≡ 9601) (k : drop
             };
       }
 
-pub become-index : (ys : List ℕ) → length ys ≡ 9601 → (cs : List ℕ) → Wf ys cs → Becomes (indexOf [] (restOf ys cs)) ys cs (set (set ys 0 2) 1 0)
+pub become-index : (ys : List ℕ) → length ys ≡ 7855 → (cs : List ℕ) → Wf ys cs → Becomes (indexOf [] (restOf ys cs)) ys cs (set (set ys 0 2) 1 0)
 become-index ys e cs w =
     let a = set ys 0 2 in
-    let l : length a ≡ 9601 = length-set ys 0 2 ∙ e in
+    let l : length a ≡ 7855 = length-set ys 0 2 ∙ e in
     index-now ys cs (set a 1 0) w (length-set a 1 0 ∙ l) (drop-set-lt 3 a 1 0 (omega arith) ∙ drop-set-lt 3 ys 0 2 (omega arith))
     (getD-set-other a 1 0 0 0 (λ z. omega arith) ∙ getD-set-same ys 0 2 0 (omega arith))
     (getD-set-same a 1 0 0 (omega arith))
     (getD-set-other a 1 2 0 0 (λ z. omega arith) ∙ getD-set-other ys 0 2 2 0 (λ z. omega arith))
 
-pub drop-cleaned : (ys : List ℕ) → length ys ≡ 9601 → (cs : List ℕ) → Wf ys cs → Becomes (withCleaned [] (restOf ys cs)) ys cs (set ys 2 0)
+pub drop-cleaned : (ys : List ℕ) → length ys ≡ 7855 → (cs : List ℕ) → Wf ys cs → Becomes (withCleaned [] (restOf ys cs)) ys cs (set ys 2 0)
 drop-cleaned ys e cs w =
     uncleaned-now ys cs (set ys 2 0) w (length-set ys 2 0 ∙ e) (drop-set-lt 3 ys 2 0 (omega arith))
     (getD-set-other ys 2 0 0 0 (λ z. omega arith))
@@ -401,7 +401,7 @@ drop-cleaned ys e cs w =
 
 -- ---- add_all_cleaned
 
-pub others-cleaned : (ys us : List ℕ) → length ys ≡ 9601 → length us ≡ 9601 → getD ys 2 0 + getD us 2 0 ≤ 64 → (cs : List ℕ) → Wf ys cs → AllCleanedAdded (cleanedIn us) ys cs (set (put ys (3 + getD ys 2 0) (take (3 + getD us 2 0 - 3) (drop 3 us))) 2 (getD ys 2 0 + getD us 2 0))
+pub others-cleaned : (ys us : List ℕ) → length ys ≡ 7855 → length us ≡ 7855 → getD ys 2 0 + getD us 2 0 ≤ 64 → (cs : List ℕ) → Wf ys cs → AllCleanedAdded (cleanedIn us) ys cs (set (put ys (3 + getD ys 2 0) (take (3 + getD us 2 0 - 3) (drop 3 us))) 2 (getD ys 2 0 + getD us 2 0))
 unfolding cleanedIn part
 others-cleaned ys us e f h cs w =
     let d : 3 + getD us 2 0 - 3 ≡ getD us 2 0 = omega arith in

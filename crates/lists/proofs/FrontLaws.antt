@@ -43,7 +43,7 @@ rest-is ys cs k ts l e f g = rw (e, f, g)
 
 -- ---- the lists cut back, by the lists
 
-module _ (t n : ℕ) (ys cs : List ℕ) (e : length ys ≡ 9601) where
+module _ (t n : ℕ) (ys cs : List ℕ) (e : length ys ≡ 7855) where
   store-cut : tombstoneStore (cutTo t n ys) ≡ storeOf t
   store-cut = store-is (cutTo t n ys) t (tombstones-cut t n ys e)
 
@@ -59,7 +59,7 @@ module _ (t n : ℕ) (ys cs : List ℕ) (e : length ys ≡ 9601) where
   stored-cut : Wf (cutTo t n ys) cs → Stored (storeOf t) (tombstoneArea ys cs)
   stored-cut w = rw (store-cut, area-cut) at (w .tombstones)
 
-  wf-cut : length cs ≡ 26624 → Stored (storeOf t) (tombstoneArea ys cs) → n ≤ 64 → Wf (cutTo t n ys) cs
+  wf-cut : length cs ≡ 22528 → Stored (storeOf t) (tombstoneArea ys cs) → n ≤ 64 → Wf (cutTo t n ys) cs
   wf-cut b s h =
       record {
         numbers-are = length-cut t n ys e;
@@ -72,8 +72,8 @@ module _ (t n : ℕ) (ys cs : List ℕ) (e : length ys ≡ 9601) where
 
 -- the kind, the tombstones' rows and bytes and the cleaned numbers that are in use stay, and there are no fewer of them
 pub record Fronts (ys cs ys′ cs′ : List ℕ) : Type 0 where
-  pub numbers-are : length ys′ ≡ 9601
-  pub bytes-are : length cs′ ≡ 26624
+  pub numbers-are : length ys′ ≡ 7855
+  pub bytes-are : length cs′ ≡ 22528
   pub kind : getD ys′ 0 0 ≡ getD ys 0 0
   pub tombstones : Kept (tombstoneStore ys) (tombstoneArea ys cs) (tombstoneArea ys′ cs′)
   pub cleaned : part 3 (getD ys 2 0) ys′ ≡ part 3 (getD ys 2 0) ys
@@ -81,14 +81,14 @@ pub record Fronts (ys cs ys′ cs′ : List ℕ) : Type 0 where
   pub cleaned-grow : getD ys 2 0 ≤ getD ys′ 2 0
 
 -- there are 64 bytes for each row
-pub places-fit : (ys cs : List ℕ) → length ys ≡ 9601 → length cs ≡ 26624 → length (tombstoneArea ys cs .items) / 9 * 64 ≤ length (tombstoneArea ys cs .bytes)
+pub places-fit : (ys cs : List ℕ) → length ys ≡ 7855 → length cs ≡ 22528 → length (tombstoneArea ys cs .items) / 9 * 64 ≤ length (tombstoneArea ys cs .bytes)
 unfolding tombstoneArea
 places-fit ys cs e f =
     let p : length (part 67 576 ys) ≡ 576 = length-part 67 576 ys (omega arith) in
     let q : length (part 0 4096 cs) ≡ 4096 = length-part 0 4096 cs (omega arith) in
     rw (p, q) (omega arith)
 
-module _ (ys cs ys′ cs′ : List ℕ) (e : length ys ≡ 9601) (f : Fronts ys cs ys′ cs′) (t n : ℕ) (r : Context) (h : t ≤ getD ys 1 0) (l : n ≤ getD ys 2 0) (b : Back t n r ys cs) where
+module _ (ys cs ys′ cs′ : List ℕ) (e : length ys ≡ 7855) (f : Fronts ys cs ys′ cs′) (t n : ℕ) (r : Context) (h : t ≤ getD ys 1 0) (l : n ≤ getD ys 2 0) (b : Back t n r ys cs) where
   fewer-kept : Kept (storeOf t) (tombstoneArea ys cs) (tombstoneArea ys′ cs′)
   unfolding tombstoneStore
   fewer-kept =
@@ -115,7 +115,7 @@ module _ (ys cs ys′ cs′ : List ℕ) (e : length ys ≡ 9601) (f : Fronts ys 
             (kept-stored (storeOf t) (tombstoneArea ys cs) (tombstoneArea ys′ cs′) was-stored fewer-kept (places-fit ys′ cs′ (f .numbers-are) (f .bytes-are))) fit;
       }
 
-pub keeps-fronts : (ys cs ys′ cs′ : List ℕ) → length ys ≡ 9601 → Fronts ys cs ys′ cs′ → Keeps ys cs ys′ cs′
+pub keeps-fronts : (ys cs ys′ cs′ : List ℕ) → length ys ≡ 7855 → Fronts ys cs ys′ cs′ → Keeps ys cs ys′ cs′
 keeps-fronts ys cs ys′ cs′ e f =
     record {
       back = λ t n r h l b. back-still ys cs ys′ cs′ e f t n r h l b;

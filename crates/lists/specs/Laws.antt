@@ -56,8 +56,8 @@ lengths ys cs w =
 
 -- ---- a cut writes the two counts, and leaves all else
 
-module _ (t n : ℕ) (ys : List ℕ) (e : length ys ≡ 9601) where
-  pub length-cut : length (cutTo t n ys) ≡ 9601
+module _ (t n : ℕ) (ys : List ℕ) (e : length ys ≡ 7855) where
+  pub length-cut : length (cutTo t n ys) ≡ 7855
   unfolding cutTo
   length-cut = length-put ys 1 (t ∷ n ∷ []) (omega arith) ∙ e
 
@@ -110,7 +110,7 @@ module _ (ys cs ys′ cs′ : List ℕ) (w : Wf ys cs) (n : take 643 ys′ ≡ t
   unfolding restOf tombstonesIn
   front-rest = rw (cell-is 0 (omega arith), store-is, area-is, cleaned-is)
 
-  pub front-wf : length ys′ ≡ 9601 → length cs′ ≡ 26624 → Wf ys′ cs′
+  pub front-wf : length ys′ ≡ 7855 → length cs′ ≡ 22528 → Wf ys′ cs′
   front-wf p q =
       record {
         numbers-are = p;

@@ -14,10 +14,10 @@ use Rattle.stores.specs.Stores.{Area, area, storeItems, Stored}
 
 -- the lengths that an area has behind its groups
 abbrev pub restNumbers : ℕ
-restNumbers = 9601
+restNumbers = 7855
 
 abbrev pub restBytes : ℕ
-restBytes = 26624
+restBytes = 22528
 
 -- those of the lists themselves
 abbrev pub listNumbers : ℕ

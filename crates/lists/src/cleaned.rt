@@ -9,7 +9,7 @@ use crate::CLEANED_FROM;
 
 // Copies the cleaned numbers to a list that has room for them.
 pub fn copy_cleaned(ys: &[u64], list: &mut [u64])
-    requires { ⌜ (length (now ys) ≡ 9601) × (getD (now ys) 2 0 ≤ 64) ⌝ }
+    requires { ⌜ (length (now ys) ≡ 7855) × (getD (now ys) 2 0 ≤ 64) ⌝ }
     requires { ⌜ getD (now ys) 2 0 ≤ length (now list) ⌝ }
     ensures { λ _. ⌜ now (list .exit) ≡ put (now (list .entry)) 0 (cleanedIn (now (ys .entry))) ⌝ }
 {

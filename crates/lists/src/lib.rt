@@ -18,9 +18,9 @@ use pipe_log::LogQueue;
 use stores::Store;
 
 // The lengths that an area has behind its groups.
-pub const NUMBERS: usize = 9601;
+pub const NUMBERS: usize = 7855;
 
-pub const BYTES: usize = 26624;
+pub const BYTES: usize = 22528;
 
 // The limits of the lists.
 pub const MAX_TOMBSTONES: usize = 64;
@@ -88,7 +88,7 @@ pub fn tombstone_at(ys: &[u64], cs: &[u8], j: usize) -> LogItem
 
 // The cleaned number `j`.
 pub fn cleaned_at(ys: &[u64], j: usize) -> u64
-    requires { ⌜ length (now ys) ≡ 9601 ⌝ }
+    requires { ⌜ length (now ys) ≡ 7855 ⌝ }
     requires { ⌜ (j < getD (now ys) 2 0) × (getD (now ys) 2 0 ≤ 64) ⌝ }
     ensures { λ r. ⌜ r ≡ getD (cleanedIn (now (ys .entry))) j 0 ⌝ }
 {
@@ -97,8 +97,8 @@ pub fn cleaned_at(ys: &[u64], j: usize) -> u64
 
 // Makes the lists those of a fresh context.
 pub fn clear(ys: &mut [u64], queue: LogQueue)
-    requires { ⌜ length (now ys) ≡ 9601 ⌝ }
-    ensures { λ _. ⌜ ((cs : List ℕ) → length cs ≡ 26624 → Becomes (fresh queue) (now (ys .entry)) cs (now (ys .exit))) ⌝ }
+    requires { ⌜ length (now ys) ≡ 7855 ⌝ }
+    ensures { λ _. ⌜ ((cs : List ℕ) → length cs ≡ 22528 → Becomes (fresh queue) (now (ys .entry)) cs (now (ys .exit))) ⌝ }
 {
     ys[KIND_AT] = queue.to_u64();
     ys[TOMBSTONES_AT] = 0;
@@ -107,7 +107,7 @@ pub fn clear(ys: &mut [u64], queue: LogQueue)
 
 // The numbers of elements that the lists have.
 pub fn counts_in(ys: &[u64]) -> Counts
-    requires { ⌜ length (now ys) ≡ 9601 ⌝ }
+    requires { ⌜ length (now ys) ≡ 7855 ⌝ }
     ensures { λ r. ⌜ (r .tombstones ≡ getD (now (ys .entry)) 1 0) × (r .cleaned ≡ getD (now (ys .entry)) 2 0) ⌝ }
 {
     Counts {
@@ -118,7 +118,7 @@ pub fn counts_in(ys: &[u64]) -> Counts
 
 // Cuts the lists back to numbers of elements that they had.
 pub fn cut(ys: &mut [u64], counts: Counts)
-    requires { ⌜ length (now ys) ≡ 9601 ⌝ }
+    requires { ⌜ length (now ys) ≡ 7855 ⌝ }
     ensures { λ _. ⌜ now (ys .exit) ≡ cutTo (counts .tombstones) (counts .cleaned) (now (ys .entry)) ⌝ }
 {
     ys[TOMBSTONES_AT] = counts.tombstones as u64;
@@ -156,7 +156,7 @@ pub fn add_tombstone(ys: &mut [u64], cs: &mut [u8], item: LogItem, entries: &[u6
 
 // Adds a cleaned number, for which there is room.
 pub fn add_cleaned(ys: &mut [u64], group: u64)
-    requires { ⌜ length (now ys) ≡ 9601 ⌝ }
+    requires { ⌜ length (now ys) ≡ 7855 ⌝ }
     requires { ⌜ getD (now ys) 2 0 < 64 ⌝ }
     ensures { λ _. ⌜ ((cs : List ℕ) → Wf (now (ys .entry)) cs → CleanedAdded group (now (ys .entry)) cs (now (ys .exit))) ⌝ }
 {
@@ -202,7 +202,7 @@ pub fn add_tombstones(ys: &mut [u64], cs: &mut [u8], its_ys: &[u64], its_cs: &[u
 
 // Adds the cleaned numbers of other lists, for which there is room.
 pub fn add_all_cleaned(ys: &mut [u64], its_ys: &[u64])
-    requires { ⌜ (length (now ys) ≡ 9601) × (length (now «its_ys») ≡ 9601) ⌝ }
+    requires { ⌜ (length (now ys) ≡ 7855) × (length (now «its_ys») ≡ 7855) ⌝ }
     requires { ⌜ getD (now ys) 2 0 + getD (now «its_ys») 2 0 ≤ 64 ⌝ }
     ensures { λ _. ⌜ ((cs : List ℕ) → Wf (now (ys .entry)) cs → AllCleanedAdded (cleanedIn (now («its_ys» .entry))) (now (ys .entry)) cs (now (ys .exit))) ⌝ }
 {
@@ -216,7 +216,7 @@ pub fn add_all_cleaned(ys: &mut [u64], its_ys: &[u64])
 
 // Makes the lists those of the index: its kind, and no tombstones.
 pub fn become_index(ys: &mut [u64])
-    requires { ⌜ length (now ys) ≡ 9601 ⌝ }
+    requires { ⌜ length (now ys) ≡ 7855 ⌝ }
     ensures { λ _. ⌜ ((cs : List ℕ) → Wf (now (ys .entry)) cs → Becomes (indexOf [] (restOf (now (ys .entry)) cs)) (now (ys .entry)) cs (now (ys .exit))) ⌝ }
 {
     ys[KIND_AT] = INDEX;
@@ -225,7 +225,7 @@ pub fn become_index(ys: &mut [u64])
 
 // Empties the cleaned numbers.
 pub fn drop_cleaned(ys: &mut [u64])
-    requires { ⌜ length (now ys) ≡ 9601 ⌝ }
+    requires { ⌜ length (now ys) ≡ 7855 ⌝ }
     ensures { λ _. ⌜ ((cs : List ℕ) → Wf (now (ys .entry)) cs → Becomes (withCleaned [] (restOf (now (ys .entry)) cs)) (now (ys .entry)) cs (now (ys .exit))) ⌝ }
 {
     ys[CLEANED_AT] = 0;

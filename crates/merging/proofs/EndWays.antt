@@ -19,7 +19,6 @@ use Rattle.lists.specs.declared.Counts.{Counts}
 use Rattle.lists.specs.Rest.{restOf, tombstonesIn, cleanedIn}
 use Rattle.lists.specs.Laws.{lengths}
 use Rattle.contexts.specs.Contexts.{restAt, contextOf, waitingNumbers, waitingBytes, Wf}
-use Rattle.contexts.specs.AreaLaws.{room-fits}
 use Rattle.worktable.specs.declared.Mode.{Mode}
 use Rattle.worktable.specs.declared.Mode.the-variants as mode
 use Rattle.merging.specs.Modes.{restBy, clashBy, countsFit, countsOf, Few, Given}
@@ -100,7 +99,7 @@ module _ (m : Mode) (xs bs ys cs : List ℕ) (g : Given m xs bs ys cs) where
 
   waits-fit : waitingFits (c .waiting) ≡ true
   unfolding contextOf restAt withWaiting withGroups
-  waits-fit = room-fits (waitingNumbers xs) (waitingBytes bs) (g .wf .waiting)
+  waits-fit = g .wf .waiting .fits
 
   no-tombs : finishedTombs (newer .waiting) (c .waiting) ≡ []
   unfolding finishedTombs

@@ -59,10 +59,10 @@ module _ (m : Mode) (xs bs ys cs : List ℕ) (g : Growable m xs bs ys cs) where
   pub grown-before : 9376 ≤ length xs
   grown-before = omega (arith, g .rest .numbers-are, length-drop 9376 xs)
 
-  pub join-numbers : length xs ≡ 18977
+  pub join-numbers : length xs ≡ 17231
   join-numbers = omega (arith, g .rest .numbers-are, length-drop 9376 xs)
 
-  pub join-newer : length ys ≡ 18977
+  pub join-newer : length ys ≡ 17231
   join-newer = omega (arith, g .newer-rest .numbers-are, length-drop 9376 ys)
 
   pub grown-bytes-before : 16384 ≤ length bs

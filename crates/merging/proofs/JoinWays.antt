@@ -19,7 +19,7 @@ use Rattle.lists.specs.Laws.{behind-then}
 use Rattle.lists.specs.SameLaws.{rest-same, wf-same}
 use Rattle.waiting.specs.Layout.{contextCells, waitingOf, Empty}
 use Rattle.contexts.specs.Contexts.{restAt, contextOf}
-use Rattle.contexts.specs.AreaLaws.{before-back, behind-back, lists-room}
+use Rattle.contexts.specs.AreaLaws.{before-back, behind-back, lists-room, none-wait}
 use Rattle.worktable.specs.declared.Mode.{Mode}
 use Rattle.worktable.specs.declared.Mode.the-variants as mode
 use Rattle.merging.specs.Modes.{restBy, countsFit, countsOf}
@@ -44,18 +44,18 @@ unfolding countsFit countsOf
 cleaned-few xs bs ys cs g = leb-true (getD (drop 9376 xs) 2 0 + getD (drop 9376 ys) 2 0) 64 (g .fit)
 
 -- a room that is cleared has its length
-pub room-length : (v : List ℕ) → ((vs : List ℕ) → length vs ≡ 4096 → Empty contextCells v vs) → length v ≡ 1746
-room-length v r = r (replicate 4096 0) (length-replicate {A = ℕ} 4096 0) .wf .numbers-are
+pub room-length : (v : List ℕ) → ((vs : List ℕ) → length vs ≡ 8192 → Empty contextCells v vs) → length v ≡ 3490
+room-length v r = r (replicate 8192 0) (length-replicate {A = ℕ} 8192 0) .wf .numbers-are
 
-module _ (xs ys v : List ℕ) (n : length xs ≡ 18977) (k : length ys ≡ 18977) (l : length v ≡ 1746) where
+module _ (xs ys v : List ℕ) (n : length xs ≡ 17231) (k : length ys ≡ 17231) (l : length v ≡ 3490) where
   -- the area with its room cleared
   abbrev us : List ℕ
-  us = putMid 10019 1746 xs v
+  us = putMid 10019 3490 xs v
 
   us-is : us ≡ put xs 10019 v
-  us-is = loan-put 10019 1746 xs v l
+  us-is = loan-put 10019 3490 xs v l
 
-  length-us : length us ≡ 18977
+  length-us : length us ≡ 17231
   length-us = rw us-is (length-put xs 10019 v (omega arith) ∙ n)
 
   lists-same : part 0 643 (drop 9376 us) ≡ part 0 643 (drop 9376 xs)
@@ -71,18 +71,18 @@ module _ (xs ys v : List ℕ) (n : length xs ≡ 18977) (k : length ys ≡ 18977
       ∙ sym (getD-drop 9376 xs 2 0)
 
   -- what is asked of the lists, as they are lent
-  pub lent-join : getD (drop 9376 xs) 2 0 + getD (drop 9376 ys) 2 0 ≤ 64 → ((length (take (length us - 9376) (drop 9376 us)) ≡ 9601) × (length (take (length ys - 9376) (drop 9376 ys)) ≡ 9601)) × (getD (take (length us - 9376) (drop 9376 us)) 2 0 + getD (take (length ys - 9376) (drop 9376 ys)) 2 0 ≤ 64)
+  pub lent-join : getD (drop 9376 xs) 2 0 + getD (drop 9376 ys) 2 0 ≤ 64 → ((length (take (length us - 9376) (drop 9376 us)) ≡ 7855) × (length (take (length ys - 9376) (drop 9376 ys)) ≡ 7855)) × (getD (take (length us - 9376) (drop 9376 us)) 2 0 + getD (take (length ys - 9376) (drop 9376 ys)) 2 0 ≤ 64)
   lent-join h =
-      let p : length (drop 9376 us) ≡ 9601 = omega (arith, length-drop 9376 us, length-us) in
-      let q : length (drop 9376 ys) ≡ 9601 = omega (arith, length-drop 9376 ys, k) in
+      let p : length (drop 9376 us) ≡ 7855 = omega (arith, length-drop 9376 us, length-us) in
+      let q : length (drop 9376 ys) ≡ 7855 = omega (arith, length-drop 9376 ys, k) in
       rw (part-to-end us 9376, part-to-end ys 9376, count-same) ((p, q), h)
 
-  pub joined-length : (s : List ℕ) → length s ≡ 9601 → length (putMid 9376 (length us - 9376) us s) ≡ 18977
+  pub joined-length : (s : List ℕ) → length s ≡ 7855 → length (putMid 9376 (length us - 9376) us s) ≡ 17231
   joined-length s e =
       let p : length s ≡ length us - 9376 = omega (arith, length-us) in
       rw (loan-put 9376 (length us - 9376) us s p) (length-put us 9376 s (omega (arith, length-us)) ∙ length-us)
 
-  module _ (s bs cs : List ℕ) (g : Growable mode.Join xs bs ys cs) (r : (vs : List ℕ) → length vs ≡ 4096 → Empty contextCells v vs)
+  module _ (s bs cs : List ℕ) (g : Growable mode.Join xs bs ys cs) (r : (vs : List ℕ) → length vs ≡ 8192 → Empty contextCells v vs)
       (f : (ds : List ℕ) → Wf (take (length us - 9376) (drop 9376 us)) ds → ListsBecome (joinedLists (take (length us - 9376) (drop 9376 us)) ds (take (length ys - 9376) (drop 9376 ys))) (take (length us - 9376) (drop 9376 us)) ds s ds) where
     abbrev zs : List ℕ
     zs = putMid 9376 (length us - 9376) us s
@@ -108,16 +108,16 @@ module _ (xs ys v : List ℕ) (n : length xs ≡ 18977) (k : length ys ≡ 18977
         (rw (part-to-end us 9376, part-to-end ys 9376) at (f (drop 16384 bs) (rw (part-to-end us 9376) us-wf)))
 
     -- the room is the one that was cleared
-    room-is : part 10019 1746 zs ≡ v
-    room-is = lists-room us bs zs bs (lists-are .behind) .numbers ∙ rw us-is (part-put-same 1746 xs 10019 v l (omega arith))
+    room-is : part 10019 3490 zs ≡ v
+    room-is = lists-room us bs zs bs (lists-are .behind) .numbers ∙ rw us-is (part-put-same 3490 xs 10019 v l (omega arith))
 
-    length-vs : length (part 20480 4096 bs) ≡ 4096
-    length-vs = length-part 20480 4096 bs (omega (arith, g .rest .bytes-are, length-drop 16384 bs))
+    length-vs : length (part 20480 8192 bs) ≡ 8192
+    length-vs = length-part 20480 8192 bs (omega (arith, g .rest .bytes-are, length-drop 16384 bs))
 
-    room-empty : Empty contextCells (part 10019 1746 zs) (part 20480 4096 bs)
-    room-empty = rw room-is (r (part 20480 4096 bs) length-vs)
+    room-empty : Empty contextCells (part 10019 3490 zs) (part 20480 8192 bs)
+    room-empty = rw room-is (r (part 20480 8192 bs) length-vs)
 
-    none-waits : waitingOf (part 10019 1746 zs) (part 20480 4096 bs) ≡ []
+    none-waits : waitingOf (part 10019 3490 zs) (part 20480 8192 bs) ≡ []
     unfolding waitingOf
     none-waits = room-empty .waiting
 
@@ -140,7 +140,7 @@ module _ (xs ys v : List ℕ) (n : length xs ≡ 18977) (k : length ys ≡ 18977
           front = before-back 9376 us s fits ∙ rw us-is (take-put 9376 xs 10019 v (omega arith) (omega arith));
           front-bytes = refl;
           rest = lists-are .wf;
-          waiting = room-empty .wf;
+          waiting = none-wait _ _ room-empty;
         }
 
 pub join-grown : (m : Mode) (newer c : Context) (xs bs xs′ bs′ : List ℕ) → m ≡ mode.Join → RestBecomes (joinedRest newer c) xs bs xs′ bs′ → RestBecomes (restBy m newer c) xs bs xs′ bs′

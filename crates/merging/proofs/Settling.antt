@@ -65,8 +65,8 @@ module _ (k : ℕ) (xs bs xs′ bs′ : List ℕ) (l : k < slots) (p : numbersIn
       record {
         live = only-front b p q o liveNumbers (omega arith);
         live-bytes = only-front-bytes b p q o liveBytes (omega arith);
-        middle = part-of-back 9376 5879 numbersInUse xs′ xs (only-drop b p q o numbersInUse (omega arith)) (omega arith);
-        middle-bytes = part-of-back 16384 16384 bytesInUse bs′ bs (only-drop-bytes b p q o bytesInUse (omega arith)) (omega arith);
+        middle = part-of-back 9376 4133 numbersInUse xs′ xs (only-drop b p q o numbersInUse (omega arith)) (omega arith);
+        middle-bytes = part-of-back 16384 12288 bytesInUse bs′ bs (only-drop-bytes b p q o bytesInUse (omega arith)) (omega arith);
         numbers-length = only-length b p q o;
         bytes-length = only-length-bytes b p q o;
       }

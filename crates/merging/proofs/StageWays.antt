@@ -39,8 +39,8 @@ pub found-inside : (g k : ℕ) (xs : List ℕ) → Found g xs (Free k) → k < s
 found-inside g k xs f = found-free g k xs (Free k) f refl .inside
 
 -- the area's long stretch, as it is lent
-pub lent-used : (xs : List ℕ) (b : _) → b ≡ isUsed (take (length xs - 15255) (drop 15255 xs)) → b ≡ isUsed (drop 15255 xs)
-lent-used xs b e = rw (part-to-end xs 15255) at e
+pub lent-used : (xs : List ℕ) (b : _) → b ≡ isUsed (take (length xs - 13509) (drop 13509 xs)) → b ≡ isUsed (drop 13509 xs)
+lent-used xs b e = rw (part-to-end xs 13509) at e
 
 made-some : (t : Table) → made (some t) ≡ t
 unfolding made orElse
@@ -48,10 +48,10 @@ made-some t = refl
 
 module _ (at : ℕ → Result (Option Table)) (g : ℕ) (f : Flags) (xs bs : List ℕ) (r : Ready xs bs) where
   abbrev p : List ℕ
-  p = drop 15255 xs
+  p = drop 13509 xs
 
   abbrev b : List ℕ
-  b = drop 32768 bs
+  b = drop 28672 bs
 
   -- ---- a spare stretch is free
 
@@ -78,10 +78,10 @@ module _ (at : ℕ → Result (Option Table)) (g : ℕ) (f : Flags) (xs bs : Lis
       pub put-large : tableFits t ≡ false → Staging at (g ∷ []) f xs bs (record { clashed = f .clashed; passed = true }) xs bs
       put-large n = settled-large at g f xs bs r (free .absent) t (e ∙ ap ok is-some) n
 
-      pub put-fits : tableFits t ≡ true → length xs ≡ 18977 → length bs ≡ 43008 → (xs′ bs′ : List ℕ) → moves.Unloaded k g xs bs xs′ bs′ → Staging at (g ∷ []) f xs bs f xs′ bs′
+      pub put-fits : tableFits t ≡ true → length xs ≡ 17231 → length bs ≡ 38912 → (xs′ bs′ : List ℕ) → moves.Unloaded k g xs bs xs′ bs′ → Staging at (g ∷ []) f xs bs f xs′ bs′
       unfolding moves.longIn moves.longBytesIn
       put-fits y n m xs′ bs′ l =
-          settled-put at g f xs bs r (free .absent) t (e ∙ ap ok is-some) k xs′ bs′ free y (l .cell ∙ rw (long-is 15255 3722 xs n, long-is 32768 10240 bs m)) (l .wf) (l .only)
+          settled-put at g f xs bs r (free .absent) t (e ∙ ap ok is-some) k xs′ bs′ free y (l .cell ∙ rw (long-is 13509 3722 xs n, long-is 28672 10240 bs m)) (l .wf) (l .only)
 
   -- ---- none is free
 
@@ -100,9 +100,9 @@ module _ (at : ℕ → Result (Option Table)) (g : ℕ) (f : Flags) (xs bs : Lis
 
 -- ---- what the work table asks to be put into a spare stretch
 
-pub work-fitting : (xs bs : List ℕ) → length xs ≡ 18977 → length bs ≡ 43008 → work.Wf (drop 15255 xs) (drop 32768 bs) → isUsed (drop 15255 xs) ≡ true → tableFits (made (workIn (drop 15255 xs) (drop 32768 bs))) ≡ true → moves.Fitting xs bs
+pub work-fitting : (xs bs : List ℕ) → length xs ≡ 17231 → length bs ≡ 38912 → work.Wf (drop 13509 xs) (drop 28672 bs) → isUsed (drop 13509 xs) ≡ true → tableFits (made (workIn (drop 13509 xs) (drop 28672 bs))) ≡ true → moves.Fitting xs bs
 unfolding moves.longIn moves.longBytesIn
 work-fitting xs bs n m w u y =
-    let a = long-is 15255 3722 xs n in
-    let c = long-is 32768 10240 bs m in
+    let a = long-is 13509 3722 xs n in
+    let c = long-is 28672 10240 bs m in
     record { wf = rw (a, c) w; used = rw a u; fits = rw (a, c) y }

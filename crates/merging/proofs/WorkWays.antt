@@ -50,38 +50,38 @@ use Rattle.merging.specs.WorkLaws.{laid-none, laid-some, group-is, newer
 length-back : (a : ℕ) (d s : List ℕ) → a ≤ length d → length s ≡ length d - a → length (putMid a (length d - a) d s) ≡ length d
 length-back a d s h e = ap length (loan-put a (length d - a) d s e) ∙ length-put d a s (omega arith)
 
-pub long-bytes-length : (bs : List ℕ) → length bs ≡ 43008 → length (drop 32768 bs) ≡ 10240
-long-bytes-length bs m = omega (arith, length-drop 32768 bs)
+pub long-bytes-length : (bs : List ℕ) → length bs ≡ 38912 → length (drop 28672 bs) ≡ 10240
+long-bytes-length bs m = omega (arith, length-drop 28672 bs)
 
-module _ (xs : List ℕ) (p : List ℕ) (n : length xs ≡ 18977) (k : length p ≡ 3722) where
-  pub long-front : take longNumbers (putMid 15255 (length xs - 15255) xs p) ≡ take longNumbers xs
-  long-front = before-back 15255 xs p (omega arith)
+module _ (xs : List ℕ) (p : List ℕ) (n : length xs ≡ 17231) (k : length p ≡ 3722) where
+  pub long-front : take longNumbers (putMid 13509 (length xs - 13509) xs p) ≡ take longNumbers xs
+  long-front = before-back 13509 xs p (omega arith)
 
-  pub long-back : drop longNumbers (putMid 15255 (length xs - 15255) xs p) ≡ p
-  long-back = behind-back 15255 xs p (omega arith)
+  pub long-back : drop longNumbers (putMid 13509 (length xs - 13509) xs p) ≡ p
+  long-back = behind-back 13509 xs p (omega arith)
 
-  pub long-length : length (putMid 15255 (length xs - 15255) xs p) ≡ length xs
-  long-length = length-back 15255 xs p (omega arith) (omega arith)
+  pub long-length : length (putMid 13509 (length xs - 13509) xs p) ≡ length xs
+  long-length = length-back 13509 xs p (omega arith) (omega arith)
 
-  pub cleared-loaded : (bs : List ℕ) → length bs ≡ 43008 → ((b : List ℕ) → length b ≡ 10240 → Becomes none p b) → Loaded none xs bs (putMid 15255 (length xs - 15255) xs p) bs
+  pub cleared-loaded : (bs : List ℕ) → length bs ≡ 38912 → ((b : List ℕ) → length b ≡ 10240 → Becomes none p b) → Loaded none xs bs (putMid 13509 (length xs - 13509) xs p) bs
   cleared-loaded bs m f =
       record {
         becomes = rw long-back (f (drop longBytes bs) (long-bytes-length bs m));
         working = record { front = long-front; front-bytes = refl; numbers-length = long-length; bytes-length = refl };
       }
 
-  module _ (bs b : List ℕ) (m : length bs ≡ 43008) (l : length b ≡ 10240) where
-    pub lent-working : Working xs bs (putMid 15255 (length xs - 15255) xs p) (putMid 32768 (length bs - 32768) bs b)
+  module _ (bs b : List ℕ) (m : length bs ≡ 38912) (l : length b ≡ 10240) where
+    pub lent-working : Working xs bs (putMid 13509 (length xs - 13509) xs p) (putMid 28672 (length bs - 28672) bs b)
     lent-working =
         record {
           front = long-front;
-          front-bytes = before-back 32768 bs b (omega arith);
+          front-bytes = before-back 28672 bs b (omega arith);
           numbers-length = long-length;
-          bytes-length = length-back 32768 bs b (omega arith) (omega arith);
+          bytes-length = length-back 28672 bs b (omega arith) (omega arith);
         }
 
-    pub lent-back : drop longBytes (putMid 32768 (length bs - 32768) bs b) ≡ b
-    lent-back = behind-back 32768 bs b (omega arith)
+    pub lent-back : drop longBytes (putMid 28672 (length bs - 28672) bs b) ≡ b
+    lent-back = behind-back 28672 bs b (omega arith)
 
 -- ---- the older table
 
@@ -89,14 +89,14 @@ module _ (xs : List ℕ) (p : List ℕ) (n : length xs ≡ 18977) (k : length p 
 pub long-is : (a n : ℕ) (xs : List ℕ) → length xs ≡ a + n → part a n xs ≡ drop a xs
 long-is a n xs e = let k : length xs - a ≡ n = omega arith in sym (part-back a xs ∙ rw k)
 
-pub load-loaded : (k : ℕ) (xs bs xs′ bs′ : List ℕ) → length xs ≡ 18977 → length bs ≡ 43008 → length xs′ ≡ length xs → length bs′ ≡ length bs → moves.Loaded k xs bs xs′ bs′ → Loaded (some (tableIn (stretchAt k xs) (bytesAt k bs))) xs bs xs′ bs′
+pub load-loaded : (k : ℕ) (xs bs xs′ bs′ : List ℕ) → length xs ≡ 17231 → length bs ≡ 38912 → length xs′ ≡ length xs → length bs′ ≡ length bs → moves.Loaded k xs bs xs′ bs′ → Loaded (some (tableIn (stretchAt k xs) (bytesAt k bs))) xs bs xs′ bs′
 unfolding moves.longIn moves.longBytesIn
 load-loaded k xs bs xs′ bs′ n m p q l =
     record {
-      becomes = rw (long-is 15255 3722 xs′ (p ∙ n), long-is 32768 10240 bs′ (q ∙ m)) at (becomes (tableIn (stretchAt k xs) (bytesAt k bs)) _ _ (l .stands));
+      becomes = rw (long-is 13509 3722 xs′ (p ∙ n), long-is 28672 10240 bs′ (q ∙ m)) at (becomes (tableIn (stretchAt k xs) (bytesAt k bs)) _ _ (l .stands));
       working = record {
-        front = ap (take 15255) (l .only .numbers) ∙ take-put 15255 xs 15255 _ (omega arith) (omega arith);
-        front-bytes = ap (take 32768) (l .only .bytes) ∙ take-put 32768 bs 32768 _ (omega arith) (omega arith);
+        front = ap (take 13509) (l .only .numbers) ∙ take-put 13509 xs 13509 _ (omega arith) (omega arith);
+        front-bytes = ap (take 28672) (l .only .bytes) ∙ take-put 28672 bs 28672 _ (omega arith) (omega arith);
         numbers-length = p;
         bytes-length = q;
       };
@@ -202,7 +202,7 @@ module _ (m : Mode) (g : ℕ) (xs bs ys cs : List ℕ) (given : Given m xs bs ys
   loaded-for =
       rw (l .becomes .is, ← context-groups xs bs) (older-of m (contextOf xs bs) g (contextOf ys cs .tombstones) (given .wf .kept) (given .kind))
 
-  pub group-worked : (r : Outcome) (p b : List ℕ) → length xs′ ≡ 18977 → length bs′ ≡ 43008 → Ends (laidBy m (lookup numbers g (groupsOf ys cs)) (tombed g (contextOf ys cs .tombstones) (workIn (drop longNumbers xs′) (drop longBytes bs′)))) r p b → WorkedAs (groupBy m (contextOf ys cs) (contextOf xs bs) g) xs bs r (putMid 15255 (length xs′ - 15255) xs′ p) (putMid 32768 (length bs′ - 32768) bs′ b)
+  pub group-worked : (r : Outcome) (p b : List ℕ) → length xs′ ≡ 17231 → length bs′ ≡ 38912 → Ends (laidBy m (lookup numbers g (groupsOf ys cs)) (tombed g (contextOf ys cs .tombstones) (workIn (drop longNumbers xs′) (drop longBytes bs′)))) r p b → WorkedAs (groupBy m (contextOf ys cs) (contextOf xs bs) g) xs bs r (putMid 13509 (length xs′ - 13509) xs′ p) (putMid 28672 (length bs′ - 28672) bs′ b)
   group-worked r p b n k e =
       record {
         ends = rw (long-back xs′ p n (e .wf .numbers-are), lent-back xs′ p n (e .wf .numbers-are) bs′ b k (e .wf .bytes-are), group-is g (contextOf ys cs) (contextOf xs bs) (given .none-waits) m, context-groups ys cs, context-groups xs bs) (rw (l .becomes .is) at e);

@@ -11,7 +11,7 @@ use Rattle.groups.specs.Undo.{liveNumbers, liveBytes}
 use Rattle.lists.specs.Rest.{tombstonesIn, cleanedIn, restOf}
 use Rattle.lists.specs.Rest as lists
 use Rattle.lists.specs.Calls.{Behind}
-use Rattle.waiting.specs.Layout.{contextCells, RoomWf}
+use Rattle.waiting.specs.Layout.{ContextRoom}
 use Rattle.contexts.specs.Contexts.{waitingNumbers, waitingBytes, restAt, contextOf, Formed}
 use Rattle.worktable.specs.declared.Mode.{Mode}
 use Rattle.merging.specs.Modes.{restBy, countsFit, countsOf}
@@ -38,7 +38,7 @@ joinedLists ys cs ks = indexOf [] (withCleaned (cleanedIn ys ++ cleanedIn ks) (r
 -- what holds of the areas xs, bs and ys, cs whose lists are to become one
 pub record Growable (m : Mode) (xs bs ys cs : List ℕ) : Type 0 where
   pub rest : lists.Wf (drop numbersInUse xs) (drop bytesInUse bs)
-  pub waiting : RoomWf contextCells (waitingNumbers xs) (waitingBytes bs)
+  pub waiting : ContextRoom (waitingNumbers xs) (waitingBytes bs)
   pub newer-rest : lists.Wf (drop numbersInUse ys) (drop bytesInUse cs)
   pub none-waits : contextOf ys cs .waiting ≡ []
   pub fit : countsFit m (countsOf xs) (countsOf ys) ≡ true
@@ -49,7 +49,7 @@ pub record RestBecomes (r : Context) (xs bs xs′ bs′ : List ℕ) : Type 0 whe
   pub front : take numbersInUse xs′ ≡ take numbersInUse xs
   pub front-bytes : take bytesInUse bs′ ≡ take bytesInUse bs
   pub rest : lists.Wf (drop numbersInUse xs′) (drop bytesInUse bs′)
-  pub waiting : RoomWf contextCells (waitingNumbers xs′) (waitingBytes bs′)
+  pub waiting : ContextRoom (waitingNumbers xs′) (waitingBytes bs′)
 
 -- ---- the end of an accepted call
 

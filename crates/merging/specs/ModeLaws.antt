@@ -53,18 +53,18 @@ module _ {xs bs xs′ bs′ : List ℕ} (b : Beside xs bs xs′ bs′) (w : Wf x
 
   numbers-lists : part 0 643 (drop numbersInUse xs′) ≡ part 0 643 (drop numbersInUse xs)
   unfolding between
-  numbers-lists = lists-same 9376 5879 643 xs xs′ (omega arith) (b .middle)
+  numbers-lists = lists-same 9376 4133 643 xs xs′ (omega arith) (b .middle)
 
   bytes-lists : part 0 4096 (drop bytesInUse bs′) ≡ part 0 4096 (drop bytesInUse bs)
   unfolding betweenBytes
-  bytes-lists = lists-same 16384 16384 4096 bs bs′ (omega arith) (b .middle-bytes)
+  bytes-lists = lists-same 16384 12288 4096 bs bs′ (omega arith) (b .middle-bytes)
 
   room-same : RoomKept xs bs xs′ bs′
   unfolding between betweenBytes
   room-same =
       record {
-        numbers = within-same 9376 5879 643 1746 xs xs′ (omega arith) (b .middle);
-        bytes = within-same 16384 16384 4096 4096 bs bs′ (omega arith) (b .middle-bytes);
+        numbers = within-same 9376 4133 643 3490 xs xs′ (omega arith) (b .middle);
+        bytes = within-same 16384 12288 4096 8192 bs bs′ (omega arith) (b .middle-bytes);
       }
 
   pub beside-context : contextOf xs′ bs′ ≡ contextOf xs bs

@@ -18,17 +18,17 @@ use Rattle.merging.specs.declared.Flags.{Flags}
 
 -- where the long stretch begins, in which a group is worked
 abbrev pub longNumbers : ℕ
-longNumbers = 15255
+longNumbers = 13509
 
 abbrev pub longBytes : ℕ
-longBytes = 32768
+longBytes = 28672
 
 -- what stands between the spare stretches and the long one: the lists and the waiting parts
 unfoldable pub between : List ℕ → List ℕ
-between xs = part 9376 5879 xs
+between xs = part 9376 4133 xs
 
 unfoldable pub betweenBytes : List ℕ → List ℕ
-betweenBytes bs = part 16384 16384 bs
+betweenBytes bs = part 16384 12288 bs
 
 -- no group is refused, and no limit passed
 abbrev pub noFlags : Flags

@@ -86,8 +86,8 @@ module _ {xs bs xs′ bs′ : List ℕ} (w : Working xs bs xs′ bs′) where
       record {
         live = shorter-front liveNumbers longNumbers xs′ xs (omega arith) (w .front);
         live-bytes = shorter-front liveBytes longBytes bs′ bs (omega arith) (w .front-bytes);
-        middle = part-of-front 9376 5879 longNumbers xs′ xs (w .front) (omega arith);
-        middle-bytes = part-of-front 16384 16384 longBytes bs′ bs (w .front-bytes) (omega arith);
+        middle = part-of-front 9376 4133 longNumbers xs′ xs (w .front) (omega arith);
+        middle-bytes = part-of-front 16384 12288 longBytes bs′ bs (w .front-bytes) (omega arith);
         numbers-length = w .numbers-length;
         bytes-length = w .bytes-length;
       }
@@ -152,7 +152,7 @@ module _ (xs bs xs′ : List ℕ) (p : liveNumbers + numbersInUse ≤ length xs)
       record {
         live = b .live;
         live-bytes = refl;
-        middle = part-of-back 9376 5879 numbersInUse xs′ xs (b .behind) (omega arith);
+        middle = part-of-back 9376 4133 numbersInUse xs′ xs (b .behind) (omega arith);
         middle-bytes = refl;
         numbers-length = b .length-is;
         bytes-length = refl;
@@ -272,7 +272,7 @@ module _ (xs bs xs′ : List ℕ) (r : Ready xs bs) (s : Sealed slots xs xs′) 
       record {
         live = s .live;
         live-bytes = refl;
-        middle = part-of-back 9376 5879 numbersInUse xs′ xs (s .behind) (omega arith);
+        middle = part-of-back 9376 4133 numbersInUse xs′ xs (s .behind) (omega arith);
         middle-bytes = refl;
         numbers-length = s .length-is;
         bytes-length = refl;

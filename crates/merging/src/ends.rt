@@ -31,7 +31,7 @@ fn counts_fit(mode: Mode, older: Counts, newer: Counts) -> bool
 // Whether the lists of both areas may become one.
 pub fn lists_fit(mode: Mode, xs: &[u64], ys: &[u64]) -> bool
     requires { ⌜ Few (countsOf (now xs)) × Few (countsOf (now ys)) ⌝ }
-    requires { ⌜ (length (now xs) ≡ 18977) × (length (now ys) ≡ 18977) ⌝ }
+    requires { ⌜ (length (now xs) ≡ 17231) × (length (now ys) ≡ 17231) ⌝ }
     ensures { λ r. ⌜ r ≡ countsFit mode (countsOf (now (xs .entry))) (countsOf (now (ys .entry))) ⌝ }
 {
     let a = groups::NUMBERS;

@@ -25,10 +25,10 @@ fn merge_lists(ys: &mut [u64], cs: &mut [u8], its_ys: &[u64], its_cs: &[u8])
 
 // Makes the lists those of the index, with the cleaned numbers of both.
 fn join_lists(ys: &mut [u64], its_ys: &[u64])
-    requires { ⌜ (length (now ys) ≡ 9601) × (length (now «its_ys») ≡ 9601) ⌝ }
+    requires { ⌜ (length (now ys) ≡ 7855) × (length (now «its_ys») ≡ 7855) ⌝ }
     requires { ⌜ getD (now ys) 2 0 + getD (now «its_ys») 2 0 ≤ 64 ⌝ }
     ensures { λ _. ⌜ ((cs : List ℕ) → Wf (now (ys .entry)) cs → ListsBecome (joinedLists (now (ys .entry)) cs (now («its_ys» .entry))) (now (ys .entry)) cs (now (ys .exit)) cs) ⌝ }
-    ensures { λ _. ⌜ length (now (ys .exit)) ≡ 9601 ⌝ }
+    ensures { λ _. ⌜ length (now (ys .exit)) ≡ 7855 ⌝ }
 {
     lists::add_all_cleaned(ys, its_ys);
     lists::become_index(ys);
@@ -46,7 +46,7 @@ fn grow_merged(xs: &mut [u64], bs: &mut [u8], ys: &[u64], cs: &[u8])
 
 // The lists of an accepted join, and nothing waits.
 fn grow_joined(xs: &mut [u64], ys: &[u64])
-    requires { ⌜ (length (now xs) ≡ 18977) × (length (now ys) ≡ 18977) ⌝ }
+    requires { ⌜ (length (now xs) ≡ 17231) × (length (now ys) ≡ 17231) ⌝ }
     requires { ⌜ getD (drop 9376 (now xs)) 2 0 + getD (drop 9376 (now ys)) 2 0 ≤ 64 ⌝ }
     ensures { λ _. ⌜ ((bs cs : List ℕ) → Growable Mode.Join (now (xs .entry)) bs (now (ys .entry)) cs → RestBecomes (joinedRest (contextOf (now (ys .entry)) cs) (restAt (now (xs .entry)) bs)) (now (xs .entry)) bs (now (xs .exit)) bs) ⌝ }
 {

@@ -40,9 +40,9 @@ fn find_staged(xs: &[u64], group: u64) -> Slot
 fn put_at(xs: &mut [u64], bs: &mut [u8], k: usize, group: u64, flags: Flags) -> Flags
     requires { ⌜ Ready (now xs) (now bs) ⌝ }
     requires { ⌜ Found group (drop 4688 (now xs)) (Slot.Free k) ⌝ }
-    requires { ⌜ (length (now xs) ≡ 18977) × (length (now bs) ≡ 43008) ⌝ }
-    requires { ⌜ Wf (drop 15255 (now xs)) (drop 32768 (now bs)) × (isUsed (drop 15255 (now xs)) ≡ true) ⌝ }
-    ensures { λ r. ⌜ ((at : ℕ → Result (Option Table)) → at group ≡ ok (workIn (drop 15255 (now (xs .entry))) (drop 32768 (now (bs .entry)))) → Staging at (group ∷ []) flags (now (xs .entry)) (now (bs .entry)) r (now (xs .exit)) (now (bs .exit))) ⌝ }
+    requires { ⌜ (length (now xs) ≡ 17231) × (length (now bs) ≡ 38912) ⌝ }
+    requires { ⌜ Wf (drop 13509 (now xs)) (drop 28672 (now bs)) × (isUsed (drop 13509 (now xs)) ≡ true) ⌝ }
+    ensures { λ r. ⌜ ((at : ℕ → Result (Option Table)) → at group ≡ ok (workIn (drop 13509 (now (xs .entry))) (drop 28672 (now (bs .entry)))) → Staging at (group ∷ []) flags (now (xs .entry)) (now (bs .entry)) r (now (xs .exit)) (now (bs .exit))) ⌝ }
 {
     let a = WORK_AT;
     if !worktable::fits(&xs[a..]) {
@@ -66,9 +66,9 @@ fn settle_free(
 ) -> Flags
     requires { ⌜ Ready (now xs) (now bs) ⌝ }
     requires { ⌜ Found group (drop 4688 (now xs)) (Slot.Free k) ⌝ }
-    requires { ⌜ (length (now xs) ≡ 18977) × (length (now bs) ≡ 43008) ⌝ }
-    requires { ⌜ Wf (drop 15255 (now xs)) (drop 32768 (now bs)) ⌝ }
-    ensures { λ r. ⌜ ((at : ℕ → Result (Option Table)) → Ends (at group) outcome (drop 15255 (now (xs .entry))) (drop 32768 (now (bs .entry))) → Staging at (group ∷ []) flags (now (xs .entry)) (now (bs .entry)) r (now (xs .exit)) (now (bs .exit))) ⌝ }
+    requires { ⌜ (length (now xs) ≡ 17231) × (length (now bs) ≡ 38912) ⌝ }
+    requires { ⌜ Wf (drop 13509 (now xs)) (drop 28672 (now bs)) ⌝ }
+    ensures { λ r. ⌜ ((at : ℕ → Result (Option Table)) → Ends (at group) outcome (drop 13509 (now (xs .entry))) (drop 28672 (now (bs .entry))) → Staging at (group ∷ []) flags (now (xs .entry)) (now (bs .entry)) r (now (xs .exit)) (now (bs .exit))) ⌝ }
 {
     let Outcome::Done = outcome else {
         return Flags {
@@ -86,8 +86,8 @@ fn settle_free(
 // The same where no spare stretch is free: a table is a ninth group.
 fn settle_full(xs: &[u64], group: u64, outcome: Outcome, flags: Flags) -> Flags
     requires { ⌜ Found group (drop 4688 (now xs)) Slot.Full ⌝ }
-    requires { ⌜ length (now xs) ≡ 18977 ⌝ }
-    ensures { λ r. ⌜ ((bs : List ℕ) (at : ℕ → Result (Option Table)) → Ready (now (xs .entry)) bs → Ends (at group) outcome (drop 15255 (now (xs .entry))) (drop 32768 bs) → Staging at (group ∷ []) flags (now (xs .entry)) bs r (now (xs .entry)) bs) ⌝ }
+    requires { ⌜ length (now xs) ≡ 17231 ⌝ }
+    ensures { λ r. ⌜ ((bs : List ℕ) (at : ℕ → Result (Option Table)) → Ready (now (xs .entry)) bs → Ends (at group) outcome (drop 13509 (now (xs .entry))) (drop 28672 bs) → Staging at (group ∷ []) flags (now (xs .entry)) bs r (now (xs .entry)) bs) ⌝ }
 {
     let Outcome::Done = outcome else {
         return Flags {

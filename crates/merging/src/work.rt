@@ -28,8 +28,8 @@ use worktable::WORK_BYTES_AT;
 
 // Makes the work table absent.
 fn clear_long(xs: &mut [u64])
-    requires { ⌜ length (now xs) ≡ 18977 ⌝ }
-    ensures { λ _. ⌜ ((bs : _) → length bs ≡ 43008 → Loaded none (now (xs .entry)) bs (now (xs .exit)) bs) ⌝ }
+    requires { ⌜ length (now xs) ≡ 17231 ⌝ }
+    ensures { λ _. ⌜ ((bs : _) → length bs ≡ 38912 → Loaded none (now (xs .entry)) bs (now (xs .exit)) bs) ⌝ }
 {
     let a = WORK_AT;
     worktable::clear(&mut xs[a..]);

@@ -31,7 +31,7 @@ use Rattle.queries.specs.Cleaned.{CleanedTaken, emptiedBy, HandedOut}
 
 -- ---- the lists behind the groups
 
-module _ (ys lent : List ℕ) (l : length ys ≡ 9601) (m : getD ys 2 0 ≤ 64) where
+module _ (ys lent : List ℕ) (l : length ys ≡ 7855) (m : getD ys 2 0 ≤ 64) where
   length-cleaned : length (cleanedIn ys) ≡ getD ys 2 0
   unfolding cleanedIn
   length-cleaned = length-part 3 (getD ys 2 0) ys (omega arith)

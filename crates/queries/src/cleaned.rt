@@ -9,7 +9,7 @@ use lists::Kind;
 
 // Hands the cleaned numbers of the lists behind the groups out, and empties them, if the lent list has room for them.
 fn hand_out(ys: &mut [u64], list: &mut [u64]) -> Taken
-    requires { ⌜ (length (now ys) ≡ 9601) × (getD (now ys) 2 0 ≤ 64) ⌝ }
+    requires { ⌜ (length (now ys) ≡ 7855) × (getD (now ys) 2 0 ≤ 64) ⌝ }
     ensures { λ r. ⌜ HandedOut (now (ys .entry)) (now (list .entry)) r (now (ys .exit)) (now (list .exit)) ⌝ }
 {
     let counts = lists::counts_in(ys);

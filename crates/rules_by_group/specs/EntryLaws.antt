@@ -8,7 +8,7 @@ use Prim.Native.Nat.{ℕ}
 use lib.Dec.{leb, ltb, eqb}
 use Rattle.maps.specs.Lists.{every, last, orElse}
 use Rattle.maps.specs.Maps.{lookup, bytes}
-use Rattle.maps.specs.BoolLaws.{both, both-right}
+use Rattle.maps.specs.BoolLaws.{both, both-left, both-right}
 use Rattle.maps.specs.ListLaws.{every-append, every-head, every-tail, every-cons, every-from, every-selected}
 use Rattle.maps.specs.OrderLaws.{split}
 use Rattle.rules.specs.Causes.{ok, left}
@@ -18,7 +18,7 @@ use Rattle.rules.specs.Context.{context, Part}
 use Rattle.rules.specs.Waiting.{Accepted, wait, finish, back, accept}
 use Rattle.rules.specs.Calls.{clashes, overOf, mergeTable}
 use Rattle.rules_by_group.specs.Group.{changed, effect, effected, tombed, partsOf, Finished, finishedBy, finishedOf, replayedItems, finishWith, finishTable, layOver, mergedGroup}
-use Rattle.rules_by_group.specs.Kept.{entryBy, eachEntry, isOwn, ownItems, ownParts}
+use Rattle.rules_by_group.specs.Kept.{entryBy, eachEntry, isPassed, isOwn, ownItems, ownParts}
 use Rattle.rules_by_group.specs.ResultLaws.{ok-inj, refused-not-ok, byOption, andThen-ok}
 use Rattle.rules_by_group.specs.PartLaws.{own-items-append, OwnAccepted, own-old, accept-own}
 use Rattle.rules_by_group.specs.WaitingLaws.{replay-changed}
@@ -243,7 +243,16 @@ module _ (p : EntryIndex → Bool) where
 pub own-each : (g : ℕ) (items : List LogItem) → ownItems g items ≡ true → every (λ (it : LogItem). eachEntry (entryBy (context Rewrite)) (it .content)) items ≡ true
 unfolding ownItems
 own-each g items h =
-    every-from (isOwn g) (λ (it : LogItem). eachEntry (entryBy (context Rewrite)) (it .content)) items (λ it k. unfold isOwn in both-right (eqb (it .group) g) (eachEntry (entryBy (context Rewrite)) (it .content)) k) h
+    every-from (isOwn g) (λ (it : LogItem). eachEntry (entryBy (context Rewrite)) (it .content)) items (λ it k.
+    unfold isOwn in
+    both-right (eqb (it .group) g) (eachEntry (entryBy (context Rewrite)) (it .content))
+    (both-left (eqb (it .group) g && eachEntry (entryBy (context Rewrite)) (it .content)) (isPassed it) k)) h
+
+-- and have passed the checks
+pub own-passed : (g : ℕ) (items : List LogItem) → ownItems g items ≡ true → every isPassed items ≡ true
+unfolding ownItems
+own-passed g items h =
+    every-from (isOwn g) isPassed items (λ it k. unfold isOwn in both-right (eqb (it .group) g && eachEntry (entryBy (context Rewrite)) (it .content)) (isPassed it) k) h
 
 every-last : {A : Type 0} (p : A → Bool) (xs : List A) (x : A) → every p xs ≡ true → last xs ≡ some x → p x ≡ true
 unfolding last

@@ -1,5 +1,5 @@
 -- What every context keeps through every call, and the merge and the join rest on.
-use mathlib.Core.Bool.{Bool, true, false, _&&_}
+use mathlib.Core.Bool.{Bool, true, false, not, _&&_}
 use mathlib.Core.List.{List, [], _∷_}
 use mathlib.Core.Path.{_≡_}
 use Prim.Native.Nat.{ℕ}
@@ -7,7 +7,8 @@ use lib.Dec.{eqb}
 use Rattle.maps.specs.Lists.{every}
 use Rattle.maps.specs.Maps.{Pair, numbers}
 use Rattle.maps.specs.MapLaws.{Ascending}
-use Rattle.rules.specs.Items.{Append, Rewrite, EntryIndex, sameQueue, fileOf, Content, entries, command, kv, LogItem, Status, begin, middle, end, isTombstone}
+use Rattle.rules.specs.Items.{Append, Rewrite, EntryIndex, sameQueue, fileOf, Content, entries, command, kv, LogItem, Status, begin, middle, end, isTombstone, replayRewrite}
+use Rattle.rules.specs.Checks.{long, isOutOfRange, isOtherQueue, meets3, unlessReserved}
 use Rattle.rules.specs.Table.{Table}
 use Rattle.rules.specs.Context.{Kind, context, index, Part, Context}
 use Rattle.rules_by_group.specs.Group.{cleansOf}
@@ -44,9 +45,17 @@ eachEntry p (entries es) = every p es
 eachEntry p (command c) = true
 eachEntry p (kv k c) = true
 
--- the items of a group's parts are the group's own, with entries of the Rewrite queue
+-- an item that meets none of 2 to 5 in a Rewrite replay, where none meets 6
+unfoldable pub isPassed : LogItem → Bool
+isPassed it =
+    not (long (it .content))
+    && not (meets3 replayRewrite (it .content))
+    && not (unlessReserved isOutOfRange 0 it)
+    && not (unlessReserved (isOtherQueue replayRewrite) 0 it)
+
+-- the items of a group's parts are the group's own, with entries of the Rewrite queue, and have passed the checks
 unfoldable pub isOwn : ℕ → LogItem → Bool
-isOwn g it = eqb (it .group) g && eachEntry (entryBy (context Rewrite)) (it .content)
+isOwn g it = eqb (it .group) g && eachEntry (entryBy (context Rewrite)) (it .content) && isPassed it
 
 unfoldable pub ownItems : ℕ → List LogItem → Bool
 ownItems g items = every (isOwn g) items

@@ -1,7 +1,7 @@
 -- Batches keep what every context keeps: items in order, and marked batches.
 -- Assumes nothing.
 use mathlib.Core.Path.{_≡_, refl, sym, ap, _∙_}
-use mathlib.Core.Bool.{Bool, true, false, not, _&&_, true≢false}
+use mathlib.Core.Bool.{Bool, true, false, not, _&&_, _||_, true≢false}
 use mathlib.Core.List.{List, [], _∷_, _++_, append-assoc, append-nil}
 use mathlib.Core.Option.{Option, none, some, Option·some-ne-none}
 use Prim.Native.Nat.{ℕ, suc}
@@ -13,14 +13,15 @@ use Rattle.maps.specs.BoolLaws.{both, both-left, both-right, neither-left, neit
 use Rattle.maps.specs.ListLaws.{every-append, every-and, every-from, every-map, every-selected, every-head, every-tail, every-cons}
 use Rattle.maps.specs.OrderLaws.{split, numbersLawful}
 use Rattle.maps.specs.MapLaws.{Ascending, ascending-store, ascending-insert, every-insert, every-store}
+use Rattle.rules.specs.Limits.{maxItems}
 use Rattle.rules.specs.Causes.{Cause, Refusal, ok}
 use Rattle.rules.specs.Items.{LogQueue, Append, Rewrite, EntryIndex, sameQueue, hasFile, fileOf, Content, entries, command, kv, LogItem, Placed, placedAt, placedFrom, isReserved, isClean, isTombstone, isMark, Call, replayAppend, replayRewrite, liveAppend, liveRewrite, writes}
-use Rattle.rules.specs.Checks.{consecutive, isIncomplete, isOtherQueue, Mark, firstMark, breaksMark, isRewriteReplay, meets3, meets7, orNext, unlessReserved, checks}
+use Rattle.rules.specs.Checks.{long, consecutive, isIncomplete, isOutOfRange, isOtherQueue, Mark, firstMark, breaksMark, isRewriteReplay, meets3, meets7, orNext, unlessReserved, checks}
 use Rattle.rules.specs.Table.{Span, Table, made, spanned}
 use Rattle.rules.specs.Context.{Kind, context, index, Part, Context, withGroups, withWaiting, limited, keeps, step, run}
 use Rattle.rules.specs.Waiting.{Accepted, wait, finish, back, accept, someParts, setWaiting, setSpan, finishGroup, become, acceptNewGroup, partOf, replayMarked}
 use Rattle.rules_by_group.specs.Group.{tombOf, cleanOf, cleansOf, partsOf, waits}
-use Rattle.rules_by_group.specs.Kept.{shaped, entryBy, eachEntry, isOwn, ownItems, ownParts, allTombstones, KeptBy, Kept}
+use Rattle.rules_by_group.specs.Kept.{shaped, entryBy, eachEntry, isPassed, isOwn, ownItems, ownParts, allTombstones, KeptBy, Kept}
 use Rattle.rules_by_group.specs.ResultLaws.{ok-inj, refused-not-ok, andThen-ok, inOrder-kept}
 use Rattle.rules_by_group.specs.KindLaws.{kept-at, kept-by, rewrite-cleaned, own-made}
 use Rattle.rules_by_group.specs.ItemLaws.{cleanedBy, keptBy, after, limited-ok, step-taken}
@@ -235,19 +236,21 @@ next-none n (some i) next e = absurd (Option·some-ne-none _ e)
 
 -- what the checks found none of
 pub record Passed (call : Call) (items : List LogItem) : Type 0 where
+  pub no-2 : findFrom (λ i it. eqb i maxItems || long (it .content)) 0 items ≡ none
   pub no-3 : findFrom (λ i it. meets3 call (it .content)) 0 items ≡ none
+  pub no-4 : findFrom (unlessReserved isOutOfRange) 0 items ≡ none
   pub no-5 : findFrom (unlessReserved (isOtherQueue call)) 0 items ≡ none
   pub no-7 : findFrom (meets7 call (firstMark 0 items)) 0 items ≡ none
 
 passed : (call : Call) (items : List LogItem) → checks call items ≡ none → Passed call items
 unfolding checks
 passed call items e =
-    let a = next-none _ _ _ e .1 in
-    let b = next-none _ _ _ a in
-    let c = next-none _ _ _ (b .1) .1 in
-    let d = next-none _ _ _ c in
+    let a = next-none _ _ _ e in
+    let b = next-none _ _ _ (a .1) in
+    let c = next-none _ _ _ (b .1) in
+    let d = next-none _ _ _ (c .1) in
     let f = next-none _ _ _ (d .1) .1 in
-    record { no-3 = b .0; no-5 = d .0; no-7 = next-none _ _ _ f .0 }
+    record { no-2 = a .0; no-3 = b .0; no-4 = c .0; no-5 = d .0; no-7 = next-none _ _ _ f .0 }
 
 -- entries that have a file, and none of another queue
 pub queue-files : (q : LogQueue) (es : List EntryIndex) → any (λ e. not (hasFile (e .entries))) es ≡ false → any (λ e. hasFile (e .entries) && not (sameQueue (fileOf e .queue) q)) es ≡ false → every (λ e. sameQueue (fileOf e .queue) q) es ≡ true
@@ -276,13 +279,26 @@ batch-queue call items e =
     (λ it h. queue-content call (it .content) (not-true (meets3 call (it .content)) (both-left (not (meets3 call (it .content))) (not (unlessReserved (isOtherQueue call) 0 it)) h)) (unfold unlessReserved in not-true (not (isReserved (it .content)) && isOtherQueue call (it .content)) (both-right (not (meets3 call (it .content))) (not (unlessReserved (isOtherQueue call) 0 it)) h)))
     (every-and (λ (it : LogItem). not (meets3 call (it .content))) (λ (it : LogItem). not (unlessReserved (isOtherQueue call) 0 it)) items three five)
 
+-- each item of a batch that passed the checks meets none of 2 to 5
+batch-passed : (items : List LogItem) → checks replayRewrite items ≡ none → every isPassed items ≡ true
+unfolding isPassed
+batch-passed items e =
+    let p = passed replayRewrite items e in
+    let two = found-none (λ i it. eqb i maxItems || long (it .content)) (λ (it : LogItem). not (long (it .content))) (λ i it h. rw (neither-right (eqb i maxItems) (long (it .content)) h)) 0 items (p .no-2) in
+    let three = found-none (λ i it. meets3 replayRewrite (it .content)) (λ (it : LogItem). not (meets3 replayRewrite (it .content))) (λ i it h. rw h) 0 items (p .no-3) in
+    let four = found-none (unlessReserved isOutOfRange) (λ (it : LogItem). not (unlessReserved isOutOfRange 0 it)) (λ i it h. unfold unlessReserved in rw h) 0 items (p .no-4) in
+    let five = found-none (unlessReserved (isOtherQueue replayRewrite)) (λ (it : LogItem). not (unlessReserved (isOtherQueue replayRewrite) 0 it)) (λ i it h. unfold unlessReserved in rw h) 0 items (p .no-5) in
+    every-and _ _ items (every-and _ _ items (every-and _ _ items two three) four) five
+
 -- in a marked batch they are of the mark's group
 batch-own : (items : List LogItem) (m : Mark) → checks replayRewrite items ≡ none → firstMark 0 items ≡ some m → ownItems (m .group) items ≡ true
 unfolding ownItems isOwn
 batch-own items m e f =
-    every-and (λ (it : LogItem). eqb (it .group) (m .group)) (λ (it : LogItem). eachEntry (entryBy (context Rewrite)) (it .content)) items
+    every-and (λ (it : LogItem). eqb (it .group) (m .group) && eachEntry (entryBy (context Rewrite)) (it .content)) isPassed items
+    (every-and (λ (it : LogItem). eqb (it .group) (m .group)) (λ (it : LogItem). eachEntry (entryBy (context Rewrite)) (it .content)) items
     (found-none (meets7 replayRewrite (some m)) (λ (it : LogItem). eqb (it .group) (m .group)) (mark-own m) 0 items (ap (λ o. findFrom (meets7 replayRewrite o) 0 items) (sym f) ∙ passed replayRewrite items e .no-7))
-    (unfold writes in batch-queue replayRewrite items e)
+    (unfold writes in batch-queue replayRewrite items e))
+    (batch-passed items e)
 
 pub every-placed : (p : LogItem → Bool) (i : ℕ) (xs : List LogItem) → every p xs ≡ true → every (λ (x : Placed). p (x .item)) (placedFrom i xs) ≡ true
 unfolding placedFrom

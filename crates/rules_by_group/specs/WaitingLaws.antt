@@ -1,7 +1,7 @@
 -- Newer waiting parts accepted: what waits afterwards depends on the parts alone, and what finishes is done to its own group.
 -- Assumes nothing.
 use mathlib.Core.Path.{_≡_, refl, sym, ap, _∙_}
-use mathlib.Core.Bool.{Bool, true, false≢true}
+use mathlib.Core.Bool.{Bool, true, false≢true, _&&_}
 use mathlib.Core.List.{List, [], _∷_, _++_, reverse, append-assoc, append-nil}
 use mathlib.Core.Option.{Option, none, some}
 use Prim.Native.Nat.{ℕ}
@@ -20,7 +20,7 @@ use Rattle.rules.specs.Context.{context, Part, Context, withGroups, withWaiting
 use Rattle.rules.specs.Waiting.{Accepted, wait, finish, back, accept, someParts, setWaiting, setSpan, finishGroup, become, acceptNewGroup, acceptParts, acceptAll}
 use Rattle.rules_by_group.specs.Group.{changed, tombOf, partsOf, waits, acceptPart, Finished, finishedBy, finishedOf, replayedItems, finishWith, finishTable}
 use Rattle.rules_by_group.specs.Stage.{acceptPartsOf, waitingAfter, tombsIn, finishedTombs}
-use Rattle.rules_by_group.specs.Kept.{isBegin, isEnd, behind, shaped, entryBy, eachEntry, isOwn, ownItems, ownParts}
+use Rattle.rules_by_group.specs.Kept.{isBegin, isEnd, behind, shaped, entryBy, eachEntry, isPassed, isOwn, ownItems, ownParts}
 use Rattle.rules_by_group.specs.ResultLaws.{byResult, one-refusal, refusalOf, ok-inj, refused-not-ok, inOrder-kept, inOrder-refused, andThen-ok, andThen-of, andThen-refused, andThen-same, andThen-unit, andThen-assoc, andThen-map}
 use Rattle.rules_by_group.specs.DeedLaws.{doDeed, doAll, deedsOf, deed-ok, deed-refused, own, own-map, ByGroup, byGroup-ext, deeds-by-group}
 use Rattle.rules_by_group.specs.ItemLaws.{cleanedBy, keptBy, after, step-of}
@@ -98,7 +98,9 @@ module _ (x : LogItem) (xs : List LogItem) (c : Context) (asc : Ascending number
 
 own-group : (g : ℕ) (x : LogItem) → isOwn g x ≡ true → eqb (x .group) g ≡ true
 unfolding isOwn
-own-group g x h = both-left (eqb (x .group) g) (eachEntry (entryBy (context Rewrite)) (x .content)) h
+own-group g x h =
+    both-left (eqb (x .group) g) (eachEntry (entryBy (context Rewrite)) (x .content))
+    (both-left (eqb (x .group) g && eachEntry (entryBy (context Rewrite)) (x .content)) (isPassed x) h)
 
 own-first : (g : ℕ) (x : LogItem) (xs : List LogItem) → ownItems g (x ∷ xs) ≡ true → x .group ≡ g
 unfolding ownItems

@@ -1,12 +1,13 @@
 -- A room of n cells in numbers ws and bytes vs: two counts, n cells, 8 n tags, 8 n rows of items and 16 n rows of entries; and 64 bytes
--- for each item. A context has a room of 8 cells, a merge a second one of 16.
+-- for each item.
+use mathlib.Core.Bool.{true}
 use mathlib.Core.List.{List, []}
 use mathlib.Core.Path.{_≡_}
 use Prim.Native.Nat.{ℕ, _+_, _*_}
 use lib.ListN.{length, getD}
 use Rattle.cells.specs.Part.{part}
 use Rattle.maps.specs.Maps.{Map}
-use Rattle.rules.specs.Context.{Part}
+use Rattle.rules.specs.Context.{Part, waitingFits}
 use Rattle.stores.specs.declared.Store.{Store}
 use Rattle.waiting.specs.Rooms.{Room, room, waitingIn, Wf}
 
@@ -29,9 +30,9 @@ roomOf n ws vs =
     (part (2 + n * 90) (n * 128) ws)
     (part 0 (n * 512) vs)
 
--- the waiting parts of a context: 8 cells, 1,746 numbers and 4,096 bytes
+-- the waiting parts of a context: 16 cells, 3,490 numbers and 8,192 bytes; a merge may have twice what the limits allow on the way
 abbrev pub contextCells : ℕ
-contextCells = 8
+contextCells = 16
 
 unfoldable pub waitingOf : List ℕ → List ℕ → Map ℕ (List Part)
 waitingOf ws vs = waitingIn (storeOf ws) (roomOf contextCells ws vs)
@@ -41,6 +42,11 @@ pub record RoomWf (n : ℕ) (ws vs : List ℕ) : Type 0 where
   pub numbers-are : length ws ≡ numbersOf n
   pub bytes-are : length vs ≡ bytesOf n
   pub wf : Wf (storeOf ws) (roomOf n ws vs)
+
+-- the room of a context between calls: what waits passes no limit
+pub record ContextRoom (ws vs : List ℕ) : Type 0 where
+  pub room : RoomWf contextCells ws vs
+  pub fits : waitingFits (waitingOf ws vs) ≡ true
 
 -- nothing waits
 pub record Empty (n : ℕ) (ws vs : List ℕ) : Type 0 where

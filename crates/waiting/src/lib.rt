@@ -13,13 +13,13 @@ pub use heads::take_part;
 use log_batch::item::LogItem;
 pub use rooms::clear;
 
-// How many cells the room of a context has: 01's 8 groups.
-pub const CELLS: usize = 8;
+// How many cells the room of a context has: 01's 8 groups twice, since a merge may have the parts of both contexts on the way.
+pub const CELLS: usize = 16;
 
 // The numbers and the bytes of that room.
-pub const NUMBERS: usize = 1746;
+pub const NUMBERS: usize = 3490;
 
-pub const BYTES: usize = 4096;
+pub const BYTES: usize = 8192;
 
 // The numbers of a cell.
 pub const HEAD_WIDTH: usize = 10;

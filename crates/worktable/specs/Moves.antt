@@ -15,16 +15,16 @@ use Rattle.worktable.specs.Work.{longNumbers, longBytes, workIn, Wf, Sta
 
 -- where its numbers and its bytes begin, and where the area ends
 abbrev pub workAt : ℕ
-workAt = 15255
+workAt = 13509
 
 abbrev pub workBytesAt : ℕ
-workBytesAt = 32768
+workBytesAt = 28672
 
 abbrev pub areaNumbers : ℕ
-areaNumbers = 18977
+areaNumbers = 17231
 
 abbrev pub areaBytes : ℕ
-areaBytes = 43008
+areaBytes = 38912
 
 unfoldable pub longIn : List ℕ → List ℕ
 longIn xs = part workAt longNumbers xs

@@ -21,9 +21,9 @@ pub const NUMBERS: usize = 3722;
 pub const BYTES: usize = 10240;
 
 // Where it stands in an area.
-pub const WORK_AT: usize = 15255;
+pub const WORK_AT: usize = 13509;
 
-pub const WORK_BYTES_AT: usize = 32768;
+pub const WORK_BYTES_AT: usize = 28672;
 
 // How a newer table is laid over: by the merge of two Append or of two Rewrite contexts, or by the join.
 pub enum Mode {

@@ -18,7 +18,7 @@ use stretch::STRETCH;
 
 // Copies stretch k, which is used, to the long stretch.
 pub fn load(xs: &mut [u64], bs: &mut [u8], k: usize)
-    requires { ⌜ (k < 8) × (18977 ≤ length (now xs)) × (43008 ≤ length (now bs)) ⌝ }
+    requires { ⌜ (k < 8) × (17231 ≤ length (now xs)) × (38912 ≤ length (now bs)) ⌝ }
     requires { ⌜ held.Wf (stretchAt k (now xs)) (bytesAt k (now bs)) × (isUsed (stretchAt k (now xs)) ≡ true) ⌝ }
     ensures { λ _. ⌜ Loaded k (now (xs .entry)) (now (bs .entry)) (now (xs .exit)) (now (bs .exit)) ⌝ }
 {
@@ -32,7 +32,7 @@ pub fn load(xs: &mut [u64], bs: &mut [u8], k: usize)
 
 // Copies the work table, which fits, to spare stretch k, as that of a group.
 pub fn unload(xs: &mut [u64], bs: &mut [u8], k: usize, group: u64)
-    requires { ⌜ (k < 8) × (18977 ≤ length (now xs)) × (43008 ≤ length (now bs)) ⌝ }
+    requires { ⌜ (k < 8) × (17231 ≤ length (now xs)) × (38912 ≤ length (now bs)) ⌝ }
     requires { ⌜ Fitting (now xs) (now bs) ⌝ }
     ensures { λ _. ⌜ Unloaded k group (now (xs .entry)) (now (bs .entry)) (now (xs .exit)) (now (bs .exit)) ⌝ }
 {

@@ -32,14 +32,14 @@ returns c =
     let fits2 = c .before .fits2 in
     let start = c .before .before .before .before .before .before in
     let if1 = c .if1 in
-    λ at e. put-large at _ _ _ _ (start .pre .0) _ (start .pre .1 .0) (start .pre .1 .1 .1 .1) e (sym (rw (part-to-end (start .args .xs .now) 15255) at (fits2 .ensures (drop 32768 (start .args .bs .now)) (rw (part-to-end (start .args .xs .now) 15255) (start .pre .1 .1 .1 .1)))) ∙ not-true (fits2 .result) (if1 .taken))
+    λ at e. put-large at _ _ _ _ (start .pre .0) _ (start .pre .1 .0) (start .pre .1 .1 .1 .1) e (sym (rw (part-to-end (start .args .xs .now) 13509) at (fits2 .ensures (drop 28672 (start .args .bs .now)) (rw (part-to-end (start .args .xs .now) 13509) (start .pre .1 .1 .1 .1)))) ∙ not-true (fits2 .result) (if1 .taken))
 
 unload-requires : tie.Need-unload-requires
 unload-requires c κs =
     let fits2 = c .before .before .before .fits2 in
     let start = c .before .before .before .before .before .before .before .before in
     let if1 = c .before .before .if1 in
-    let f = start .pre .1 .0 in ((found-inside _ _ _ f, omega (arith, start .pre .1 .1 .0 .0), omega (arith, start .pre .1 .1 .0 .1)), work-fitting _ _ (start .pre .1 .1 .0 .0) (start .pre .1 .1 .0 .1) (start .pre .1 .1 .1 .0) (start .pre .1 .1 .1 .1) (sym (rw (part-to-end (start .args .xs .now) 15255) at (fits2 .ensures (drop 32768 (start .args .bs .now)) (rw (part-to-end (start .args .xs .now) 15255) (start .pre .1 .1 .1 .1)))) ∙ not-false (fits2 .result) (if1 .left)))
+    let f = start .pre .1 .0 in ((found-inside _ _ _ f, omega (arith, start .pre .1 .1 .0 .0), omega (arith, start .pre .1 .1 .0 .1)), work-fitting _ _ (start .pre .1 .1 .0 .0) (start .pre .1 .1 .0 .1) (start .pre .1 .1 .1 .0) (start .pre .1 .1 .1 .1) (sym (rw (part-to-end (start .args .xs .now) 13509) at (fits2 .ensures (drop 28672 (start .args .bs .now)) (rw (part-to-end (start .args .xs .now) 13509) (start .pre .1 .1 .1 .1)))) ∙ not-false (fits2 .result) (if1 .left)))
 
 same-length-2 : tie.Need-same-length-2
 same-length-2 c = search needs
@@ -53,7 +53,7 @@ returns-2 c =
     let start = c .before .before .before .before .before .before .before .before .before .before .before .before .before in
     let if1 = c .before .before .before .before .before .before .before .if1 in
     let unload = c .before .before .before .before .unload in
-    λ at e. put-fits at _ _ _ _ (start .pre .0) _ (start .pre .1 .0) (start .pre .1 .1 .1 .1) e (sym (rw (part-to-end (start .args .xs .now) 15255) at (fits2 .ensures (drop 32768 (start .args .bs .now)) (rw (part-to-end (start .args .xs .now) 15255) (start .pre .1 .1 .1 .1)))) ∙ not-false (fits2 .result) (if1 .left)) (start .pre .1 .1 .0 .0) (start .pre .1 .1 .0 .1) _ _ (unload .ensures)
+    λ at e. put-fits at _ _ _ _ (start .pre .0) _ (start .pre .1 .0) (start .pre .1 .1 .1 .1) e (sym (rw (part-to-end (start .args .xs .now) 13509) at (fits2 .ensures (drop 28672 (start .args .bs .now)) (rw (part-to-end (start .args .xs .now) 13509) (start .pre .1 .1 .1 .1)))) ∙ not-false (fits2 .result) (if1 .left)) (start .pre .1 .1 .0 .0) (start .pre .1 .1 .0 .1) _ _ (unload .ensures)
 
 pub put-at-spec : {M : Type 1} → statement M
 put-at-spec =

@@ -27,7 +27,7 @@ returns : tie.Need-returns
 returns c =
     let start = c .before .before .before .before .before in
     let clear = c .before .before .clear in
-    λ bs m. cleared-loaded (start .args .xs .now) _ (start .pre) (clear .ensures (drop 32768 bs) (long-bytes-length bs m) .wf .numbers-are) bs m (clear .ensures)
+    λ bs m. cleared-loaded (start .args .xs .now) _ (start .pre) (clear .ensures (drop 28672 bs) (long-bytes-length bs m) .wf .numbers-are) bs m (clear .ensures)
 
 pub clear-long-spec : {M : Type 1} → statement M
 clear-long-spec =

@@ -48,7 +48,7 @@ work-loaded-requires : tie.Need-work-loaded-requires
 work-loaded-requires c κs =
     let start = c .before .before .before .before .before .before .before .before .before .before .before .before .before in
     let load-older = c .before .before .before .before .before .before .load-older in
-    rw (part-to-end (load-older .last .0) 15255, part-to-end (load-older .last .1 .0) 32768) (load-older .ensures .becomes .wf, (loaded-room _ _ _ _ (start .args .ys .now) (start .args .cs .now) (start .pre) _ _ (load-older .ensures), (loaded-for _ _ _ _ _ _ (start .pre) _ _ (load-older .ensures), (start .pre .newer-wf, start .pre .newer-kind))))
+    rw (part-to-end (load-older .last .0) 13509, part-to-end (load-older .last .1 .0) 28672) (load-older .ensures .becomes .wf, (loaded-room _ _ _ _ (start .args .ys .now) (start .args .cs .now) (start .pre) _ _ (load-older .ensures), (loaded-for _ _ _ _ _ _ (start .pre) _ _ (load-older .ensures), (start .pre .newer-wf, start .pre .newer-kind))))
 
 same-length : tie.Need-same-length
 same-length c = search needs
@@ -58,14 +58,14 @@ same-length-2 c =
     let start = c .before .before .before .before .before .before .before .before .before .before .before .before .before .before .before .before .before .before in
     let load-older = c .before .before .before .before .before .before .before .before .before .before .before .load-older in
     let work-loaded = c .before .before .before .before .work-loaded in
-    (group-worked _ _ _ _ _ _ (start .pre) _ _ (load-older .ensures) _ _ _ (load-older .ensures .working .numbers-length ∙ area-length _ _ (formed-of _ _ (start .pre .wf))) (load-older .ensures .working .bytes-length ∙ area-bytes _ _ (formed-of _ _ (start .pre .wf))) (rw (part-to-end (load-older .last .0) 15255, part-to-end (load-older .last .1 .0) 32768) at (work-loaded .ensures))) .working .bytes-length
+    (group-worked _ _ _ _ _ _ (start .pre) _ _ (load-older .ensures) _ _ _ (load-older .ensures .working .numbers-length ∙ area-length _ _ (formed-of _ _ (start .pre .wf))) (load-older .ensures .working .bytes-length ∙ area-bytes _ _ (formed-of _ _ (start .pre .wf))) (rw (part-to-end (load-older .last .0) 13509, part-to-end (load-older .last .1 .0) 28672) at (work-loaded .ensures))) .working .bytes-length
 
 returns : tie.Need-returns
 returns c =
     let start = c .before .before .before .before .before .before .before .before .before .before .before .before .before .before .before .before .before .before in
     let load-older = c .before .before .before .before .before .before .before .before .before .before .before .load-older in
     let work-loaded = c .before .before .before .before .work-loaded in
-    group-worked _ _ _ _ _ _ (start .pre) _ _ (load-older .ensures) _ _ _ (load-older .ensures .working .numbers-length ∙ area-length _ _ (formed-of _ _ (start .pre .wf))) (load-older .ensures .working .bytes-length ∙ area-bytes _ _ (formed-of _ _ (start .pre .wf))) (rw (part-to-end (load-older .last .0) 15255, part-to-end (load-older .last .1 .0) 32768) at (work-loaded .ensures))
+    group-worked _ _ _ _ _ _ (start .pre) _ _ (load-older .ensures) _ _ _ (load-older .ensures .working .numbers-length ∙ area-length _ _ (formed-of _ _ (start .pre .wf))) (load-older .ensures .working .bytes-length ∙ area-bytes _ _ (formed-of _ _ (start .pre .wf))) (rw (part-to-end (load-older .last .0) 13509, part-to-end (load-older .last .1 .0) 28672) at (work-loaded .ensures))
 
 pub work-spec : {M : Type 1} → statement M
 work-spec =
