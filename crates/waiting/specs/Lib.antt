@@ -6,6 +6,7 @@ pub mod Items
 pub mod Batches
 pub mod Changes
 pub mod Parts
+pub mod Accepts
 pub mod RoomLaws
 pub mod LayoutLaws
 pub mod PlaceLaws

@@ -62,6 +62,18 @@ pub enum Step {
     Back,
 }
 
+// What becomes of a part that comes to a room.
+pub enum Accepted {
+    // it waits, or is dropped
+    Waits,
+    // a limit would be passed
+    Passed,
+    // files go back
+    Back,
+    // it finishes the newest part of this cell
+    Finishes(usize),
+}
+
 // An item of a marked batch: the mark, or one that waits with the part.
 pub enum Unmarked {
     Mark,
