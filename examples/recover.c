@@ -65,8 +65,8 @@ static void add_put(struct batch *b, uint64_t group, const char *key, size_t key
 
 static void replay(const struct batch *b) {
     uint64_t place;
-    uint64_t number = galdnyrr_replay_append(numbers, GALDNYRR_NUMBERS, bytes, GALDNYRR_BYTES, b->items, b->items_len,
-                                             b->entries, b->entries_len, b->bytes, b->bytes_len, &place);
+    uint64_t number = galdnyrr_replay(numbers, GALDNYRR_NUMBERS, bytes, GALDNYRR_BYTES, GALDNYRR_APPEND, 1, b->items,
+                                      b->items_len, b->entries, b->entries_len, b->bytes, b->bytes_len, &place);
     if (number == GALDNYRR_OK) {
         printf("replayed %zu items\n", b->items_len / GALDNYRR_ITEM_WIDTH);
     } else if (place == GALDNYRR_NO_PLACE) {

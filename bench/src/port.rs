@@ -1,8 +1,8 @@
 //! The port's side.
 
-use crate::work::{key, Item, Query, Work, ASKED, GROUPS};
+use crate::work::{key, Item, Live, Query, Work, ASKED, GROUPS};
 use crate::Side;
-use galdnyrr::{Batch, Compression, Context, Entry, FileId, Pairs, Queue, Records};
+use galdnyrr::{Batch, Compression, Context, Entry, FileId, Index, Pairs, Queue, Records};
 use std::hint::black_box;
 use std::time::Instant;
 
@@ -39,7 +39,7 @@ fn entry(index: u64, seq: u64) -> Entry {
 
 fn replay_all(c: &mut Context, batches: &[Batch]) {
     for b in batches {
-        c.replay_append(b).expect("a batch of the benchmark is taken");
+        c.replay(b).expect("a batch of the benchmark is taken");
     }
 }
 
@@ -97,6 +97,93 @@ pub fn query(before: &Work, query: Query) -> Side {
                 }
             }
         }
+        start.elapsed()
+    })
+}
+
+fn context(batches: &[Batch]) -> Context {
+    let mut c = Context::new(Queue::Append);
+    replay_all(&mut c, batches);
+    c
+}
+
+fn index(before: &[Batch]) -> Index {
+    match Context::new(Queue::Rewrite).join(&context(before)) {
+        Ok(index) => index,
+        Err((_, refusal)) => panic!("{refusal}"),
+    }
+}
+
+/// A rewrite of the entries of a batch, in a file of the Rewrite queue.
+fn rewrite(items: &[Item]) -> Batch {
+    let mut b = Batch::new(Queue::Rewrite, 1);
+    for item in items {
+        if let Item::Entries(group, first, count, _) = item {
+            let list: Vec<Entry> =
+                (0..*count).map(|i| Entry { file: b.file(), ..entry(first + i, 1) }).collect();
+            b.entries(*group, &list);
+        }
+    }
+    b
+}
+
+pub fn live(before: &Work, work: &Work, live: Live) -> Side {
+    let (before, work) = (batches(before), work.clone());
+    Box::new(move || {
+        let mut i = index(&before);
+        match live {
+            Live::Append => {
+                let lent = batches(&work);
+                let start = Instant::now();
+                lent.iter().for_each(|b| i.append(b).unwrap());
+                start.elapsed()
+            }
+            Live::Rewrite => {
+                let lent: Vec<Batch> = work.batches.iter().map(|b| rewrite(b)).collect();
+                let start = Instant::now();
+                lent.iter().for_each(|b| i.rewrite(Some(1), b).unwrap());
+                start.elapsed()
+            }
+        }
+    })
+}
+
+pub fn merge(older: &Work, newer: &Work) -> Side {
+    let (older, newer) = (context(&batches(older)), context(&batches(newer)));
+    Box::new(move || {
+        let mut c = older.clone();
+        let start = Instant::now();
+        c.merge(&newer).unwrap();
+        start.elapsed()
+    })
+}
+
+pub fn join(append: &Work) -> Side {
+    let append = context(&batches(append));
+    Box::new(move || {
+        let c = Context::new(Queue::Rewrite);
+        let start = Instant::now();
+        let joined = c.join(&append);
+        let took = start.elapsed();
+        assert!(joined.is_ok());
+        took
+    })
+}
+
+/// Batches cut into runs of one length, each replayed into a context and merged behind the ones before it.
+pub fn recover(work: &Work, runs: usize) -> Side {
+    let lent = batches(work);
+    let mut whole = Context::new(Queue::Append);
+    let mut run = Context::new(Queue::Append);
+    Box::new(move || {
+        let start = Instant::now();
+        whole.reset();
+        for part in lent.chunks(lent.len().div_ceil(runs)) {
+            run.reset();
+            replay_all(&mut run, part);
+            whole.merge(&run).unwrap();
+        }
+        black_box(&whole);
         start.elapsed()
     })
 }

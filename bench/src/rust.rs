@@ -1,8 +1,8 @@
 //! The Rust's side.
 
-use crate::work::{key, Item, Query, Work, ASKED, GROUPS};
+use crate::work::{key, Item, Live, Query, Work, ASKED, GROUPS};
 use crate::Side;
-use raft_engine::env::probe::{self, Context};
+use raft_engine::env::probe::{self, Context, Index};
 use raft_engine::env::{
     Command, CompressionType, EntryIndex, FileBlockHandle, FileId, KeyValue, LogItem,
     LogItemContent, LogQueue, OpType,
@@ -110,6 +110,90 @@ pub fn query(before: &Work, query: Query) -> Side {
                 }
             }
         }
+        start.elapsed()
+    })
+}
+
+fn index(before: &Work) -> Index {
+    probe::join(probe::new_context(), context(before))
+}
+
+/// The entries of a rewrite are of the Rewrite queue.
+fn rewritten(mut items: Vec<LogItem>) -> Vec<LogItem> {
+    for item in &mut items {
+        if let LogItemContent::EntryIndexes(list) = &mut item.content {
+            for entry in &mut list.0 {
+                if let Some(block) = &mut entry.entries {
+                    block.id.queue = LogQueue::Rewrite;
+                }
+            }
+        }
+    }
+    items
+}
+
+pub fn live(before: &Work, work: &Work, live: Live) -> Side {
+    let (before, work) = (before.clone(), work.clone());
+    Box::new(move || {
+        let i = index(&before);
+        let lent = batches(&work);
+        match live {
+            Live::Append => {
+                let start = Instant::now();
+                for batch in lent {
+                    i.memtables.apply_append_writes(batch.into_iter());
+                }
+                start.elapsed()
+            }
+            Live::Rewrite => {
+                let lent: Vec<_> = lent.into_iter().map(rewritten).collect();
+                let start = Instant::now();
+                for batch in lent {
+                    i.memtables.apply_rewrite_writes(batch.into_iter(), Some(1), 1);
+                }
+                start.elapsed()
+            }
+        }
+    })
+}
+
+pub fn merge(older: &Work, newer: &Work) -> Side {
+    let (older, newer) = (older.clone(), newer.clone());
+    Box::new(move || {
+        let (mut a, b) = (context(&older), context(&newer));
+        let start = Instant::now();
+        probe::merge(&mut a, b, APPEND);
+        start.elapsed()
+    })
+}
+
+pub fn join(append: &Work) -> Side {
+    let append = append.clone();
+    Box::new(move || {
+        let (a, b) = (probe::new_context(), context(&append));
+        let start = Instant::now();
+        black_box(probe::join(a, b));
+        start.elapsed()
+    })
+}
+
+/// Batches cut into runs of one length, each replayed into a context and merged behind the ones before it.
+pub fn recover(work: &Work, runs: usize) -> Side {
+    let work = work.clone();
+    Box::new(move || {
+        let mut lent = batches(&work);
+        let length = lent.len().div_ceil(runs);
+        let start = Instant::now();
+        let mut whole = probe::new_context();
+        while !lent.is_empty() {
+            let rest = lent.split_off(length.min(lent.len()));
+            let mut c = probe::new_context();
+            for batch in std::mem::replace(&mut lent, rest) {
+                probe::replay(&mut c, batch, FileId::new(APPEND, 1));
+            }
+            probe::merge(&mut whole, c, APPEND);
+        }
+        black_box(&whole);
         start.elapsed()
     })
 }

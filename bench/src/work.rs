@@ -104,6 +104,41 @@ pub fn replays() -> Vec<(&'static str, Work, Work)> {
     ]
 }
 
+/// Live work on the index: batches of the Append queue, or gated rewrites of entries.
+#[derive(Clone, Copy)]
+pub enum Live {
+    Append,
+    Rewrite,
+}
+
+/// Each with what was replayed before the join.
+pub fn live() -> Vec<(&'static str, Work, Work, Live)> {
+    vec![
+        (
+            "live append of 1 entry",
+            entries_32(),
+            over_groups(30, |i, g| vec![Item::Entries(g, i + 33, 1, 2)]),
+            Live::Append,
+        ),
+        (
+            "gated rewrite of 32 entries",
+            entries_32(),
+            over_groups(1, |_, g| vec![Item::Entries(g, 1, 32, 1)]),
+            Live::Rewrite,
+        ),
+    ]
+}
+
+/// Two runs of eight groups with 32 entries each, the second behind the first.
+pub fn two_runs() -> (Work, Work) {
+    (entries_32(), over_groups(1, |_, g| vec![Item::Entries(g, 33, 32, 2)]))
+}
+
+/// 10,000 batches of one entry over eight groups, which go over 64 indexes again and again.
+pub fn recovery() -> Work {
+    over_groups(1250, |i, g| vec![Item::Entries(g, i % 64 + 1, 1, i / 100 + 1)])
+}
+
 pub fn queries() -> Vec<(&'static str, Query)> {
     vec![
         ("first_index", Query::FirstIndex),

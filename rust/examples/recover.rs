@@ -21,15 +21,15 @@ fn main() -> Result<(), Refusal> {
     let mut batch = Batch::new(Queue::Append, 1);
 
     batch.entries(7, &block(batch.file(), 1, 10, 0, 100)).put(7, b"term", b"3");
-    run.replay_append(&batch)?;
+    run.replay(&batch)?;
 
     batch.restart(Queue::Append, 2);
     batch.entries(7, &block(batch.file(), 8, 4, 4096, 50)).compact(7, 3).put(9, b"term", b"1");
-    run.replay_append(&batch)?;
+    run.replay(&batch)?;
 
     batch.clear();
     batch.entries(7, &block(batch.file(), 20, 1, 8192, 50));
-    if let Err(refusal) = run.replay_append(&batch) {
+    if let Err(refusal) = run.replay(&batch) {
         println!("{refusal}");
     }
 

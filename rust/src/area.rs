@@ -56,16 +56,18 @@ impl Area {
         &self.bytes
     }
 
-    /// Replays a batch of the Append queue into an Append context.
-    pub fn replay_append(&mut self, rows: Rows<'_>) -> Result<(), Refusal> {
+    /// Replays a batch into a context of its file's queue.
+    pub fn replay(&mut self, file: FileId, rows: Rows<'_>) -> Result<(), Refusal> {
         let mut place = NO_PLACE;
         // SAFETY: the area is one that the calls made, and the lent slices overlap nothing that is written.
         let number = unsafe {
-            ffi::galdnyrr_replay_append(
+            ffi::galdnyrr_replay(
                 self.numbers.as_mut_ptr(),
                 NUMBERS,
                 self.bytes.as_mut_ptr(),
                 BYTES,
+                file.queue.number(),
+                file.seq,
                 rows.items.as_ptr(),
                 rows.items.len(),
                 rows.entries.as_ptr(),
@@ -76,6 +78,64 @@ impl Area {
             )
         };
         told(number, place)
+    }
+
+    /// Merges a newer context of the same queue, which is only read, into this one.
+    pub fn merge(&mut self, newer: &Area) -> Result<(), Refusal> {
+        let mut place = NO_PLACE;
+        // SAFETY: both areas are ones that the calls made; `self` is borrowed mutably, so they are not one.
+        let number = unsafe {
+            ffi::galdnyrr_merge(
+                self.numbers.as_mut_ptr(),
+                NUMBERS,
+                self.bytes.as_mut_ptr(),
+                BYTES,
+                newer.numbers.as_ptr(),
+                NUMBERS,
+                newer.bytes.as_ptr(),
+                BYTES,
+                &mut place,
+            )
+        };
+        told(number, place)
+    }
+
+    /// Joins an Append context, which is only read, to this Rewrite context, which becomes the index.
+    pub fn join(&mut self, append: &Area) -> Result<(), Refusal> {
+        let mut place = NO_PLACE;
+        // SAFETY: as above.
+        let number = unsafe {
+            ffi::galdnyrr_join(
+                self.numbers.as_mut_ptr(),
+                NUMBERS,
+                self.bytes.as_mut_ptr(),
+                BYTES,
+                append.numbers.as_ptr(),
+                NUMBERS,
+                append.bytes.as_ptr(),
+                BYTES,
+                &mut place,
+            )
+        };
+        told(number, place)
+    }
+
+    /// Hands out the cleaned numbers in order, at the front of a lent list, and empties their list. There are at most 64.
+    pub fn take_cleaned_region_logs<'a>(&mut self, list: &'a mut [u64]) -> Result<&'a [u64], Refusal> {
+        let mut count = 0;
+        // SAFETY: as above.
+        let number = unsafe {
+            ffi::galdnyrr_take_cleaned_region_logs(
+                self.numbers.as_mut_ptr(),
+                NUMBERS,
+                self.bytes.as_mut_ptr(),
+                BYTES,
+                list.as_mut_ptr(),
+                list.len(),
+                &mut count,
+            )
+        };
+        given(number, count).map(|n| &list[..n as usize])
     }
 
     /// Appends a batch to the index.

@@ -9,11 +9,47 @@ extern "C" {
         queue: u64,
     );
 
-    pub fn galdnyrr_replay_append(
+    pub fn galdnyrr_merge(
         numbers: *mut u64,
         numbers_len: usize,
         bytes: *mut u8,
         bytes_len: usize,
+        newer_numbers: *const u64,
+        newer_numbers_len: usize,
+        newer_bytes: *const u8,
+        newer_bytes_len: usize,
+        place: *mut u64,
+    ) -> u64;
+
+    pub fn galdnyrr_join(
+        numbers: *mut u64,
+        numbers_len: usize,
+        bytes: *mut u8,
+        bytes_len: usize,
+        append_numbers: *const u64,
+        append_numbers_len: usize,
+        append_bytes: *const u8,
+        append_bytes_len: usize,
+        place: *mut u64,
+    ) -> u64;
+
+    pub fn galdnyrr_take_cleaned_region_logs(
+        numbers: *mut u64,
+        numbers_len: usize,
+        bytes: *mut u8,
+        bytes_len: usize,
+        list: *mut u64,
+        list_len: usize,
+        count: *mut u64,
+    ) -> u64;
+
+    pub fn galdnyrr_replay(
+        numbers: *mut u64,
+        numbers_len: usize,
+        bytes: *mut u8,
+        bytes_len: usize,
+        queue: u64,
+        seq: u64,
         items: *const u64,
         items_len: usize,
         entries: *const u64,

@@ -11,11 +11,11 @@
 //! let mut batch = Batch::new(Queue::Append, 1);
 //! batch.entries(7, &[Entry::at(1, batch.file()), Entry::at(2, batch.file())]);
 //! batch.put(7, b"key", b"value");
-//! run.replay_append(&batch)?;
+//! run.replay(&batch)?;
 //!
 //! batch.clear();
 //! batch.entries(7, &[Entry::at(9, batch.file())]);
-//! let refusal = run.replay_append(&batch).unwrap_err();
+//! let refusal = run.replay(&batch).unwrap_err();
 //! assert_eq!(refusal.cause(), Some(Cause::AboveLast));
 //! assert_eq!((refusal.number(), refusal.place()), (14, Some(0)));
 //! # Ok::<(), galdnyrr::Refusal>(())
@@ -31,7 +31,7 @@ mod refusal;
 
 pub use area::{Area, BYTES, NUMBERS};
 pub use batch::{Batch, Rows};
-pub use context::Context;
+pub use context::{Context, Index};
 pub use entry::{Compression, Entry, FileId, Queue};
 pub use lists::{Pairs, Records};
 pub use refusal::{Cause, Refusal};

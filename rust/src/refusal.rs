@@ -62,10 +62,6 @@ impl Refusal {
         Refusal { number, place }
     }
 
-    pub(crate) fn of(cause: Cause) -> Refusal {
-        Refusal::new(cause as u64, None)
-    }
-
     /// Document 01's number of the cause.
     pub fn number(&self) -> u64 {
         self.number

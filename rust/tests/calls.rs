@@ -12,7 +12,7 @@ fn entries(first: u64, last: u64, seq: u64) -> Vec<Entry> {
 
 fn replayed(batches: &[Batch]) -> Context {
     let mut run = Context::new(Queue::Append);
-    batches.iter().for_each(|b| run.replay_append(b).unwrap());
+    batches.iter().for_each(|b| run.replay(b).unwrap());
     run
 }
 
@@ -34,7 +34,7 @@ fn a_refused_batch_leaves_everything() {
     let mut run = replayed(&[b]);
     let mut b = batch();
     b.put(9, b"k", b"v").entries(7, &entries(10, 10, 1));
-    let refusal = run.replay_append(&b).unwrap_err();
+    let refusal = run.replay(&b).unwrap_err();
     assert_eq!((refusal.cause(), refusal.place()), (Some(Cause::AboveLast), Some(1)));
     let absent = run.area().first_index(9).unwrap_err();
     assert_eq!((absent.cause(), absent.place()), (Some(Cause::GroupAbsent), None));
@@ -88,10 +88,10 @@ fn values_and_scans() {
 fn any_content_of_a_batch_is_answered() {
     let mut area = Area::fresh(Queue::Append);
     let cut = [7, 1, 0, 0];
-    let refusal = area.replay_append(Rows { items: &cut, entries: &[], bytes: &[] }).unwrap_err();
+    let refusal = area.replay(file(1), Rows { items: &cut, entries: &[], bytes: &[] }).unwrap_err();
     assert_eq!((refusal.number(), refusal.place()), (3, Some(0)));
     let past = [7, 3, u64::MAX, 2, 1, 0, 0, 0, 1];
-    let refusal = area.replay_append(Rows { items: &past, entries: &[], bytes: &[] }).unwrap_err();
+    let refusal = area.replay(file(1), Rows { items: &past, entries: &[], bytes: &[] }).unwrap_err();
     assert_eq!((refusal.number(), refusal.place()), (3, Some(0)));
     assert_eq!(area.append(file(1), batch().rows()).unwrap_err().cause(), Some(Cause::WrongKind));
 }

@@ -3,9 +3,10 @@
 use super::dump::dump;
 use super::query::{ask, queue};
 use super::rows::Lent;
+use crate::cuttings::Answers;
 use crate::text::{Line, Read, Tokens};
 use galdnyrr::{Area, Queue, Refusal};
-use raft_engine::env::{FileId, LogQueue};
+use raft_engine::env::FileId;
 use std::collections::BTreeMap;
 
 type Answer = Vec<String>;
@@ -19,6 +20,12 @@ pub struct Port {
     pub changed_by_refusal: bool,
     /// Whether the last call wrote more of a lent list than its answer.
     pub spilt: bool,
+}
+
+impl Answers for Port {
+    fn answer(&mut self, line: &str) -> Read<Answer> {
+        self.line(line)?.ok_or_else(|| "the library has no such call".to_string())
+    }
 }
 
 impl Port {
@@ -87,8 +94,20 @@ impl Port {
                 self.batch(n, word, file, gate, &Lent::of(&items))
             }
             "merge" | "join" => {
-                self.objects.insert(n, None);
-                Ok(None)
+                let other = t.number()?;
+                t.end()?;
+                self.combine(n, word, other)
+            }
+            "cleaned" => {
+                t.end()?;
+                let area = match self.objects.get_mut(&n) {
+                    Some(Some(area)) => area,
+                    _ => return Ok(None),
+                };
+                Ok(Some(match area.take_cleaned_region_logs(&mut [0; 64]) {
+                    Ok(list) => vec![Line::default().numbers(list).0],
+                    Err(r) => vec![refused(r)],
+                }))
             }
             "dump" => {
                 t.end()?;
@@ -100,6 +119,25 @@ impl Port {
             }
             _ => Ok(None),
         }
+    }
+
+    /// A merge or a join, of any kinds.
+    fn combine(&mut self, n: u64, word: &str, other: u64) -> Read<Option<Answer>> {
+        let (mut area, newer) = match (self.object(n)?, self.object(other)?) {
+            (Some(a), Some(b)) => (a.clone(), b.clone()),
+            _ => {
+                self.objects.insert(n, None);
+                return Ok(None);
+            }
+        };
+        let before = dump(&area);
+        let answer = if word == "merge" { area.merge(&newer) } else { area.join(&newer) };
+        self.changed_by_refusal = answer.is_err() && before != dump(&area);
+        self.objects.insert(n, Some(area));
+        Ok(match answer {
+            Ok(()) => ok(),
+            Err(r) => Some(vec![refused(r)]),
+        })
     }
 
     /// A call of a batch, on any kind.
@@ -121,11 +159,7 @@ impl Port {
         let answer = match word {
             "live_append" => area.append(file_id(file), rows),
             "live_rewrite" => area.rewrite(gate, file_id(file), rows),
-            _ if file.queue == LogQueue::Append => area.replay_append(rows),
-            _ => {
-                self.objects.insert(n, None);
-                return Ok(None);
-            }
+            _ => area.replay(file_id(file), rows),
         };
         self.changed_by_refusal = answer.is_err() && dump(&before) != dump(area);
         Ok(match answer {
