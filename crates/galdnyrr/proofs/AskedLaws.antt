@@ -87,10 +87,10 @@ entry-same {row = row} {n = n} {row′ = row′} e = subst (λ r. EntryTold r ro
 -- ---- lent lists
 
 pub entries-told : {answer : Result (List EntryIndex)} {out : Columns} {r : Fetched} {exits : Columns} {k n k′ : ℕ} → EntriesFetched answer out r exits → ValueTold (fetchedAs r) k n k′ → EntriesTold answer out k n k′ exits
-entries-told f t = record { told = value-same (f .number) t; slices = f .slices }
+entries-told f t = record { told = value-same (f .number) t; slices = f .slices; records-are = f .records-are }
 
 pub keys-told : {answer : Result (List KeyValue)} {lens out : List ℕ} {r : Fetched} {lens′ out′ : List ℕ} {k n k′ : ℕ} → KeysFetched answer lens out r lens′ out′ → ValueTold (fetchedAs r) k n k′ → KeysTold answer lens out k n k′ lens′ out′
-keys-told f t = record { told = value-same (f .number) t; lens-are = f .lens-are; bytes-are = f .bytes-are }
+keys-told f t = record { told = value-same (f .number) t; lens-are = f .lens-are; bytes-are = f .bytes-are; rows-are = f .rows-are }
 
 pub numbers-told : {answer : Result (List ℕ)} {lent : List ℕ} {r : Fetched} {lent′ : List ℕ} {k n k′ : ℕ} → NumbersFetched answer lent r lent′ → ValueTold (fetchedAs r) k n k′ → NumbersTold answer lent k n k′ lent′
 numbers-told f t = record { told = value-same (f .number) t; list-is = f .list-is }

@@ -13,7 +13,8 @@ use Rattle.rules.specs.Items.{EntryIndex, fileOf}
 use Rattle.rules.specs.TableQueries.{KeyValue}
 use Rattle.rules.specs.Queries.{answered, lentAfter}
 use Rattle.kvs.specs.Lists.{lentList, lensAfter, bytesAfter}
-use Rattle.memtable.specs.Columns.{Columns, blockOffset, blockLen, judged, columnsAfter}
+use Rattle.memtable.specs.Columns.{Columns, blockOffset, blockLen, columnsAfter}
+use Rattle.queries.specs.Slices.{recordsIn}
 use Rattle.galdnyrr.specs.Told.{numberOf}
 
 -- what is returned for an answer that is absent; no cause has this number
@@ -84,13 +85,17 @@ pub record EntryTold (answer : Result (Option EntryIndex)) (row : List ℕ) (num
 -- ---- lent lists: the number of rows that were filled is lent too
 
 pub record EntriesTold (answer : Result (List EntryIndex)) (out : Columns) (count number count′ : ℕ) (exits : Columns) : Type 0 where
-  pub told : ValueTold (andThen (judged (length (out .index)) answer) (λ es. ok (length es))) count number count′
-  pub slices : exits ≡ columnsAfter out (judged (length (out .index)) answer)
+  pub told : ValueTold (andThen (answered (recordsIn out) answer) (λ es. ok (length es))) count number count′
+  pub slices : exits ≡ columnsAfter out (answered (recordsIn out) answer)
+  -- the records of the list at exit are those that the rules leave there
+  pub records-are : recordsIn exits ≡ lentAfter (recordsIn out) (answered (recordsIn out) answer)
 
 pub record KeysTold (answer : Result (List KeyValue)) (lens out : List ℕ) (count number count′ : ℕ) (lens′ out′ : List ℕ) : Type 0 where
   pub told : ValueTold (andThen (answered (lentList lens out) answer) (λ rows. ok (length rows))) count number count′
   pub lens-are : lens′ ≡ lensAfter (answered (lentList lens out) answer) lens
   pub bytes-are : out′ ≡ bytesAfter (answered (lentList lens out) answer) out
+  -- and so are the rows of keys
+  pub rows-are : lentList lens′ out′ ≡ lentAfter (lentList lens out) (answered (lentList lens out) answer)
 
 pub record NumbersTold (answer : Result (List ℕ)) (lent : List ℕ) (count number count′ : ℕ) (lent′ : List ℕ) : Type 0 where
   pub told : ValueTold (andThen answer (λ rows. ok (length rows))) count number count′
