@@ -31,12 +31,12 @@ fn least_of(a: usize, b: usize, c: usize, d: usize, e: usize, f: usize, g: usize
     lesser(front, back)
 }
 
-// Answers `count` entries of a head from place `from` on in the slices, each cut to the length of the shortest, if they have room.
+// Answers `n` entries of a head from place `from` on in the slices, each cut to the length of the shortest, if they have room.
 fn answer_rows(
     head: Head,
     rows: &[u64],
     from: usize,
-    count: usize,
+    n: usize,
     index: &mut [u64],
     queue: &mut [u64],
     seq: &mut [u64],
@@ -47,10 +47,10 @@ fn answer_rows(
     entry_len: &mut [u64],
 ) -> Fetched
     requires { ⌜ table.Wf head (now rows) ⌝ }
-    requires { ⌜ from + count ≤ head .len ⌝ }
-    ensures { λ r. ⌜ EntriesFetched (ok (entriesAt from count head (now (rows .entry)))) (columns (now (index .entry)) (now (queue .entry)) (now (seq .entry)) (now (offset .entry)) (now (len .entry)) (now (compression .entry)) (now («entry_offset» .entry)) (now («entry_len» .entry))) r (columns (now (index .exit)) (now (queue .exit)) (now (seq .exit)) (now (offset .exit)) (now (len .exit)) (now (compression .exit)) (now («entry_offset» .exit)) (now («entry_len» .exit))) ⌝ }
+    requires { ⌜ from + n ≤ head .len ⌝ }
+    ensures { λ r. ⌜ EntriesFetched (ok (entriesAt from n head (now (rows .entry)))) (columns (now (index .entry)) (now (queue .entry)) (now (seq .entry)) (now (offset .entry)) (now (len .entry)) (now (compression .entry)) (now («entry_offset» .entry)) (now («entry_len» .entry))) r (columns (now (index .exit)) (now (queue .exit)) (now (seq .exit)) (now (offset .exit)) (now (len .exit)) (now (compression .exit)) (now («entry_offset» .exit)) (now («entry_len» .exit))) ⌝ }
 {
-    let n = least_of(
+    let room = least_of(
         index.len(),
         queue.len(),
         seq.len(),
@@ -63,15 +63,15 @@ fn answer_rows(
     let answer = head.answer_rows(
         rows,
         from,
-        count,
-        &mut index[..n],
-        &mut queue[..n],
-        &mut seq[..n],
-        &mut offset[..n],
-        &mut len[..n],
-        &mut compression[..n],
-        &mut entry_offset[..n],
-        &mut entry_len[..n],
+        n,
+        &mut index[..room],
+        &mut queue[..room],
+        &mut seq[..room],
+        &mut offset[..room],
+        &mut len[..room],
+        &mut compression[..room],
+        &mut entry_offset[..room],
+        &mut entry_len[..room],
     );
     entries_fetched(answer)
 }
