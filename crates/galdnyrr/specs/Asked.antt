@@ -11,9 +11,10 @@ use Rattle.pipe_log.specs.Numbers.{queueNumber, compressionNumber}
 use Rattle.rules.specs.Causes.{Result, ok, refused, refuse, listTooShort, andThen}
 use Rattle.rules.specs.Items.{EntryIndex, fileOf}
 use Rattle.rules.specs.TableQueries.{KeyValue}
-use Rattle.rules.specs.Queries.{answered, lentAfter}
+use Rattle.rules.specs.Queries.{answered, lentAfter, takeCleaned, afterTaking}
 use Rattle.kvs.specs.Lists.{lentList, lensAfter, bytesAfter}
 use Rattle.memtable.specs.Columns.{Columns, blockOffset, blockLen, columnsAfter}
+use Rattle.contexts.specs.Contexts.{contextOf, Wf}
 use Rattle.queries.specs.Slices.{recordsIn}
 use Rattle.galdnyrr.specs.Told.{numberOf}
 
@@ -100,6 +101,13 @@ pub record KeysTold (answer : Result (List KeyValue)) (lens out : List ℕ) (cou
 pub record NumbersTold (answer : Result (List ℕ)) (lent : List ℕ) (count number count′ : ℕ) (lent′ : List ℕ) : Type 0 where
   pub told : ValueTold (andThen answer (λ rows. ok (length rows))) count number count′
   pub list-is : lent′ ≡ lentAfter lent answer
+
+-- the cleaned numbers of the index: the area stands for the index that the rules leave
+pub record CleanedTold (xs bs lent : List ℕ) (count number count′ : ℕ) (xs′ lent′ : List ℕ) : Type 0 where
+  pub told : ValueTold (andThen (takeCleaned lent (contextOf xs bs)) (λ rows. ok (length rows))) count number count′
+  pub list-is : lent′ ≡ lentAfter lent (takeCleaned lent (contextOf xs bs))
+  pub leaves : contextOf xs′ bs ≡ afterTaking (takeCleaned lent (contextOf xs bs)) (contextOf xs bs)
+  pub wf : Wf xs′ bs
 
 -- ---- a value, copied to the front of lent bytes
 
