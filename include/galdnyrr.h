@@ -113,6 +113,11 @@ uint64_t galdnyrr_replay_append(uint64_t *numbers, size_t numbers_len, uint8_t *
                                 const uint64_t *items, size_t items_len, const uint64_t *entries, size_t entries_len,
                                 const uint8_t *batch_bytes, size_t batch_bytes_len, uint64_t *place);
 
+/* Joins an Append context, which is only read, to a Rewrite context, which becomes the index. Refused, without a place: 1, 18. */
+uint64_t galdnyrr_join(uint64_t *numbers, size_t numbers_len, uint8_t *bytes, size_t bytes_len,
+                       const uint64_t *append_numbers, size_t append_numbers_len, const uint8_t *append_bytes,
+                       size_t append_bytes_len, uint64_t *place);
+
 /* ---- The index */
 
 /* Appends a batch, whose file is of the Append queue, to the index. Refused: 1, 2 to 5, 13, 14, 18. */
@@ -126,6 +131,10 @@ uint64_t galdnyrr_rewrite(uint64_t *numbers, size_t numbers_len, uint8_t *bytes,
                           uint64_t gate, uint64_t queue, uint64_t seq, const uint64_t *items, size_t items_len,
                           const uint64_t *entries, size_t entries_len, const uint8_t *batch_bytes,
                           size_t batch_bytes_len, uint64_t *place);
+
+/* Hands out the cleaned numbers of the index in order, at most 64, and empties their list; `count` gets how many. Refused: 1, 19. */
+uint64_t galdnyrr_take_cleaned_region_logs(uint64_t *numbers, size_t numbers_len, const uint8_t *bytes, size_t bytes_len,
+                                           uint64_t *list, size_t list_len, uint64_t *count);
 
 /* ---- Queries of a group of a context or the index
  *
@@ -196,8 +205,8 @@ uint64_t galdnyrr_fetch_rewritten_kvs(const uint64_t *numbers, size_t numbers_le
                                       size_t bytes_len, uint64_t group, uint64_t *lens, size_t lens_len, uint8_t *out,
                                       size_t out_len, uint64_t *count);
 
-/* A list of records: eight arrays, one for each field of a row of entries, ALL OF ONE LENGTH; that is not tested. A group has at
- * most 64 entries. */
+/* A list of records: eight arrays, one for each field of a row of entries. The list is as long as the shortest of them; what lies
+ * behind that in a longer one is never written. A group has at most 64 entries. */
 
 /* The entries with indexes in [begin, end); with a size, up to the record with which their lengths would sum above it. Refused: 9,
  * 11, 12, 19. */
