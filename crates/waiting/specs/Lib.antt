@@ -20,3 +20,4 @@ pub mod RetagLaws
 pub mod LimitLaws
 pub mod FormLaws
 pub mod JudgeLaws
+pub mod FinishLaws

@@ -6,7 +6,7 @@ use Prim.Native.Nat.{ℕ, _≤_}
 use native.Mathlib.Omega.{arith}
 use lib.Dec.{leb}
 use lib.ListN.{length}
-use borrow.Author.Tests.{leb-true}
+use borrow.Author.Tests.{leb-true, le-leb}
 use Rattle.maps.specs.BoolLaws.{both-left, both-right}
 use Rattle.maps.specs.Maps.{Map}
 use Rattle.rules.specs.Context.{Part, waitingFits}
@@ -32,6 +32,9 @@ fits-few w e =
       items = leb-true (waitingItems w) 64 (both-right (leb (length w) 8) (leb (waitingItems w) 64) g);
       entries = leb-true (waitingEntries w) 128 (both-right (leb (length w) 8 && leb (waitingItems w) 64) (leb (waitingEntries w) 128) f);
     }
+
+pub few-fits : (w : Map ℕ (List Part)) → Few w → waitingFits w ≡ true
+few-fits w f = fits-by w ∙ rw (le-leb (length w) 8 (f .groups), le-leb (waitingItems w) 64 (f .items), le-leb (waitingEntries w) 128 (f .entries))
 
 -- the counts of a context's room
 pub room-few : (ws vs : List ℕ) → ContextRoom ws vs → (storeOf ws .items ≤ 64) × (storeOf ws .entries ≤ 128)

@@ -1,7 +1,8 @@
 // A marked batch's part that comes to the room of a context.
 ghost use mathlib.Core.Option.{none};
 ghost use mathlib.Core.Path.{_≡_};
-ghost use Prim.Native.Nat.{_*_};
+ghost use Prim.Native.Nat.{_+_, _*_, _<_};
+ghost use lib.ListN.{getD};
 ghost use Rattle.cells.specs.Part.{part};
 ghost use Rattle.rules.specs.Items.{replayRewrite};
 ghost use Rattle.rules.specs.Checks.{checks};
@@ -10,7 +11,7 @@ ghost use Rattle.waiting.specs.Layout.{contextCells, ContextRoom};
 ghost use Rattle.waiting.specs.Batches.{unmarked};
 ghost use Rattle.waiting.specs.Parts.{partFor};
 ghost use Rattle.waiting.specs.Steps.{AtCell};
-ghost use Rattle.waiting.specs.Accepts.{AcceptedAs};
+ghost use Rattle.waiting.specs.Accepts.{AcceptedAs, TookFinished};
 ghost use Rattle.waiting.specs.Forms.{FormAt};
 use crate::Accepted;
 use crate::CELLS;
@@ -21,6 +22,7 @@ use crate::batches::count_batch;
 use crate::find::find;
 use crate::find::step_at;
 use crate::forms::write_form;
+use crate::heads::take_part;
 use crate::limits::counts_left;
 use crate::limits::groups_with;
 use crate::limits::within_limits;
@@ -166,4 +168,13 @@ pub fn accept_batch(
         }
         Place::Full => Accepted::Passed,
     }
+}
+
+// Takes out the newest part of cell `k`, which a part finished.
+pub fn take_finished(ws: &mut [u64], vs: &mut [u8], k: usize)
+    requires { ⌜ ContextRoom (now ws) (now vs) ⌝ }
+    requires { ⌜ (k < contextCells) × (0 < getD (now ws) (2 + k * 10) 0) ⌝ }
+    ensures { λ _. ⌜ TookFinished k (now (ws .entry)) (now (vs .entry)) (now (ws .exit)) (now (vs .exit)) ⌝ }
+{
+    take_part(ws, vs, CELLS, k);
 }

@@ -12,6 +12,7 @@ mod places;
 mod rooms;
 
 pub use accept::accept_batch;
+pub use accept::take_finished;
 pub use copies::copy_item;
 pub use copies::tag_at;
 pub use heads::take_part;
