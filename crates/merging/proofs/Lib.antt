@@ -5,7 +5,10 @@ pub mod NumberWays
 pub mod CoverLaws
 pub mod EndWays
 pub mod TombWays
+pub mod ReplayWays
+pub mod PartWays
 pub mod WorkWays
+pub mod FinishingWays
 pub mod StageWays
 pub mod TurnWays
 pub mod GrowthWays

@@ -152,7 +152,7 @@ pub lent-bytes : (k : ℕ) (cs : List ℕ) → take (k * bytesWidth + bytesWidth
 unfolding bytesAt part
 lent-bytes k cs = let e : k * bytesWidth + bytesWidth - k * bytesWidth ≡ bytesWidth = omega arith in rw e
 
-context-groups : (xs bs : List ℕ) → contextOf xs bs .groups ≡ groupsOf xs bs
+pub context-groups : (xs bs : List ℕ) → contextOf xs bs .groups ≡ groupsOf xs bs
 unfolding contextOf restAt withWaiting withGroups
 context-groups xs bs = refl
 
