@@ -74,10 +74,10 @@ module _ (s : step.Step) where
 -- ---- the oldest part of a cell
 
 -- number i of cell j of a room
-in-cell : (us : List ℕ) (j i : ℕ) → j < 16 → i < 10 → getD (headAt j (part 2 160 us)) i 0 ≡ getD us (2 + j * 10 + i) 0
+pub in-cell : (us : List ℕ) (j i : ℕ) → j < 16 → i < 10 → getD (headAt j (part 2 160 us)) i 0 ≡ getD us (2 + j * 10 + i) 0
 in-cell us j i l h = head-number 16 us j i l h
 
-count-is : (us : List ℕ) (j : ℕ) → j < 16 → countIn (headAt j (part 2 160 us)) ≡ getD us (2 + j * 10) 0
+pub count-is : (us : List ℕ) (j : ℕ) → j < 16 → countIn (headAt j (part 2 160 us)) ≡ getD us (2 + j * 10) 0
 unfolding countIn
 count-is us j l = rw (add-zero (2 + j * 10)) at (in-cell us j 0 l (omega arith))
 
@@ -181,27 +181,27 @@ other-cell g h xs e =
     (λ t. absurd (clash (sym (rw n at e) ∙ eq-eqb (groupIn h) g (sym (eqb-true g (groupIn h) t)))))
     (λ f. f)))
 
-module _ (g : ℕ) (ws vs : List ℕ) (w : RoomWf 16 ws vs) where
+module _ (ws vs : List ℕ) (w : RoomWf 16 ws vs) where
   abbrev heads : List ℕ
   heads = part 2 160 ws
 
-  cells-count : length (cellsOf heads (tagged ws vs)) ≡ 16
+  pub cells-count : length (cellsOf heads (tagged ws vs)) ≡ 16
   unfolding roomOf
   cells-count = length-cells heads (tagged ws vs) ∙ cell-count 16 ws vs (w .numbers-are) (w .bytes-are)
 
-  cell-at : (k : ℕ) → k < 16 → getD (cellsOf heads (tagged ws vs)) k none ≡ cellOf (headAt k heads) (tagged ws vs)
+  pub cell-at : (k : ℕ) → k < 16 → getD (cellsOf heads (tagged ws vs)) k none ≡ cellOf (headAt k heads) (tagged ws vs)
   unfolding roomOf
   cell-at k l = let n = cell-count 16 ws vs (w .numbers-are) (w .bytes-are) in getD-cells k heads (tagged ws vs) (omega (arith, n))
 
-  pub lookup-cell : (k : ℕ) → k < 16 → isOf g (headAt k heads) ≡ true → lookup numbers g (waitingOf ws vs) ≡ some (partsOf (headAt k heads) (tagged ws vs))
+  pub lookup-cell : (g k : ℕ) → k < 16 → isOf g (headAt k heads) ≡ true → lookup numbers g (waitingOf ws vs) ≡ some (partsOf (headAt k heads) (tagged ws vs))
   unfolding waitingOf waitingIn roomOf
-  lookup-cell k l e =
+  lookup-cell g k l e =
       let n = cells-count in
       lookup-at (cellsOf heads (tagged ws vs)) k g (partsOf (headAt k heads) (tagged ws vs)) (w .wf .distinct) (omega (arith, n)) (cell-at k l ∙ cell-is g (headAt k heads) (tagged ws vs) e)
 
-  pub lookup-no-cell : ((j : ℕ) → j < 16 → isOf g (headAt j heads) ≡ false) → lookup numbers g (waitingOf ws vs) ≡ none
+  pub lookup-no-cell : (g : ℕ) → ((j : ℕ) → j < 16 → isOf g (headAt j heads) ≡ false) → lookup numbers g (waitingOf ws vs) ≡ none
   unfolding waitingOf waitingIn roomOf
-  lookup-no-cell f =
+  lookup-no-cell g f =
       lookup-absent (cellsOf heads (tagged ws vs)) g (λ i l.
       let n = cells-count in
       let h : i < 16 = omega (arith, n) in
@@ -236,18 +236,18 @@ none-newer o = refl
 
 module _ (g : ℕ) (ws us : List ℕ) (j : ℕ) where
   pub older-there : (k : ℕ) (r : Finishing) → AtCell g 16 (part 2 160 ws) k → ((xs ys : List Tagged) → finishedOf (some (partsOf (headAt j (part 2 160 us)) ys)) (some (partsOf (headAt k (part 2 160 ws)) xs)) ≡ finishedAs r xs ys) → (vs : List ℕ) (ys : List Tagged) → RoomWf 16 ws vs → finishedOf (some (partsOf (headAt j (part 2 160 us)) ys)) (lookup numbers g (waitingOf ws vs)) ≡ finishedAs r (tagged ws vs) ys
-  older-there k r a f vs ys w = rw (lookup-cell g ws vs w k (a .inside) (a .here)) (f (tagged ws vs) ys)
+  older-there k r a f vs ys w = rw (lookup-cell ws vs w g k (a .inside) (a .here)) (f (tagged ws vs) ys)
 
   pub older-absent : ((i : ℕ) → i < 16 → isOf g (headAt i (part 2 160 ws)) ≡ false) → (vs : List ℕ) (ys : List Tagged) → RoomWf 16 ws vs → finishedOf (some (partsOf (headAt j (part 2 160 us)) ys)) (lookup numbers g (waitingOf ws vs)) ≡ finishedAs finishing.None (tagged ws vs) ys
   unfolding finishedAs
-  older-absent f vs ys w = rw (lookup-no-cell g ws vs w f) (none-older (partsOf (headAt j (part 2 160 us)) ys))
+  older-absent f vs ys w = rw (lookup-no-cell ws vs w g f) (none-older (partsOf (headAt j (part 2 160 us)) ys))
 
   pub newer-there : (r : Finishing) → AtCell g 16 (part 2 160 us) j → ((vs : List ℕ) (ys : List Tagged) → RoomWf 16 ws vs → finishedOf (some (partsOf (headAt j (part 2 160 us)) ys)) (lookup numbers g (waitingOf ws vs)) ≡ finishedAs r (tagged ws vs) ys) → (vs ds : List ℕ) → RoomWf 16 ws vs → RoomWf 16 us ds → finishedOf (lookup numbers g (waitingOf us ds)) (lookup numbers g (waitingOf ws vs)) ≡ finishedAs r (tagged ws vs) (tagged us ds)
-  newer-there r a f vs ds w u = rw (lookup-cell g us ds u j (a .inside) (a .here)) (f vs (tagged us ds) w)
+  newer-there r a f vs ds w u = rw (lookup-cell us ds u g j (a .inside) (a .here)) (f vs (tagged us ds) w)
 
 pub newer-absent : (g : ℕ) (ws us : List ℕ) → ((i : ℕ) → i < 16 → isOf g (headAt i (part 2 160 us)) ≡ false) → (vs ds : List ℕ) → RoomWf 16 ws vs → RoomWf 16 us ds → finishedOf (lookup numbers g (waitingOf us ds)) (lookup numbers g (waitingOf ws vs)) ≡ finishedAs finishing.None (tagged ws vs) (tagged us ds)
 unfolding finishedAs
-newer-absent g ws us f vs ds w u = rw (lookup-no-cell g us ds u f) (none-newer (lookup numbers g (waitingOf ws vs)))
+newer-absent g ws us f vs ds w u = rw (lookup-no-cell us ds u g f) (none-newer (lookup numbers g (waitingOf ws vs)))
 
 -- ---- whether a room has an item with a tag
 
