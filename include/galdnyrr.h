@@ -138,7 +138,7 @@ uint64_t galdnyrr_rewrite(uint64_t *numbers, size_t numbers_len, uint8_t *bytes,
                           size_t batch_bytes_len, uint64_t *place);
 
 /* Hands out the cleaned numbers of the index in order, at most 64, and empties their list; `count` gets how many. Refused: 1, 19. */
-uint64_t galdnyrr_take_cleaned_region_logs(uint64_t *numbers, size_t numbers_len, uint8_t *bytes, size_t bytes_len,
+uint64_t galdnyrr_take_cleaned_region_logs(uint64_t *numbers, size_t numbers_len, const uint8_t *bytes, size_t bytes_len,
                                            uint64_t *list, size_t list_len, uint64_t *count);
 
 /* ---- Queries of a group of a context or the index
@@ -210,8 +210,8 @@ uint64_t galdnyrr_fetch_rewritten_kvs(const uint64_t *numbers, size_t numbers_le
                                       size_t bytes_len, uint64_t group, uint64_t *lens, size_t lens_len, uint8_t *out,
                                       size_t out_len, uint64_t *count);
 
-/* A list of records: eight arrays, one for each field of a row of entries, ALL OF ONE LENGTH; that is not tested. A group has at
- * most 64 entries. */
+/* A list of records: eight arrays, one for each field of a row of entries. The list is as long as the shortest of them; what lies
+ * behind that in a longer one is never written. A group has at most 64 entries. */
 
 /* The entries with indexes in [begin, end); with a size, up to the record with which their lengths would sum above it. Refused: 9,
  * 11, 12, 19. */

@@ -12,6 +12,7 @@ mod port;
 mod random;
 mod run;
 mod takes;
+mod takes_inputs;
 mod takes_lines;
 mod text;
 mod vectors;
@@ -101,6 +102,9 @@ fn main() {
         #[cfg(feature = "port")]
         ["answer", "port"] => answer_port(),
         ["takes"] => takes::takes(std::io::stdin().lock(), &mut std::io::stdout().lock()),
+        ["takes", "input", seed] => takes_inputs::print_input(number(seed)),
+        ["takes", "long", n, merges] => takes_inputs::print_long(number(n), number(merges)),
+        ["takes", n, path] => exit_with(takes_inputs::compare(number(n), path)),
         _ => usage(),
     }
 }

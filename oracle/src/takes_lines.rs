@@ -5,7 +5,7 @@ use crate::world::World;
 use std::collections::HashMap;
 
 /// Lines that are malformed, or nearly so.
-const ODD: [&str; 22] = [
+pub const ODD: [&str; 22] = [
     "",
     " ",
     "Q,1",
@@ -41,7 +41,8 @@ pub fn print(seed: u64, n: u64) {
     }
 }
 
-fn lines(seed: u64) -> Vec<String> {
+/// The lines of a random input.
+pub fn lines(seed: u64) -> Vec<String> {
     let mut w = World::new(seed);
     let mut next: HashMap<u64, u64> = HashMap::new();
     let mut file = 1;

@@ -128,7 +128,7 @@ impl Area {
             ffi::galdnyrr_take_cleaned_region_logs(
                 self.numbers.as_mut_ptr(),
                 NUMBERS,
-                self.bytes.as_mut_ptr(),
+                self.bytes.as_ptr(),
                 BYTES,
                 list.as_mut_ptr(),
                 list.len(),

@@ -36,7 +36,7 @@ extern "C" {
     pub fn galdnyrr_take_cleaned_region_logs(
         numbers: *mut u64,
         numbers_len: usize,
-        bytes: *mut u8,
+        bytes: *const u8,
         bytes_len: usize,
         list: *mut u64,
         list_len: usize,

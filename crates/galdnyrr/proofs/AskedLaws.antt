@@ -14,10 +14,12 @@ use Rattle.rules.specs.TableQueries.{KeyValue, minFileSeq, fetchEntriesTo}
 use Rattle.rules.specs.Queries.{inGroup}
 use Rattle.memtable.specs.Columns.{Columns}
 use Rattle.queries.specs.declared.Fetched.{Fetched}
-use Rattle.queries.specs.Answers.{fetchedAs}
+use Rattle.queries.specs.declared.Taken.{Taken}
+use Rattle.queries.specs.Answers.{fetchedAs, takenAs}
+use Rattle.queries.specs.Cleaned.{CleanedTaken}
 use Rattle.queries.specs.Fetches.{EntriesFetched, KeysFetched, NumbersFetched}
 use Rattle.galdnyrr.specs.Told as told
-use Rattle.galdnyrr.specs.Asked.{absent, numberOrAbsent, valueAfter, foundAfter, flagOf, flagged, rowOf, inRow, rowAfter, ValueTold, FoundTold, EntryTold, EntriesTold, KeysTold, NumbersTold}
+use Rattle.galdnyrr.specs.Asked.{absent, numberOrAbsent, valueAfter, foundAfter, flagOf, flagged, rowOf, inRow, rowAfter, ValueTold, FoundTold, EntryTold, EntriesTold, KeysTold, NumbersTold, CleanedTold}
 
 -- ---- a number
 
@@ -87,13 +89,16 @@ entry-same {row = row} {n = n} {row′ = row′} e = subst (λ r. EntryTold r ro
 -- ---- lent lists
 
 pub entries-told : {answer : Result (List EntryIndex)} {out : Columns} {r : Fetched} {exits : Columns} {k n k′ : ℕ} → EntriesFetched answer out r exits → ValueTold (fetchedAs r) k n k′ → EntriesTold answer out k n k′ exits
-entries-told f t = record { told = value-same (f .number) t; slices = f .slices }
+entries-told f t = record { told = value-same (f .number) t; slices = f .slices; records-are = f .records-are }
 
 pub keys-told : {answer : Result (List KeyValue)} {lens out : List ℕ} {r : Fetched} {lens′ out′ : List ℕ} {k n k′ : ℕ} → KeysFetched answer lens out r lens′ out′ → ValueTold (fetchedAs r) k n k′ → KeysTold answer lens out k n k′ lens′ out′
-keys-told f t = record { told = value-same (f .number) t; lens-are = f .lens-are; bytes-are = f .bytes-are }
+keys-told f t = record { told = value-same (f .number) t; lens-are = f .lens-are; bytes-are = f .bytes-are; rows-are = f .rows-are }
 
 pub numbers-told : {answer : Result (List ℕ)} {lent : List ℕ} {r : Fetched} {lent′ : List ℕ} {k n k′ : ℕ} → NumbersFetched answer lent r lent′ → ValueTold (fetchedAs r) k n k′ → NumbersTold answer lent k n k′ lent′
 numbers-told f t = record { told = value-same (f .number) t; list-is = f .list-is }
+
+pub cleaned-told : {xs bs lent : List ℕ} {r : Taken} {xs′ lent′ : List ℕ} {k n k′ : ℕ} → CleanedTaken xs bs lent r xs′ lent′ → ValueTold (takenAs r) k n k′ → CleanedTold xs bs lent k n k′ xs′ lent′
+cleaned-told f t = record { told = value-same (f .number) t; list-is = f .list-is; leaves = f .context-is; wf = f .wf }
 
 -- ---- what is lent as numbers
 

@@ -11,9 +11,11 @@ use Rattle.pipe_log.specs.Numbers.{queueNumber, compressionNumber}
 use Rattle.rules.specs.Causes.{Result, ok, refused, refuse, listTooShort, andThen}
 use Rattle.rules.specs.Items.{EntryIndex, fileOf}
 use Rattle.rules.specs.TableQueries.{KeyValue}
-use Rattle.rules.specs.Queries.{answered, lentAfter}
+use Rattle.rules.specs.Queries.{answered, lentAfter, takeCleaned, afterTaking}
 use Rattle.kvs.specs.Lists.{lentList, lensAfter, bytesAfter}
-use Rattle.memtable.specs.Columns.{Columns, blockOffset, blockLen, judged, columnsAfter}
+use Rattle.memtable.specs.Columns.{Columns, blockOffset, blockLen, columnsAfter}
+use Rattle.contexts.specs.Contexts.{contextOf, Wf}
+use Rattle.queries.specs.Slices.{recordsIn}
 use Rattle.galdnyrr.specs.Told.{numberOf}
 
 -- what is returned for an answer that is absent; no cause has this number
@@ -84,17 +86,28 @@ pub record EntryTold (answer : Result (Option EntryIndex)) (row : List ℕ) (num
 -- ---- lent lists: the number of rows that were filled is lent too
 
 pub record EntriesTold (answer : Result (List EntryIndex)) (out : Columns) (count number count′ : ℕ) (exits : Columns) : Type 0 where
-  pub told : ValueTold (andThen (judged (length (out .index)) answer) (λ es. ok (length es))) count number count′
-  pub slices : exits ≡ columnsAfter out (judged (length (out .index)) answer)
+  pub told : ValueTold (andThen (answered (recordsIn out) answer) (λ es. ok (length es))) count number count′
+  pub slices : exits ≡ columnsAfter out (answered (recordsIn out) answer)
+  -- the records of the list at exit are those that the rules leave there
+  pub records-are : recordsIn exits ≡ lentAfter (recordsIn out) (answered (recordsIn out) answer)
 
 pub record KeysTold (answer : Result (List KeyValue)) (lens out : List ℕ) (count number count′ : ℕ) (lens′ out′ : List ℕ) : Type 0 where
   pub told : ValueTold (andThen (answered (lentList lens out) answer) (λ rows. ok (length rows))) count number count′
   pub lens-are : lens′ ≡ lensAfter (answered (lentList lens out) answer) lens
   pub bytes-are : out′ ≡ bytesAfter (answered (lentList lens out) answer) out
+  -- and so are the rows of keys
+  pub rows-are : lentList lens′ out′ ≡ lentAfter (lentList lens out) (answered (lentList lens out) answer)
 
 pub record NumbersTold (answer : Result (List ℕ)) (lent : List ℕ) (count number count′ : ℕ) (lent′ : List ℕ) : Type 0 where
   pub told : ValueTold (andThen answer (λ rows. ok (length rows))) count number count′
   pub list-is : lent′ ≡ lentAfter lent answer
+
+-- the cleaned numbers of the index: the area stands for the index that the rules leave
+pub record CleanedTold (xs bs lent : List ℕ) (count number count′ : ℕ) (xs′ lent′ : List ℕ) : Type 0 where
+  pub told : ValueTold (andThen (takeCleaned lent (contextOf xs bs)) (λ rows. ok (length rows))) count number count′
+  pub list-is : lent′ ≡ lentAfter lent (takeCleaned lent (contextOf xs bs))
+  pub leaves : contextOf xs′ bs ≡ afterTaking (takeCleaned lent (contextOf xs bs)) (contextOf xs bs)
+  pub wf : Wf xs′ bs
 
 -- ---- a value, copied to the front of lent bytes
 

@@ -3,7 +3,7 @@ ghost use mathlib.Core.Path.{_≡_};
 ghost use Prim.Native.Nat.{_≤_};
 ghost use lib.ListN.{length};
 ghost use Rattle.cells.specs.Part.{put};
-ghost use Rattle.queries.specs.Answers.{numberAs, countAs, entryAs, someBeforeAs, fetchedAs};
+ghost use Rattle.queries.specs.Answers.{numberAs, countAs, entryAs, someBeforeAs, fetchedAs, takenAs};
 ghost use Rattle.galdnyrr.specs.Asked.{flagged, flagOf, rowOf, FoundTold, ValueTold, EntryTold};
 use cells::copy_in_u64;
 use pipe_log::EntryBlock;
@@ -13,11 +13,14 @@ use queries::Fetched;
 use queries::FoundEntry;
 use queries::FoundNumber;
 use queries::SomeBefore;
+use queries::Taken;
 
 // What is returned for an answer that is absent; no cause has this number.
 pub const ABSENT: u64 = 0xffff_ffff_ffff_ffff;
 
 // Document 01's numbers.
+pub const WRONG_KIND: u64 = 1;
+
 pub const GROUP_ABSENT: u64 = 9;
 
 pub const BAD_RANGE: u64 = 10;
@@ -69,6 +72,20 @@ pub fn tell_fetched(fetched: Fetched, count: &mut u64) -> u64
         Fetched::EntryCompacted => ENTRY_COMPACTED,
         Fetched::EntryNotFound => ENTRY_NOT_FOUND,
         Fetched::ListTooShort => LIST_TOO_SHORT,
+    }
+}
+
+// Tells how many cleaned numbers were handed out.
+pub fn tell_taken(taken: Taken, count: &mut u64) -> u64
+    ensures { λ r. ⌜ ValueTold (takenAs taken) (now (count .entry)) r (now (count .exit)) ⌝ }
+{
+    match taken {
+        Taken::Done(numbers) => {
+            *count = numbers as u64;
+            0
+        }
+        Taken::WrongKind => WRONG_KIND,
+        Taken::ListTooShort => LIST_TOO_SHORT,
     }
 }
 

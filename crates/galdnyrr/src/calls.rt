@@ -6,7 +6,7 @@ ghost use Rattle.rules.specs.Items.{Append};
 ghost use Rattle.rules.specs.Calls as rules·calls;
 ghost use Rattle.pipe_log.specs.Rows.{queueAt};
 ghost use Rattle.log_batch.specs.Lent.{batchOf};
-ghost use Rattle.contexts.specs.Contexts.{Wf, FreshArea};
+ghost use Rattle.contexts.specs.Contexts.{contextOf, Wf, FreshArea};
 ghost use Rattle.galdnyrr.specs.Told.{fileOf, gateOr, Told};
 use crate::numbers::file_of;
 use crate::numbers::gate_of;
@@ -36,6 +36,23 @@ pub extern "C" fn galdnyrr_replay_append(
     ensures { λ r. ⌜ ((seq : ℕ) → Told (rules·calls.replay (batchOf (record { queue = Append; seq = seq }) (now (items .entry)) (now (entries .entry)) (now (bytes .entry)))) (now (xs .entry)) (now (bs .entry)) r (now (place .exit)) (now (xs .exit)) (now (bs .exit))) ⌝ }
 {
     let answer = index::replay_append(xs, bs, items, entries, bytes);
+    tell(answer, place)
+}
+
+// Joins an Append context, which is only read, to a Rewrite context, which becomes the index.
+#[no_mangle]
+pub extern "C" fn galdnyrr_join(
+    xs: &mut [u64],
+    bs: &mut [u8],
+    ys: &[u64],
+    cs: &[u8],
+    place: &mut u64,
+) -> u64
+    requires { ⌜ Wf (now xs) (now bs) ⌝ }
+    requires { ⌜ Wf (now ys) (now cs) ⌝ }
+    ensures { λ r. ⌜ Told (rules·calls.join (contextOf (now (ys .entry)) (now (cs .entry)))) (now (xs .entry)) (now (bs .entry)) r (now (place .exit)) (now (xs .exit)) (now (bs .exit)) ⌝ }
+{
+    let answer = merging::join(xs, bs, ys, cs);
     tell(answer, place)
 }
 

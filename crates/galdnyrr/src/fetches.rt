@@ -1,8 +1,8 @@
-// Fetches of a group's records into lent slices, one for each field, for C and Rust.
+// Fetches of a group's records into lent slices, one for each field, for C and Rust. The lent list is as long as the shortest of them.
 ghost use Rattle.rules.specs.Causes.{ok};
 ghost use Rattle.rules.specs.TableQueries.{fetchEntriesTo, fetchEntryIndexesBefore, fetchRewrittenEntryIndexes};
 ghost use Rattle.rules.specs.Queries.{inGroup};
-ghost use Rattle.memtable.specs.Columns.{columns, SameLength};
+ghost use Rattle.memtable.specs.Columns.{columns};
 ghost use Rattle.contexts.specs.Contexts.{contextOf, Wf};
 ghost use Rattle.galdnyrr.specs.Told.{gateOr};
 ghost use Rattle.galdnyrr.specs.Asked.{EntriesTold};
@@ -30,7 +30,6 @@ pub extern "C" fn galdnyrr_fetch_entries_to(
     count: &mut u64,
 ) -> u64
     requires { ⌜ Wf (now xs) (now bs) ⌝ }
-    requires { ⌜ SameLength (columns (now index) (now queue) (now seq) (now offset) (now len) (now compression) (now «entry_offset») (now «entry_len»)) ⌝ }
     ensures { λ r. ⌜ EntriesTold (inGroup group (fetchEntriesTo begin end (gateOr sized «max_size»)) (contextOf (now (xs .entry)) (now (bs .entry)))) (columns (now (index .entry)) (now (queue .entry)) (now (seq .entry)) (now (offset .entry)) (now (len .entry)) (now (compression .entry)) (now («entry_offset» .entry)) (now («entry_len» .entry))) (now (count .entry)) r (now (count .exit)) (columns (now (index .exit)) (now (queue .exit)) (now (seq .exit)) (now (offset .exit)) (now (len .exit)) (now (compression .exit)) (now («entry_offset» .exit)) (now («entry_len» .exit))) ⌝ }
 {
     let fetched = queries::fetch_entries_to(
@@ -70,7 +69,6 @@ pub extern "C" fn galdnyrr_fetch_entry_indexes_before(
     count: &mut u64,
 ) -> u64
     requires { ⌜ Wf (now xs) (now bs) ⌝ }
-    requires { ⌜ SameLength (columns (now index) (now queue) (now seq) (now offset) (now len) (now compression) (now «entry_offset») (now «entry_len»)) ⌝ }
     ensures { λ r. ⌜ EntriesTold (inGroup group (λ t. ok (fetchEntryIndexesBefore gate t)) (contextOf (now (xs .entry)) (now (bs .entry)))) (columns (now (index .entry)) (now (queue .entry)) (now (seq .entry)) (now (offset .entry)) (now (len .entry)) (now (compression .entry)) (now («entry_offset» .entry)) (now («entry_len» .entry))) (now (count .entry)) r (now (count .exit)) (columns (now (index .exit)) (now (queue .exit)) (now (seq .exit)) (now (offset .exit)) (now (len .exit)) (now (compression .exit)) (now («entry_offset» .exit)) (now («entry_len» .exit))) ⌝ }
 {
     let fetched = queries::fetch_entry_indexes_before(
@@ -107,7 +105,6 @@ pub extern "C" fn galdnyrr_fetch_rewritten_entry_indexes(
     count: &mut u64,
 ) -> u64
     requires { ⌜ Wf (now xs) (now bs) ⌝ }
-    requires { ⌜ SameLength (columns (now index) (now queue) (now seq) (now offset) (now len) (now compression) (now «entry_offset») (now «entry_len»)) ⌝ }
     ensures { λ r. ⌜ EntriesTold (inGroup group (λ t. ok (fetchRewrittenEntryIndexes t)) (contextOf (now (xs .entry)) (now (bs .entry)))) (columns (now (index .entry)) (now (queue .entry)) (now (seq .entry)) (now (offset .entry)) (now (len .entry)) (now (compression .entry)) (now («entry_offset» .entry)) (now («entry_len» .entry))) (now (count .entry)) r (now (count .exit)) (columns (now (index .exit)) (now (queue .exit)) (now (seq .exit)) (now (offset .exit)) (now (len .exit)) (now (compression .exit)) (now («entry_offset» .exit)) (now («entry_len» .exit))) ⌝ }
 {
     let fetched = queries::fetch_rewritten_entry_indexes(

@@ -4,6 +4,7 @@ mod all;
 mod answers;
 mod asked;
 mod calls;
+mod cleaned;
 mod fetches;
 mod keys;
 mod numbers;

@@ -10,7 +10,7 @@ use native.Mathlib.Omega.{arith}
 use lib.Dec.{eqb, leb, ltb}
 use lib.ListN.{length, getD, drop}
 use lib.Seq.{getD-drop}
-use borrow.Author.Tests.{lt-ltb, le-ltb, eq-eqb}
+use borrow.Author.Tests.{lt-ltb, le-ltb, eq-eqb, ne-eqb}
 use Rattle.cells.specs.Part.{part}
 use Rattle.cells.specs.PartLaws.{getD-part}
 use Rattle.maps.specs.Lists.{any, every}
@@ -18,7 +18,7 @@ use Rattle.maps.specs.ListLaws.{any-append, every-append}
 use Rattle.maps.specs.Maps.{Pair, Map}
 use Rattle.maps.specs.MapLaws.{pair}
 use Rattle.maps.specs.OrderLaws.{split}
-use Rattle.maps.specs.BoolLaws.{both}
+use Rattle.maps.specs.BoolLaws.{clash, both}
 use Rattle.maps.specs.CellLaws.{every-mapOf}
 use Rattle.rules.specs.Items as rules
 use Rattle.rules.specs.Table.{Table}
@@ -29,6 +29,7 @@ use Rattle.log_batch.specs.declared.open.Opened.{Opened}
 use Rattle.log_batch.specs.Lent.{itemIf, openedEntries, openedPut, openedDel, openedRow, itemOf, openedOf, itemAt, itemsFrom}
 use Rattle.log_batch.specs.OpenLaws.{items-snoc}
 use Rattle.stores.specs.Stores.{storeItems}
+use Rattle.stores.specs.Tags.{Tagged}
 use Rattle.stretch.specs.Stretch.{isUsed, groupIn, tableIn}
 use Rattle.groups.specs.Area.{slots, numbersInUse, bytesInUse, stretchAt, bytesAt, cells, groupsOf}
 use Rattle.groups.specs.AreaLaws.{length-cells, getD-cells}
@@ -36,8 +37,13 @@ use Rattle.groups.specs.Laws.{used-cell, free-cell}
 use Rattle.lists.specs.Rest.{tombstoneStore, tombstoneArea, tombstonesIn, restOf}
 use Rattle.lists.specs.Rest as lists
 use Rattle.lists.specs.Laws.{tombstones-fit}
-use Rattle.contexts.specs.Contexts.{restAt, contextOf, Wf}
-use Rattle.merging.specs.Modes.{stretchNumber, tombstoneNumber, numberAt, firsts, placeCount}
+use Rattle.contexts.specs.Contexts.{waitingNumbers, waitingBytes, restAt, contextOf, Wf}
+use Rattle.waiting.specs.Rooms.{headAt, countIn, cellOf, waitingIn}
+use Rattle.waiting.specs.Rooms as waiting
+use Rattle.waiting.specs.Layout.{roomOf, waitingOf, RoomWf}
+use Rattle.waiting.specs.Accepts.{tagged}
+use Rattle.merging.specs.Modes.{stretchNumber, tombstoneNumber, waitingNumber, numberAt, firsts, placeCount}
+use Rattle.merging.proofs.PartWays.{in-cell, count-is, cells-count, cell-at}
 
 -- ---- a number of place i is among those of the first n places
 
@@ -123,11 +129,11 @@ module _ (xs bs ys cs : List ℕ) (w : lists.Wf (drop numbersInUse ys) (drop byt
   abbrev rest : List ℕ
   rest = drop numbersInUse ys
 
-  tombstone-place : (j : ℕ) → j < getD rest 1 0 → numberAt xs ys (j + 16) ≡ getD rest (67 + j * 9) 0 ∷ []
+  tombstone-place : (j : ℕ) → j < getD rest 1 0 → j < 64 → numberAt xs ys (j + 16) ≡ getD rest (67 + j * 9) 0 ∷ []
   unfolding numberAt tombstoneNumber
-  tombstone-place j l =
+  tombstone-place j l h =
       let e : j + 16 - 16 ≡ j = omega arith in
-      rw (le-ltb (j + 16) 8 (omega arith), le-ltb (j + 16) 16 (omega arith), e, lt-ltb j (getD rest 1 0) l)
+      rw (le-ltb (j + 16) 8 (omega arith), le-ltb (j + 16) 16 (omega arith), lt-ltb (j + 16) 80 (omega arith), e, lt-ltb j (getD rest 1 0) l)
 
   -- the group of tombstone j, as it is read
   tombstone-group : (es bs : List ℕ) (j : ℕ) → j < 64 → itemAt es bs (drop (j * 9) (part 67 576 rest)) .group ≡ getD rest (67 + j * 9) 0
@@ -140,23 +146,54 @@ module _ (xs bs ys cs : List ℕ) (w : lists.Wf (drop numbersInUse ys) (drop byt
   tombstone-there es bs j l =
       let f = tombstones-fit rest (drop bytesInUse cs) w in
       in-firsts (numberAt xs ys) (itemAt es bs (drop (j * 9) (part 67 576 rest)) .group) placeCount (j + 16) (omega arith)
-      (rw (tombstone-place j l, tombstone-group es bs j (omega arith)) (in-one (getD rest (67 + j * 9) 0)))
+      (rw (tombstone-place j l (omega arith), tombstone-group es bs j (omega arith)) (in-one (getD rest (67 + j * 9) 0)))
 
   tombstones-there : every (λ (it : rules.LogItem). isIn (it .group) (gs xs bs ys cs)) (tombstonesIn rest (drop bytesInUse cs)) ≡ true
   unfolding tombstonesIn storeItems tombstoneStore tombstoneArea
   tombstones-there = every-items (λ (it : rules.LogItem). isIn (it .group) (gs xs bs ys cs)) [] _ (part 67 576 rest) (getD rest 1 0) (λ j l. tombstone-there [] _ j l)
 
-none-in : (gs : List ℕ) (w : Map ℕ (List Part)) → w ≡ [] → every (λ p. isIn (p .key) gs) w ≡ true
-unfolding every
-none-in gs w e = rw e
+-- ---- the waiting parts
+
+module _ (xs bs ys cs : List ℕ) (w : RoomWf 16 (waitingNumbers ys) (waitingBytes cs)) where
+  abbrev room : List ℕ
+  room = waitingNumbers ys
+
+  waiting-place : (k : ℕ) → k < 16 → (getD room (2 + k * 10) 0 ≡ 0 → ⊥) → numberAt xs ys (k + 80) ≡ getD room (2 + k * 10 + 1) 0 ∷ []
+  unfolding numberAt waitingNumber
+  waiting-place k l n =
+      let e : k + 80 - 80 ≡ k = omega arith in
+      rw (le-ltb (k + 80) 8 (omega arith), le-ltb (k + 80) 16 (omega arith), le-ltb (k + 80) 80 (omega arith), e, ne-eqb (getD room (2 + k * 10) 0) 0 n)
+
+  waiting-there : (k : ℕ) → k < 16 → (countIn (headAt k (part 2 160 room)) ≡ 0 → ⊥) → isIn (waiting.groupIn (headAt k (part 2 160 room))) (gs xs bs ys cs) ≡ true
+  unfolding waiting.groupIn
+  waiting-there k l n =
+      let g = in-cell room k 1 l (omega arith) in
+      in-firsts (numberAt xs ys) _ placeCount (k + 80) (omega arith)
+      (rw (waiting-place k l (λ z. n (count-is room k l ∙ z)), g) (in-one (getD room (2 + k * 10 + 1) 0)))
+
+  some-cell : (h : List ℕ) (ts : List Tagged) (p : Pair ℕ (List Part)) → cellOf h ts ≡ some p → (countIn h ≡ 0 → ⊥) × (waiting.groupIn h ≡ p .key)
+  unfolding cellOf
+  some-cell h ts p e =
+      split (eqb (countIn h) 0)
+      (λ z. absurd (Option·none-ne-some p (rw z at e)))
+      (λ z. ((λ n. clash (sym z ∙ eq-eqb (countIn h) 0 n)), ap (λ (q : Pair ℕ (List Part)). q .key) (Option·some-injective _ p (rw z at e))))
+
+  waiting-in : every (λ p. isIn (p .key) (gs xs bs ys cs)) (waitingOf (waitingNumbers ys) (waitingBytes cs)) ≡ true
+  unfolding waitingOf waitingIn roomOf
+  waiting-in =
+      every-mapOf (λ p. isIn (p .key) (gs xs bs ys cs)) _ (λ i p l e.
+      let n = cells-count room (waitingBytes cs) w in
+      let h : i < 16 = omega (arith, n) in
+      let s = some-cell (headAt i (part 2 160 room)) (tagged room (waitingBytes cs)) p (sym (cell-at room (waitingBytes cs) w i h) ∙ e) in
+      rw (← s .1) (waiting-there i h (s .0)))
 
 -- the numbers of the places cover
-pub places-cover : (xs bs ys cs : List ℕ) → Wf ys cs → contextOf ys cs .waiting ≡ [] → Covers (firsts (numberAt xs ys) placeCount) (contextOf ys cs) (contextOf xs bs)
+pub places-cover : (xs bs ys cs : List ℕ) → Wf ys cs → Covers (firsts (numberAt xs ys) placeCount) (contextOf ys cs) (contextOf xs bs)
 unfolding contextOf restAt withWaiting withGroups restOf
-places-cover xs bs ys cs w e =
+places-cover xs bs ys cs w =
     record {
       older-groups = cells-in xs bs ys cs xs bs (older-there xs bs ys cs);
       newer-groups = cells-in xs bs ys cs ys cs (newer-there xs bs ys cs);
       newer-tombstones = tombstones-there xs bs ys cs (w .rest);
-      newer-waiting = none-in (firsts (numberAt xs ys) placeCount) _ e;
+      newer-waiting = waiting-in xs bs ys cs (w .waiting .room);
     }

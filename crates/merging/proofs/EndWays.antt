@@ -21,7 +21,7 @@ use Rattle.lists.specs.Laws.{lengths}
 use Rattle.contexts.specs.Contexts.{restAt, contextOf, waitingNumbers, waitingBytes, Wf}
 use Rattle.worktable.specs.declared.Mode.{Mode}
 use Rattle.worktable.specs.declared.Mode.the-variants as mode
-use Rattle.merging.specs.Modes.{restBy, clashBy, countsFit, countsOf, Few, Given}
+use Rattle.merging.specs.Modes.{restBy, clashBy, countsFit, countsOf, Few, Plain}
 
 -- ---- the refusal of a group
 
@@ -78,7 +78,7 @@ few-counts xs bs w =
 
 -- ---- the limits of the rest are those of the lists
 
-module _ (m : Mode) (xs bs ys cs : List ℕ) (g : Given m xs bs ys cs) where
+module _ (m : Mode) (xs bs ys cs : List ℕ) (g : Plain m xs bs ys cs) where
   abbrev c : Context
   c = contextOf xs bs
 
@@ -89,17 +89,17 @@ module _ (m : Mode) (xs bs ys cs : List ℕ) (g : Given m xs bs ys cs) where
   unfolding contextOf restAt withWaiting withGroups restOf countsOf
   tombstones-length =
       length-append (tombstonesIn (drop 9376 xs) (drop 16384 bs)) (tombstonesIn (drop 9376 ys) (drop 16384 cs))
-      ∙ rw (lengths (drop 9376 xs) (drop 16384 bs) (g .wf .rest) .0, lengths (drop 9376 ys) (drop 16384 cs) (g .newer-wf .rest) .0)
+      ∙ rw (lengths (drop 9376 xs) (drop 16384 bs) (g .given .wf .rest) .0, lengths (drop 9376 ys) (drop 16384 cs) (g .given .newer-wf .rest) .0)
 
   cleaned-length : length (c .cleaned ++ newer .cleaned) ≡ countsOf xs .cleaned + countsOf ys .cleaned
   unfolding contextOf restAt withWaiting withGroups restOf countsOf
   cleaned-length =
       length-append (cleanedIn (drop 9376 xs)) (cleanedIn (drop 9376 ys))
-      ∙ rw (lengths (drop 9376 xs) (drop 16384 bs) (g .wf .rest) .1, lengths (drop 9376 ys) (drop 16384 cs) (g .newer-wf .rest) .1)
+      ∙ rw (lengths (drop 9376 xs) (drop 16384 bs) (g .given .wf .rest) .1, lengths (drop 9376 ys) (drop 16384 cs) (g .given .newer-wf .rest) .1)
 
   waits-fit : waitingFits (c .waiting) ≡ true
   unfolding contextOf restAt withWaiting withGroups
-  waits-fit = g .wf .waiting .fits
+  waits-fit = g .given .wf .waiting .fits
 
   no-tombs : finishedTombs (newer .waiting) (c .waiting) ≡ []
   unfolding finishedTombs
@@ -116,7 +116,7 @@ module _ (m : Mode) (xs bs ys cs : List ℕ) (g : Given m xs bs ys cs) where
   joined-fits = rw cleaned-length (sym (and-true (countsOf xs) (countsOf ys) _))
 
 -- the limits of the rest are those of the lists
-pub rest-fits : (m : Mode) (xs bs ys cs : List ℕ) → Given m xs bs ys cs → restFits (restBy m (contextOf ys cs) (contextOf xs bs)) ≡ countsFit m (countsOf xs) (countsOf ys)
+pub rest-fits : (m : Mode) (xs bs ys cs : List ℕ) → Plain m xs bs ys cs → restFits (restBy m (contextOf ys cs) (contextOf xs bs)) ≡ countsFit m (countsOf xs) (countsOf ys)
 unfolding restBy countsFit
 rest-fits mode.Append xs bs ys cs g = merged-fits mode.Append xs bs ys cs g
 rest-fits mode.Rewrite xs bs ys cs g = merged-fits mode.Rewrite xs bs ys cs g

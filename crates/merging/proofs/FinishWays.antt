@@ -33,8 +33,8 @@ use Rattle.worktable.specs.declared.Mode.the-variants as mode
 use Rattle.merging.specs.declared.Flags.{Flags}
 use Rattle.merging.specs.Staging.{noFlags, Ready, Beside, Staging, Begun, Sealed}
 use Rattle.merging.specs.StagingLaws.{begun-staged, begun-ready, begun-beside, sealed-undoable, sealed-beside, sealed-groups}
-use Rattle.merging.specs.Modes.{olderKind, newerKind, restBy, clashBy, callBy, groupBy, countsFit, countsOf, Given, Worked, numberAt, firsts}
-use Rattle.merging.specs.ModeLaws.{beside-context, beside-wf, beside-given, call-kept, worked-clashed, worked-passed, worked-ok}
+use Rattle.merging.specs.Modes.{olderKind, newerKind, restBy, clashBy, callBy, groupBy, countsFit, countsOf, Given, Plain, Worked, numberAt, firsts}
+use Rattle.merging.specs.ModeLaws.{beside-plain, beside-context, beside-wf, beside-given, call-kept, worked-clashed, worked-passed, worked-ok}
 use Rattle.merging.specs.Growth.{Growable, RestBecomes, Taken}
 use Rattle.merging.proofs.CoverLaws.{places-cover}
 use Rattle.merging.proofs.EndWays.{rest-fits}
@@ -52,9 +52,9 @@ rest-by mode.Append newer xs bs = refl
 rest-by mode.Rewrite newer xs bs = refl
 rest-by mode.Join newer xs bs = refl
 
-module _ (m : Mode) (xs bs ys cs xs₁ : List ℕ) (g : Given m xs bs ys cs) (r : Ready xs bs) (s : Sealed slots xs xs₁) where
+module _ (m : Mode) (xs bs ys cs xs₁ : List ℕ) (g : Plain m xs bs ys cs) (r : Ready xs bs) (s : Sealed slots xs xs₁) where
   pub sealed-wf : groups.Wf xs₁ bs
-  sealed-wf = beside-wf (sealed-beside xs bs xs₁ r s) (g .wf) .groups
+  sealed-wf = beside-wf (sealed-beside xs bs xs₁ r s) (g .given .wf) .groups
 
   module _ (xs₂ bs₂ : List ℕ) (u : Undone xs₁ bs xs₂ bs₂) where
     numbers-stay : drop numbersInUse xs₂ ≡ drop numbersInUse xs
@@ -71,9 +71,9 @@ module _ (m : Mode) (xs bs ys cs xs₁ : List ℕ) (g : Given m xs bs ys cs) (r 
     unfolding countsOf
     undone-growable e =
         record {
-          rest = rw (numbers-stay, u .behind-bytes) (g .wf .rest);
-          waiting = room-wf xs bs xs₂ bs₂ room-stays (g .wf .waiting);
-          newer-rest = g .newer-wf .rest;
+          rest = rw (numbers-stay, u .behind-bytes) (g .given .wf .rest);
+          waiting = room-wf xs bs xs₂ bs₂ room-stays (g .given .wf .waiting);
+          newer-rest = g .given .newer-wf .rest;
           none-waits = g .none-waits;
           fit = rw numbers-stay e;
         }
@@ -99,7 +99,7 @@ module _ (m : Mode) (xs bs ys cs xs₁ : List ℕ) (g : Given m xs bs ys cs) (r 
 
 -- ---- the answer
 
-module _ (m : Mode) (f : Flags) (xs bs ys cs : List ℕ) (g : Given m xs bs ys cs) (w : Worked m f xs bs ys cs) where
+module _ (m : Mode) (f : Flags) (xs bs ys cs : List ℕ) (g : Plain m xs bs ys cs) (w : Worked m f xs bs ys cs) where
   abbrev call : Context → Result Context
   call = callBy m (contextOf ys cs)
 
@@ -109,7 +109,7 @@ module _ (m : Mode) (f : Flags) (xs bs ys cs : List ℕ) (g : Given m xs bs ys c
       record {
         answers = rw e (sym h);
         leaves = sym (ap (left (contextOf xs bs)) h);
-        formed = formed-of xs bs (g .wf);
+        formed = formed-of xs bs (g .given .wf);
       }
 
   pub finish-clashed : (n : ℕ) → f .clashed ≡ true → n ≡ numberOf (clashBy m) → Answered call xs bs (answer.Refused n position.None) xs bs
@@ -136,25 +136,28 @@ module _ (m : Mode) (f : Flags) (xs bs ys cs : List ℕ) (g : Given m xs bs ys c
 
 -- ---- the call as a whole
 
-module _ (m : Mode) (xs bs ys cs xs₁ : List ℕ) (g : Given m xs bs ys cs) (b : Begun slots xs xs₁) where
+module _ (m : Mode) (xs bs ys cs xs₁ : List ℕ) (g : Plain m xs bs ys cs) (b : Begun slots xs xs₁) where
   long : liveNumbers + numbersInUse ≤ length xs
-  long = omega (arith, area-length xs bs (formed-of xs bs (g .wf)))
+  long = omega (arith, area-length xs bs (formed-of xs bs (g .given .wf)))
 
   long-bytes : liveBytes + bytesInUse ≤ length bs
-  long-bytes = omega (arith, area-bytes xs bs (formed-of xs bs (g .wf)))
+  long-bytes = omega (arith, area-bytes xs bs (formed-of xs bs (g .given .wf)))
 
   beside : Beside xs bs xs₁ bs
   beside = begun-beside xs bs xs₁ long long-bytes b
 
   pub begun-given : Given m xs₁ bs ys cs
-  begun-given = beside-given m xs bs xs₁ bs ys cs beside g
+  begun-given = beside-given m xs bs xs₁ bs ys cs beside (g .given)
+
+  begun-plain : Plain m xs₁ bs ys cs
+  begun-plain = beside-plain m xs bs xs₁ bs ys cs beside g
 
   pub begun-is-ready : Ready xs₁ bs
   begun-is-ready = begun-ready xs bs xs₁ long long-bytes b
 
-  module _ (f : Flags) (xs₂ bs₂ : List ℕ) (s : Staging (groupBy m (contextOf ys cs) (contextOf xs₁ bs)) (firsts (numberAt xs₁ ys) 80) noFlags xs₁ bs f xs₂ bs₂) where
-    pub staged-given : Given m xs₂ bs₂ ys cs
-    staged-given = beside-given m xs₁ bs xs₂ bs₂ ys cs (s .beside) begun-given
+  module _ (f : Flags) (xs₂ bs₂ : List ℕ) (s : Staging (groupBy m (contextOf ys cs) (contextOf xs₁ bs)) (firsts (numberAt xs₁ ys) 96) noFlags xs₁ bs f xs₂ bs₂) where
+    pub staged-plain : Plain m xs₂ bs₂ ys cs
+    staged-plain = beside-plain m xs₁ bs xs₂ bs₂ ys cs (s .beside) begun-plain
 
     context-stays : contextOf xs₂ bs₂ ≡ contextOf xs₁ bs
     context-stays = beside-context (s .beside) (begun-given .wf)
@@ -162,25 +165,25 @@ module _ (m : Mode) (xs bs ys cs xs₁ : List ℕ) (g : Given m xs bs ys cs) (b 
     pub staged-worked : Worked m f xs₂ bs₂ ys cs
     staged-worked =
         record {
-          numbers = firsts (numberAt xs₁ ys) 80;
-          cover = rw context-stays (places-cover xs₁ bs ys cs (g .newer-wf) (g .none-waits));
+          numbers = firsts (numberAt xs₁ ys) 96;
+          cover = rw context-stays (places-cover xs₁ bs ys cs (g .given .newer-wf));
           staged = s .staged ∙ rw (context-stays, begun-staged xs bs xs₁ long long-bytes b);
         }
 
     pub carried-out : (r : Answer) (xs′ bs′ : List ℕ) → Answered (callBy m (contextOf ys cs)) xs₂ bs₂ r xs′ bs′ → Called (callBy m (contextOf ys cs)) xs bs r xs′ bs′
     carried-out r xs′ bs′ a =
-        let e : contextOf xs₂ bs₂ ≡ contextOf xs bs = context-stays ∙ beside-context beside (g .wf) in
-        answered-called (callBy m (contextOf ys cs)) xs bs r xs′ bs′ (g .wf)
-        (λ d k. call-kept m (contextOf ys cs) (contextOf xs bs) d (g .newer-wf .kept) (g .wf .kept) k)
+        let e : contextOf xs₂ bs₂ ≡ contextOf xs bs = context-stays ∙ beside-context beside (g .given .wf) in
+        answered-called (callBy m (contextOf ys cs)) xs bs r xs′ bs′ (g .given .wf)
+        (λ d k. call-kept m (contextOf ys cs) (contextOf xs bs) d (g .given .newer-wf .kept) (g .given .wf .kept) k)
         (record { answers = rw e at (a .answers); leaves = rw e at (a .leaves); formed = a .formed })
 
 -- ---- two Append contexts
 
 module _ (xs bs ys cs : List ℕ) where
-  pub append-given : Wf xs bs → Wf ys cs → contextOf xs bs .kind ≡ context Append → contextOf ys cs .kind ≡ context Append → Given mode.Append xs bs ys cs
+  pub append-plain : Wf xs bs → Wf ys cs → contextOf xs bs .kind ≡ context Append → contextOf ys cs .kind ≡ context Append → Plain mode.Append xs bs ys cs
   unfolding olderKind newerKind
-  append-given w v k l =
-      record { wf = w; newer-wf = v; kind = k; newer-kind = l; none-waits = append-waits (contextOf ys cs) (v .kept) l }
+  append-plain w v k l =
+      record { given = record { wf = w; newer-wf = v; kind = k; newer-kind = l }; none-waits = append-waits (contextOf ys cs) (v .kept) l }
 
   pub append-called : (r : Answer) (xs′ bs′ : List ℕ) → Called (callBy mode.Append (contextOf ys cs)) xs bs r xs′ bs′ → Called (merge (contextOf ys cs)) xs bs r xs′ bs′
   unfolding callBy
@@ -223,12 +226,12 @@ module _ (xs bs ys cs : List ℕ) (o n : Kind) (p : o ≡ kindOf (getD (take (le
       (λ d k. absurd (refused-not-ok (sym h ∙ k)))
       (record { answers = sym h; leaves = sym (ap (left (contextOf xs bs)) h); formed = formed-of xs bs w })
 
-  pub join-given : Wf xs bs → Wf ys cs → (isContext Append n && isContext Rewrite o) ≡ true → Given mode.Join xs bs ys cs
+  pub join-plain : Wf xs bs → Wf ys cs → (isContext Append n && isContext Rewrite o) ≡ true → Plain mode.Join xs bs ys cs
   unfolding olderKind newerKind
-  join-given w v e =
+  join-plain w v e =
       let a : contextOf ys cs .kind ≡ context Append = kind-is ys cs n q ∙ context-of Append n (both-left (isContext Append n) (isContext Rewrite o) e) in
       let r : contextOf xs bs .kind ≡ context Rewrite = kind-is xs bs o p ∙ context-of Rewrite o (both-right (isContext Append n) (isContext Rewrite o) e) in
-      record { wf = w; newer-wf = v; kind = r; newer-kind = a; none-waits = append-waits (contextOf ys cs) (v .kept) a }
+      record { given = record { wf = w; newer-wf = v; kind = r; newer-kind = a }; none-waits = append-waits (contextOf ys cs) (v .kept) a }
 
 pub join-called : (xs bs ys cs : List ℕ) (r : Answer) (xs′ bs′ : List ℕ) → Called (callBy mode.Join (contextOf ys cs)) xs bs r xs′ bs′ → Called (join (contextOf ys cs)) xs bs r xs′ bs′
 unfolding callBy

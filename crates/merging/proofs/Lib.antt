@@ -2,10 +2,14 @@
 pub mod Beginning
 pub mod Settling
 pub mod NumberWays
-pub mod CoverLaws
 pub mod EndWays
 pub mod TombWays
+pub mod ReplayWays
+pub mod PartWays
+pub mod CoverLaws
 pub mod WorkWays
+pub mod FinishingWays
+pub mod GroupWays
 pub mod StageWays
 pub mod TurnWays
 pub mod GrowthWays

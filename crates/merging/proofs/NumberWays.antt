@@ -9,13 +9,13 @@ use lib.Dec.{ltb}
 use lib.ListN.{length, getD, take, drop}
 use borrow.Author.Tests.{lt-ltb, ne-eqb, le-ltb}
 use borrow.Rule.Slice.PartAt.{part-to-end}
-use Rattle.cells.specs.PartLaws.{getD-part}
+use Rattle.cells.specs.PartLaws.{part-is, getD-part}
 use Rattle.stretch.specs.Layout.{stretchWidth}
 use Rattle.stretch.specs.Stretch.{isUsed, groupIn}
 use Rattle.groups.specs.Area.{numbersInUse, stretchAt}
 use Rattle.merging.specs.declared.Number.{Number}
 use Rattle.merging.specs.declared.Number.the-variants as number
-use Rattle.merging.specs.Modes.{stretchNumber, tombstoneNumber, numberAt, numbersOf}
+use Rattle.merging.specs.Modes.{stretchNumber, tombstoneNumber, waitingNumber, numberAt, numbersOf}
 
 -- a number of stretch k
 pub in-stretch : (k i : ℕ) (xs : List ℕ) → i < stretchWidth → getD (stretchAt k xs) i 0 ≡ getD xs (k * stretchWidth + i) 0
@@ -43,6 +43,15 @@ module _ (j : ℕ) (ys : List ℕ) where
   unfolding tombstoneNumber numbersOf
   tombstone-not l = rw (le-ltb j (getD ys 1 0) l)
 
+module _ (k : ℕ) (ws : List ℕ) where
+  pub waiting-none : getD ws (2 + k * 10) 0 ≡ 0 → numbersOf number.None ≡ waitingNumber k ws
+  unfolding waitingNumber numbersOf
+  waiting-none e = rw e
+
+  pub waiting-there : (getD ws (2 + k * 10) 0 ≡ 0 → ⊥) → numbersOf (number.Of (getD ws (2 + k * 10 + 1) 0)) ≡ waitingNumber k ws
+  unfolding waitingNumber numbersOf
+  waiting-there n = rw (ne-eqb (getD ws (2 + k * 10) 0) 0 n)
+
 module _ (xs ys : List ℕ) (i : ℕ) (r : Number) where
   pub older-number : i < 8 → numbersOf r ≡ stretchNumber i xs → numbersOf r ≡ numberAt xs ys i
   unfolding numberAt
@@ -52,6 +61,10 @@ module _ (xs ys : List ℕ) (i : ℕ) (r : Number) where
   unfolding numberAt
   newer-number h l e = rw (le-ltb i 8 h, lt-ltb i 16 l) e
 
-  pub tombstone-number : 16 ≤ i → numbersOf r ≡ tombstoneNumber (i - 16) (take (length ys - 9376) (drop 9376 ys)) → numbersOf r ≡ numberAt xs ys i
+  pub of-tombstone : 16 ≤ i → i < 80 → numbersOf r ≡ tombstoneNumber (i - 16) (take (length ys - 9376) (drop 9376 ys)) → numbersOf r ≡ numberAt xs ys i
   unfolding numberAt
-  tombstone-number h e = rw (le-ltb i 8 (omega arith), le-ltb i 16 h) (rw (part-to-end ys 9376) at e)
+  of-tombstone h l e = rw (le-ltb i 8 (omega arith), le-ltb i 16 h, lt-ltb i 80 l) (rw (part-to-end ys 9376) at e)
+
+  pub of-waiting : 80 ≤ i → numbersOf r ≡ waitingNumber (i - 80) (take 3490 (drop 10019 ys)) → numbersOf r ≡ numberAt xs ys i
+  unfolding numberAt
+  of-waiting h e = rw (le-ltb i 8 (omega arith), le-ltb i 16 (omega arith), le-ltb i 80 h) (rw (part-is 10019 3490 ys) at e)

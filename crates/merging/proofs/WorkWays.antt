@@ -42,7 +42,7 @@ use Rattle.merging.specs.Staging.{longNumbers, longBytes, Working}
 use Rattle.merging.specs.StagingLaws.{working-then}
 use Rattle.merging.specs.Modes.{newerKind, groupBy, Given}
 use Rattle.merging.specs.Works.{laidBy, Loaded, WorkedAs}
-use Rattle.merging.specs.WorkLaws.{laid-none, laid-some, group-is, newer-of, older-of, group-room}
+use Rattle.merging.specs.WorkLaws.{laid-none, laid-some, newer-of}
 
 -- ---- the long stretch, as it is lent
 
@@ -152,7 +152,7 @@ pub lent-bytes : (k : ℕ) (cs : List ℕ) → take (k * bytesWidth + bytesWidth
 unfolding bytesAt part
 lent-bytes k cs = let e : k * bytesWidth + bytesWidth - k * bytesWidth ≡ bytesWidth = omega arith in rw e
 
-context-groups : (xs bs : List ℕ) → contextOf xs bs .groups ≡ groupsOf xs bs
+pub context-groups : (xs bs : List ℕ) → contextOf xs bs .groups ≡ groupsOf xs bs
 unfolding contextOf restAt withWaiting withGroups
 context-groups xs bs = refl
 
@@ -183,28 +183,11 @@ module _ (m : Mode) (g : ℕ) (ys cs p b : List ℕ) (w : Wf ys cs) (slot : Slot
 -- ---- both
 
 module _ (g : ℕ) (ts : List _) (p b p′ b′ : List ℕ) (k : Becomes (tombed g ts (workIn p b)) p′ b′) where
-  pub buried-within : Within 64 16 (workIn p b) → Within 320 144 (workIn p′ b′)
-  buried-within w = rw (k .is) (within-more 64 16 320 144 (tombed g ts (workIn p b)) (omega arith) (omega arith) (tombed-room 64 16 g ts (workIn p b) w))
+  pub buried-within : Within 320 144 (workIn p b) → Within 320 144 (workIn p′ b′)
+  buried-within w = rw (k .is) (tombed-room 320 144 g ts (workIn p b) w)
 
   pub buried-for : (m : Mode) → OlderFor m (tombed g ts (workIn p b)) → OlderFor m (workIn p′ b′)
   buried-for m o = rw (k .is) o
 
   pub buried-laid : (m : Mode) (newer : Option Table) (r : Outcome) (p″ b″ : List ℕ) → Ends (laidBy m newer (workIn p′ b′)) r p″ b″ → Ends (laidBy m newer (tombed g ts (workIn p b))) r p″ b″
   buried-laid m newer r p″ b″ e = rw (k .is) at e
-
--- ---- the group
-
-module _ (m : Mode) (g : ℕ) (xs bs ys cs : List ℕ) (given : Given m xs bs ys cs) (xs′ bs′ : List ℕ) (l : Loaded (lookup numbers g (groupsOf xs bs)) xs bs xs′ bs′) where
-  pub loaded-room : Within 64 16 (workIn (drop longNumbers xs′) (drop longBytes bs′))
-  loaded-room = rw (l .becomes .is) (group-room g (groupsOf xs bs) (groups-fit xs bs (given .wf .groups) .1))
-
-  pub loaded-for : OlderFor m (tombed g (contextOf ys cs .tombstones) (workIn (drop longNumbers xs′) (drop longBytes bs′)))
-  loaded-for =
-      rw (l .becomes .is, ← context-groups xs bs) (older-of m (contextOf xs bs) g (contextOf ys cs .tombstones) (given .wf .kept) (given .kind))
-
-  pub group-worked : (r : Outcome) (p b : List ℕ) → length xs′ ≡ 17231 → length bs′ ≡ 38912 → Ends (laidBy m (lookup numbers g (groupsOf ys cs)) (tombed g (contextOf ys cs .tombstones) (workIn (drop longNumbers xs′) (drop longBytes bs′)))) r p b → WorkedAs (groupBy m (contextOf ys cs) (contextOf xs bs) g) xs bs r (putMid 13509 (length xs′ - 13509) xs′ p) (putMid 28672 (length bs′ - 28672) bs′ b)
-  group-worked r p b n k e =
-      record {
-        ends = rw (long-back xs′ p n (e .wf .numbers-are), lent-back xs′ p n (e .wf .numbers-are) bs′ b k (e .wf .bytes-are), group-is g (contextOf ys cs) (contextOf xs bs) (given .none-waits) m, context-groups ys cs, context-groups xs bs) (rw (l .becomes .is) at e);
-        working = working-then (l .working) (lent-working xs′ p n (e .wf .numbers-are) bs′ b k (e .wf .bytes-are));
-      }

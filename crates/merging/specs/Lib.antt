@@ -7,3 +7,5 @@ pub mod TombLaws
 pub mod Works
 pub mod WorkLaws
 pub mod Growth
+pub mod Replays
+pub mod Finishings

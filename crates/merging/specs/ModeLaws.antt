@@ -31,7 +31,7 @@ use Rattle.worktable.specs.declared.Mode.{Mode}
 use Rattle.worktable.specs.declared.Mode.the-variants as mode
 use Rattle.merging.specs.declared.Flags.{Flags}
 use Rattle.merging.specs.Staging.{between, betweenBytes, stagedIn, Beside}
-use Rattle.merging.specs.Modes.{olderKind, newerKind, groupBy, restBy, clashBy, callBy, Given, Worked}
+use Rattle.merging.specs.Modes.{olderKind, newerKind, groupBy, restBy, clashBy, callBy, Given, Plain, Worked}
 
 -- ---- the context stays
 
@@ -90,8 +90,10 @@ beside-given m xs bs xs′ bs′ ys cs b g =
       newer-wf = g .newer-wf;
       kind = ap (λ (c : Context). c .kind) (beside-context b (g .wf)) ∙ g .kind;
       newer-kind = g .newer-kind;
-      none-waits = g .none-waits;
     }
+
+pub beside-plain : (m : Mode) (xs bs xs′ bs′ ys cs : List ℕ) → Beside xs bs xs′ bs′ → Plain m xs bs ys cs → Plain m xs′ bs′ ys cs
+beside-plain m xs bs xs′ bs′ ys cs b g = record { given = beside-given m xs bs xs′ bs′ ys cs b (g .given); none-waits = g .none-waits }
 
 -- ---- the rules' call, read off the staged groups
 
@@ -113,10 +115,10 @@ call-kept mode.Append newer c d kn kc e = merge-kept newer c kn kc d e
 call-kept mode.Rewrite newer c d kn kc e = merge-kept newer c kn kc d e
 call-kept mode.Join newer c d kn kc e = join-kept newer c kn kc d e
 
-module _ (m : Mode) (f : Flags) (xs bs ys cs : List ℕ) (g : Given m xs bs ys cs) (w : Worked m f xs bs ys cs) where
+module _ (m : Mode) (f : Flags) (xs bs ys cs : List ℕ) (g : Plain m xs bs ys cs) (w : Worked m f xs bs ys cs) where
   pub worked-answer : callBy m (contextOf ys cs) (contextOf xs bs) ≡ answer (clashBy m) (restBy m (contextOf ys cs) (contextOf xs bs)) (stagedIn f xs bs)
   worked-answer =
-      call-answer (contextOf ys cs) (contextOf xs bs) (w .numbers) (g .newer-wf .kept) (g .wf .kept) (w .cover) (g .none-waits) m (g .newer-kind) (g .kind)
+      call-answer (contextOf ys cs) (contextOf xs bs) (w .numbers) (g .given .newer-wf .kept) (g .given .wf .kept) (w .cover) (g .none-waits) m (g .given .newer-kind) (g .given .kind)
       ∙ ap (answer (clashBy m) (restBy m (contextOf ys cs) (contextOf xs bs))) (sym (w .staged))
 
   pub worked-clashed : f .clashed ≡ true → callBy m (contextOf ys cs) (contextOf xs bs) ≡ refuse (clashBy m)

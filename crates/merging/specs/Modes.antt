@@ -4,7 +4,7 @@ use mathlib.Core.Option.{Option}
 use mathlib.Core.Path.{_≡_}
 use mathlib.Core.Bool.{Bool, cond, _&&_}
 use Prim.Native.Nat.{ℕ, zero, suc, _+_, _*_, _-_, _≤_}
-use lib.Dec.{leb, ltb}
+use lib.Dec.{eqb, leb, ltb}
 use lib.ListN.{getD, drop}
 use Rattle.rules.specs.Causes.{Cause, Result}
 use Rattle.rules.specs.Items.{Append, Rewrite}
@@ -15,7 +15,7 @@ use Rattle.rules_by_group.specs.Stage.{noneStaged, stageAll, mergedRest, merged
 use Rattle.stretch.specs.Stretch.{isUsed, groupIn}
 use Rattle.groups.specs.Area.{slots, numbersInUse, stretchAt}
 use Rattle.lists.specs.declared.Counts.{Counts}
-use Rattle.contexts.specs.Contexts.{contextOf, Wf}
+use Rattle.contexts.specs.Contexts.{waitingNumbers, contextOf, Wf}
 use Rattle.worktable.specs.declared.Mode.{Mode}
 use Rattle.worktable.specs.declared.Mode.the-variants as mode
 use Rattle.merging.specs.declared.Flags.{Flags}
@@ -63,7 +63,10 @@ pub record Given (m : Mode) (xs bs ys cs : List ℕ) : Type 0 where
   pub newer-wf : Wf ys cs
   pub kind : contextOf xs bs .kind ≡ olderKind m
   pub newer-kind : contextOf ys cs .kind ≡ newerKind m
-  -- nothing waits in the newer context
+
+-- the same, and nothing waits in the newer context
+pub record Plain (m : Mode) (xs bs ys cs : List ℕ) : Type 0 where
+  pub given : Given m xs bs ys cs
   pub none-waits : contextOf ys cs .waiting ≡ []
 
 -- all groups are staged
@@ -99,11 +102,16 @@ stretchNumber k xs = cond (isUsed (stretchAt k xs)) (groupIn (stretchAt k xs) �
 unfoldable pub tombstoneNumber : ℕ → List ℕ → List ℕ
 tombstoneNumber j ys = cond (ltb j (getD ys 1 0)) (getD ys (67 + j * 9) 0 ∷ []) []
 
--- place i: the older stretches, the newer stretches, the newer tombstones
+-- the group of cell k of a room, if it has parts
+unfoldable pub waitingNumber : ℕ → List ℕ → List ℕ
+waitingNumber k ws = cond (eqb (getD ws (2 + k * 10) 0) 0) [] (getD ws (2 + k * 10 + 1) 0 ∷ [])
+
+-- place i: the older stretches, the newer stretches, the newer tombstones, the newer cells of waiting parts
 unfoldable pub numberAt : List ℕ → List ℕ → ℕ → List ℕ
 numberAt xs ys i =
     cond (ltb i 8) (stretchNumber i xs)
-    (cond (ltb i 16) (stretchNumber (i - 8) ys) (tombstoneNumber (i - 16) (drop numbersInUse ys)))
+    (cond (ltb i 16) (stretchNumber (i - 8) ys)
+    (cond (ltb i 80) (tombstoneNumber (i - 16) (drop numbersInUse ys)) (waitingNumber (i - 80) (waitingNumbers ys))))
 
 -- the numbers of the first n places
 unfoldable pub firsts : (ℕ → List ℕ) → ℕ → List ℕ
@@ -111,7 +119,7 @@ firsts f zero = []
 firsts f (suc n) = firsts f n ++ f n
 
 abbrev pub placeCount : ℕ
-placeCount = 80
+placeCount = 96
 
 -- the number that was found, if any
 unfoldable pub numbersOf : number.Number → List ℕ

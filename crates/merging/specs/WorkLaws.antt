@@ -1,7 +1,7 @@
 -- What becomes of one group, step by step. Assumes nothing.
 use mathlib.Core.Bool.{true}
 use mathlib.Core.List.{List, []}
-use mathlib.Core.Option.{Option, none, some}
+use mathlib.Core.Option.{Option, none, some, Option·none-ne-some}
 use mathlib.Core.Path.{_≡_, refl, sym, ap, _∙_}
 use Prim.Native.Nat.{ℕ}
 use native.Mathlib.Omega.{arith}
@@ -16,8 +16,8 @@ use Rattle.rules.specs.Table.{Table, made, emptyTable}
 use Rattle.rules.specs.Context.{context, Part, Context, tableFits}
 use Rattle.rules_by_group.specs.Group.{Finished, partsOf, finishedOf, finishTable, layOver, mergedGroup, joinedGroup, tombed}
 use Rattle.rules_by_group.specs.Stage.{mergedAt, joinedAt}
-use Rattle.rules_by_group.specs.Kept.{Kept}
-use Rattle.rules_by_group.specs.KindLaws.{queue-table, rewrite-made}
+use Rattle.rules_by_group.specs.Kept.{entryBy, Kept}
+use Rattle.rules_by_group.specs.KindLaws.{append-waits, own-made, queue-table}
 use Rattle.rules_by_group.specs.EntryLaws.{tombed-meets}
 use Rattle.rules_by_group.specs.ResultLaws.{byOption}
 use Rattle.rules_by_group.specs.RoomLaws.{Within, within-more, table-room, tombed-room}
@@ -26,6 +26,8 @@ use Rattle.worktable.specs.declared.Mode.the-variants as mode
 use Rattle.worktable.specs.Calls.{laidOver, newerQueue, AllOf, OlderFor, Layable}
 use Rattle.merging.specs.Modes.{olderKind, newerKind, groupBy}
 use Rattle.merging.specs.Works.{laidBy}
+use Rattle.merging.specs.Replays.{ofRewrite}
+use Rattle.merging.specs.Finishings.{finishedAt}
 
 -- ---- a newer table laid over
 
@@ -41,18 +43,25 @@ laid-some mode.Append t o = refl
 laid-some mode.Rewrite t o = refl
 laid-some mode.Join t o = refl
 
--- ---- the group, where nothing waits in the newer context
+-- ---- the group
 
-none-finishes : (g : ℕ) (w : Map ℕ (List Part)) (o : Option (List Part)) → w ≡ [] → finishedOf (lookup numbers g w) o ≡ none
-unfolding finishedOf partsOf lookup orElse last
-none-finishes g w o e = rw e
+nothing-finishes : (g : ℕ) (newer c : Context) → newer .waiting ≡ [] → finishedAt g newer c ≡ none
+unfolding finishedAt finishedOf partsOf lookup orElse last
+nothing-finishes g newer c e = rw e
 
-module _ (g : ℕ) (newer c : Context) (none-waits : newer .waiting ≡ []) where
-  pub group-is : (m : Mode) → groupBy m newer c g ≡ laidBy m (lookup numbers g (newer .groups)) (tombed g (newer .tombstones) (lookup numbers g (c .groups)))
-  unfolding groupBy laidBy mergedAt joinedAt mergedGroup joinedGroup finishTable andThen
-  group-is mode.Append = rw (none-finishes g (newer .waiting) (lookup numbers g (c .waiting)) none-waits)
-  group-is mode.Rewrite = rw (none-finishes g (newer .waiting) (lookup numbers g (c .waiting)) none-waits)
-  group-is mode.Join = refl
+module _ (g : ℕ) (newer c : Context) (k : Kept newer) where
+  pub group-is : (m : Mode) → newer .kind ≡ newerKind m → groupBy m newer c g ≡ andThen (finishTable (finishedAt g newer c) (lookup numbers g (c .groups))) (λ o. laidBy m (lookup numbers g (newer .groups)) (tombed g (newer .tombstones) o))
+  unfolding groupBy laidBy mergedAt joinedAt mergedGroup newerKind
+  group-is mode.Append e = unfold finishedAt in refl
+  group-is mode.Rewrite e = unfold finishedAt in refl
+  group-is mode.Join e = rw (nothing-finishes g newer c (append-waits newer k e)) (unfold finishTable andThen joinedGroup in refl)
+
+  -- a part finishes in a Rewrite context alone
+  pub finishes-in : (m : Mode) → newer .kind ≡ newerKind m → c .kind ≡ olderKind m → (f : Finished) → finishedAt g newer c ≡ some f → c .kind ≡ context Rewrite
+  unfolding newerKind olderKind
+  finishes-in mode.Append e o f h = absurd (Option·none-ne-some f (sym (nothing-finishes g newer c (append-waits newer k e)) ∙ h))
+  finishes-in mode.Rewrite e o f h = o
+  finishes-in mode.Join e o f h = o
 
 -- ---- what laying over asks
 
@@ -65,11 +74,11 @@ newer-queue mode.Join = refl
 pub newer-of : (m : Mode) (newer : Context) (g : ℕ) (t : Table) → Kept newer → newer .kind ≡ newerKind m → lookup numbers g (newer .groups) ≡ some t → AllOf (newerQueue m) (t .entries)
 newer-of m newer g t k e l = queue-table (newerQueue m) newer k (e ∙ newer-queue m) g t l
 
-pub older-of : (m : Mode) (c : Context) (g : ℕ) (xs : List _) → Kept c → c .kind ≡ olderKind m → OlderFor m (tombed g xs (lookup numbers g (c .groups)))
-unfolding OlderFor olderKind
-older-of mode.Append c g xs k e = tt
-older-of mode.Rewrite c g xs k e = tombed-meets isRewrite g xs (lookup numbers g (c .groups)) (rewrite-made c k e g)
-older-of mode.Join c g xs k e = tt
+pub older-of : (m : Mode) (c : Context) (g : ℕ) (xs : List _) (o : Option Table) → Kept c → c .kind ≡ olderKind m → (every ofRewrite (made (lookup numbers g (c .groups)) .entries) ≡ true → every ofRewrite (made o .entries) ≡ true) → OlderFor m (tombed g xs o)
+unfolding OlderFor olderKind isRewrite
+older-of mode.Append c g xs o k e f = tt
+older-of mode.Rewrite c g xs o k e f = tombed-meets isRewrite g xs o (unfold entryBy in f (own-made c (context Rewrite) k e g))
+older-of mode.Join c g xs o k e f = tt
 
 -- a group of a context is within the limits
 pub group-room : (g : ℕ) (m : Map ℕ Table) → every (λ p. tableFits (p .val)) m ≡ true → Within 64 16 (lookup numbers g m)

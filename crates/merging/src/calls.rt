@@ -7,7 +7,7 @@ ghost use Rattle.rules.specs.Calls as rules·calls;
 ghost use Rattle.lists.specs.Calls.{kindAs};
 ghost use Rattle.contexts.specs.Contexts.{contextOf, Wf, Answered, Called};
 ghost use Rattle.merging.specs.Staging.{Ready};
-ghost use Rattle.merging.specs.Modes.{callBy, countsFit, countsOf, Given, Worked};
+ghost use Rattle.merging.specs.Modes.{callBy, countsFit, countsOf, Plain, Worked};
 ghost use Rattle.merging.specs.Growth.{Taken};
 use crate::Flags;
 use crate::ends::clash_of;
@@ -29,7 +29,7 @@ const WRONG_KIND: u64 = 1;
 
 // Makes the staged groups the groups, and the lists those of both.
 fn take_staged(xs: &mut [u64], bs: &mut [u8], ys: &[u64], cs: &[u8], mode: Mode)
-    requires { ⌜ Given mode (now xs) (now bs) (now ys) (now cs) ⌝ }
+    requires { ⌜ Plain mode (now xs) (now bs) (now ys) (now cs) ⌝ }
     requires { ⌜ Ready (now xs) (now bs) ⌝ }
     requires { ⌜ countsFit mode (countsOf (now xs)) (countsOf (now ys)) ≡ true ⌝ }
     ensures { λ _. ⌜ Taken mode (now (xs .entry)) (now (bs .entry)) (now (ys .entry)) (now (cs .entry)) (now (xs .exit)) (now (bs .exit)) ⌝ }
@@ -41,7 +41,7 @@ fn take_staged(xs: &mut [u64], bs: &mut [u8], ys: &[u64], cs: &[u8], mode: Mode)
 
 // Ends a merge or join whose groups are staged: the refusal of a group goes before a limit that is passed.
 fn finish(xs: &mut [u64], bs: &mut [u8], ys: &[u64], cs: &[u8], mode: Mode, flags: Flags) -> Answer
-    requires { ⌜ Given mode (now xs) (now bs) (now ys) (now cs) ⌝ }
+    requires { ⌜ Plain mode (now xs) (now bs) (now ys) (now cs) ⌝ }
     requires { ⌜ Ready (now xs) (now bs) ⌝ }
     requires { ⌜ Worked mode flags (now xs) (now bs) (now ys) (now cs) ⌝ }
     ensures { λ r. ⌜ Answered (callBy mode (contextOf (now (ys .entry)) (now (cs .entry)))) (now (xs .entry)) (now (bs .entry)) r (now (xs .exit)) (now (bs .exit)) ⌝ }
@@ -61,7 +61,7 @@ fn finish(xs: &mut [u64], bs: &mut [u8], ys: &[u64], cs: &[u8], mode: Mode, flag
 
 // Carries out a merge or join of contexts whose kinds fit.
 fn carry_out(xs: &mut [u64], bs: &mut [u8], ys: &[u64], cs: &[u8], mode: Mode) -> Answer
-    requires { ⌜ Given mode (now xs) (now bs) (now ys) (now cs) ⌝ }
+    requires { ⌜ Plain mode (now xs) (now bs) (now ys) (now cs) ⌝ }
     ensures { λ r. ⌜ Called (callBy mode (contextOf (now (ys .entry)) (now (cs .entry)))) (now (xs .entry)) (now (bs .entry)) r (now (xs .exit)) (now (bs .exit)) ⌝ }
 {
     begin(xs);

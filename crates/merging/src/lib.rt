@@ -2,8 +2,11 @@
 // area and staged in a spare stretch; at the end the staged groups become the groups.
 mod calls;
 mod ends;
+mod finishes;
 mod growth;
 mod numbers;
+mod parts;
+mod replays;
 mod stages;
 mod staging;
 mod tombs;
@@ -22,4 +25,18 @@ pub struct Flags {
 pub enum Number {
     None,
     Of(u64),
+}
+
+// The parts that are finished: the tags of their items in the older and in the newer room, and the first and the last file.
+pub struct Ending {
+    pub older: u64,
+    pub newer: u64,
+    pub start: u64,
+    pub end: u64,
+}
+
+// What a merge finishes of a group.
+pub enum Finishing {
+    None,
+    Of(Ending),
 }

@@ -145,7 +145,7 @@ fn turn(
 ) -> Flags
     requires { ⌜ Given mode (now xs) (now bs) (now ys) (now cs) ⌝ }
     requires { ⌜ Ready (now xs) (now bs) ⌝ }
-    requires { ⌜ i < 80 ⌝ }
+    requires { ⌜ i < 96 ⌝ }
     ensures { λ r. ⌜ Staging (groupBy mode (contextOf (now (ys .entry)) (now (cs .entry))) (contextOf (now (xs .entry)) (now (bs .entry)))) (numberAt (now (xs .entry)) (now (ys .entry)) i) flags (now (xs .entry)) (now (bs .entry)) r (now (xs .exit)) (now (bs .exit)) ⌝ }
 {
     let number = number_at(xs, ys, i);
@@ -159,7 +159,7 @@ fn turn(
 pub fn stage_all(xs: &mut [u64], bs: &mut [u8], ys: &[u64], cs: &[u8], mode: Mode) -> Flags
     requires { ⌜ Given mode (now xs) (now bs) (now ys) (now cs) ⌝ }
     requires { ⌜ Ready (now xs) (now bs) ⌝ }
-    ensures { λ r. ⌜ Staging (groupBy mode (contextOf (now (ys .entry)) (now (cs .entry))) (contextOf (now (xs .entry)) (now (bs .entry)))) (firsts (numberAt (now (xs .entry)) (now (ys .entry))) 80) noFlags (now (xs .entry)) (now (bs .entry)) r (now (xs .exit)) (now (bs .exit)) ⌝ }
+    ensures { λ r. ⌜ Staging (groupBy mode (contextOf (now (ys .entry)) (now (cs .entry))) (contextOf (now (xs .entry)) (now (bs .entry)))) (firsts (numberAt (now (xs .entry)) (now (ys .entry))) 96) noFlags (now (xs .entry)) (now (bs .entry)) r (now (xs .exit)) (now (bs .exit)) ⌝ }
 {
     let mut flags = Flags {
         clashed: false,

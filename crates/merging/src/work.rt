@@ -1,4 +1,5 @@
-// What becomes of one group, worked in the long stretch: the older table, the newer tombstones on it, the newer table over it.
+// What becomes of one group, worked in the long stretch: the older table, a part that finishes and the newer tombstones on it, the newer
+// table over it.
 ghost use mathlib.Core.Bool.{true};
 ghost use mathlib.Core.Option.{none};
 ghost use mathlib.Core.Path.{_≡_};
@@ -16,6 +17,7 @@ ghost use Rattle.contexts.specs.Contexts.{contextOf};
 ghost use Rattle.contexts.specs.Contexts as contexts·areas;
 ghost use Rattle.merging.specs.Modes.{newerKind, groupBy, Given};
 ghost use Rattle.merging.specs.Works.{laidBy, Loaded, WorkedAs};
+use crate::finishes::finish_part;
 use crate::tombs::bury;
 use groups::Slot;
 use stores::Store;
@@ -108,7 +110,7 @@ fn work_loaded(
     mode: Mode,
 ) -> Outcome
     requires { ⌜ Wf (now p) (now b) ⌝ }
-    requires { ⌜ Within 64 16 (workIn (now p) (now b)) ⌝ }
+    requires { ⌜ Within 320 144 (workIn (now p) (now b)) ⌝ }
     requires { ⌜ OlderFor mode (tombed group (contextOf (now ys) (now cs) .tombstones) (workIn (now p) (now b))) ⌝ }
     requires { ⌜ contexts·areas.Wf (now ys) (now cs) ⌝ }
     requires { ⌜ contextOf (now ys) (now cs) .kind ≡ newerKind mode ⌝ }
@@ -124,6 +126,10 @@ pub fn work(xs: &mut [u64], bs: &mut [u8], ys: &[u64], cs: &[u8], group: u64, mo
     ensures { λ r. ⌜ WorkedAs (groupBy mode (contextOf (now (ys .entry)) (now (cs .entry))) (contextOf (now (xs .entry)) (now (bs .entry))) group) (now (xs .entry)) (now (bs .entry)) r (now (xs .exit)) (now (bs .exit)) ⌝ }
 {
     load_older(xs, bs, group);
+    let outcome = finish_part(xs, bs, ys, cs, group);
+    let Outcome::Done = outcome else {
+        return outcome;
+    };
     let a = WORK_AT;
     let c = WORK_BYTES_AT;
     work_loaded(&mut xs[a..], &mut bs[c..], ys, cs, group, mode)

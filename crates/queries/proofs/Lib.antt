@@ -4,3 +4,4 @@ pub mod RowLists
 pub mod Ways
 pub mod AllWays
 pub mod Cleanings
+pub mod SliceWays

@@ -19,13 +19,14 @@ use Rattle.kvs.specs.RowLaws.{length-keys}
 use Rattle.kvs.specs.Calls.{given, GetKey}
 use Rattle.kvs.specs.Lists.{lensAfter, bytesAfter, Fetches}
 use Rattle.kvs.specs.Lists as keys
-use Rattle.memtable.specs.declared.Fetched as memtable·fetched
 use Rattle.memtable.specs.declared.Head.{Head}
 use Rattle.memtable.specs.declared.Found.{Found}
+use Rattle.memtable.specs.declared.Range.{Range}
 use Rattle.memtable.specs.Views.{tableOf}
 use Rattle.memtable.specs.Views as memtable
 use Rattle.memtable.specs.Queries.{foundOf, FirstAnswer, LastAnswer, RewriteCountAnswer}
-use Rattle.memtable.specs.Columns.{Columns, judged, columnsAfter, fetchedOf, Answered}
+use Rattle.memtable.specs.Columns.{Columns}
+use Rattle.memtable.specs.Fetches.{rangeOf, RangeAnswer}
 use Rattle.memtable.specs.Whole.{MinFileSeq}
 use Rattle.memtable.specs.WindowLaws.{length-window}
 use Rattle.stretch.specs.Stretch.{headIn, entryRows, keyCount, keyRows, isCounted, tableIn}
@@ -38,6 +39,7 @@ use Rattle.queries.specs.Fetches.{EntriesFetched, KeysFetched, toldOf, v
 use Rattle.queries.specs.Places.{StandsAt}
 use Rattle.queries.specs.PlaceLaws.{asked-at}
 use Rattle.queries.proofs.RowLists.{Short, rows-left}
+use Rattle.queries.proofs.SliceWays.{refused-fetched}
 
 module _ {g : ℕ} {xs bs : List ℕ} {k : ℕ} (s : StandsAt g xs bs k) where
   -- stretch k is within the numbers and the bytes
@@ -78,17 +80,9 @@ module _ {g : ℕ} {xs bs : List ℕ} {k : ℕ} (s : StandsAt g xs bs k) where
     count-there =
         by-entries (λ t. ok (length (t .entries))) {rows = entryRows (stretchAt k xs)} refl (ok (h .len)) (λ keys counted. rw (length-window (h .«first_index») (h .len) (entryRows (stretchAt k xs))))
 
-    -- the table that they stand for, with the keys of the stretch, is the group's
-    asked-here : {A : Type 0} (query : Table → Result A) {rows : List ℕ} → rows ≡ entryRows (stretchAt k xs) → query (tableOf h rows (keysIn (keyCount (stretchAt k xs)) (keyRows (stretchAt k xs)) (bytesAt k bs)) (isCounted (stretchAt k xs))) ≡ inGroup g query (contextOf xs bs)
-    unfolding tableIn
-    asked-here query d = rw (e, d) (sym (asked-at g query xs bs k s))
-
-    pub fetched-there : (query : Table → Result (List EntryIndex)) {rows : List ℕ} → rows ≡ entryRows (stretchAt k xs) → (out exits : Columns) (f : memtable·fetched.Fetched) (r : Fetched) → ((keys : Map (List ℕ) Held) (counted : Bool) → Answered (query (tableOf h rows keys counted)) out f exits) → fetchedAs r ≡ fetchedOf f → EntriesFetched (inGroup g query (contextOf xs bs)) out r exits
-    fetched-there query d out exits f r a n =
-        let p = stretchAt k xs in
-        let q = asked-here query d in
-        let b = a (keysIn (keyCount p) (keyRows p) (bytesAt k bs)) (isCounted p) in
-        record { number = n ∙ rw q at (b .number); slices = rw q at (b .slices) }
+    -- a range of its entries, answered in lent slices, is the group's answer
+    pub range-there : (query : Table → Result (List EntryIndex)) {rows : List ℕ} → rows ≡ entryRows (stretchAt k xs) → (range : Range) → RangeAnswer h rows query range → {out : Columns} {r : Fetched} {exits : Columns} → EntriesFetched (rangeOf range h rows) out r exits → EntriesFetched (inGroup g query (contextOf xs bs)) out r exits
+    range-there query {rows} d range a b = rw (← by-entries query d (rangeOf range h rows) (a .rule)) b
 
   -- ---- keys
 
@@ -120,8 +114,7 @@ module _ {g : ℕ} {xs bs : List ℕ} {k : ℕ} (s : StandsAt g xs bs k) where
 -- ---- a group that is absent: 9, and the lists are as they were
 
 pub fetched-absent : {answer : Result (List EntryIndex)} {out : Columns} → refuse groupAbsent ≡ answer → EntriesFetched answer out GroupAbsent out
-unfolding judged andThen columnsAfter
-fetched-absent e = rw (← e) (record { number = refl; slices = refl })
+fetched-absent {out = out} e = rw (← e) (refused-fetched groupAbsent out GroupAbsent refl)
 
 pub keys-absent : {answer : Result (List KeyValue)} {lens out : List ℕ} → refuse groupAbsent ≡ answer → KeysFetched answer lens out GroupAbsent lens out
 unfolding answered andThen lensAfter bytesAfter lentAfter

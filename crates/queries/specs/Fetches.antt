@@ -9,14 +9,17 @@ use Rattle.rules.specs.Items.{EntryIndex}
 use Rattle.rules.specs.TableQueries.{KeyValue}
 use Rattle.rules.specs.Queries.{answered, lentAfter}
 use Rattle.kvs.specs.Lists.{lentList, lensAfter, bytesAfter}
-use Rattle.memtable.specs.Columns.{Columns, judged, columnsAfter}
+use Rattle.memtable.specs.Columns.{Columns, columnsAfter}
 use Rattle.queries.specs.declared.Fetched.{Fetched}
 use Rattle.queries.specs.Answers.{fetchedAs}
+use Rattle.queries.specs.Slices.{recordsIn}
 
 -- an answer of the rules, given in eight lent slices: r is returned, and exits are the slices at exit
 pub record EntriesFetched (answer : Result (List EntryIndex)) (out : Columns) (r : Fetched) (exits : Columns) : Type 0 where
-  pub number : fetchedAs r ≡ andThen (judged (length (out .index)) answer) (λ es. ok (length es))
-  pub slices : exits ≡ columnsAfter out (judged (length (out .index)) answer)
+  pub number : fetchedAs r ≡ andThen (answered (recordsIn out) answer) (λ es. ok (length es))
+  pub slices : exits ≡ columnsAfter out (answered (recordsIn out) answer)
+  -- the records of the list at exit are those that the rules leave there
+  pub records-are : recordsIn exits ≡ lentAfter (recordsIn out) (answered (recordsIn out) answer)
 
 -- an answer of the rules, given in two lent lists of rows: r is returned, and lens′ and out′ are the lists at exit
 pub record KeysFetched (answer : Result (List KeyValue)) (lens out : List ℕ) (r : Fetched) (lens′ out′ : List ℕ) : Type 0 where

@@ -1,17 +1,17 @@
-// Fetches of a group's records into lent slices, one for each field of a row. The slices have one length, which is the lent list's.
+// Fetches of a group's records into lent slices, one for each field of a row. The lent list is as long as the shortest of them.
 ghost use Rattle.pipe_log.specs.Numbers.{boundOf};
 ghost use Rattle.rules.specs.Causes.{ok};
 ghost use Rattle.rules.specs.TableQueries.{fetchEntriesTo, fetchEntryIndexesBefore, fetchRewrittenEntryIndexes};
 ghost use Rattle.rules.specs.Queries.{inGroup};
-ghost use Rattle.memtable.specs.Columns.{columns, SameLength};
+ghost use Rattle.memtable.specs.Columns.{columns};
 ghost use Rattle.contexts.specs.Contexts.{contextOf, Wf};
 ghost use Rattle.queries.specs.Fetches.{EntriesFetched};
 use crate::Fetched;
 use crate::Place;
-use crate::answers::entries_fetched;
 use crate::places::entry_rows;
 use crate::places::head_at;
 use crate::places::place_of;
+use crate::slices::answer_range;
 use pipe_log::Bound;
 
 // Fetches a group's entries with indexes in [begin, end), up to a size.
@@ -32,7 +32,6 @@ pub fn fetch_entries_to(
     entry_len: &mut [u64],
 ) -> Fetched
     requires { ⌜ Wf (now xs) (now bs) ⌝ }
-    requires { ⌜ SameLength (columns (now index) (now queue) (now seq) (now offset) (now len) (now compression) (now «entry_offset») (now «entry_len»)) ⌝ }
     ensures { λ r. ⌜ EntriesFetched (inGroup group (fetchEntriesTo begin end (boundOf «max_size»)) (contextOf (now (xs .entry)) (now (bs .entry)))) (columns (now (index .entry)) (now (queue .entry)) (now (seq .entry)) (now (offset .entry)) (now (len .entry)) (now (compression .entry)) (now («entry_offset» .entry)) (now («entry_len» .entry))) r (columns (now (index .exit)) (now (queue .exit)) (now (seq .exit)) (now (offset .exit)) (now (len .exit)) (now (compression .exit)) (now («entry_offset» .exit)) (now («entry_len» .exit))) ⌝ }
 {
     let Place::At(k) = place_of(xs, group) else {
@@ -40,11 +39,11 @@ pub fn fetch_entries_to(
     };
     let head = head_at(xs, k);
     let rows = entry_rows(xs, k);
-    let answer = head.fetch_entries_to(
+    let range = head.range_to(rows, begin, end, max_size);
+    answer_range(
+        head,
         rows,
-        begin,
-        end,
-        max_size,
+        range,
         index,
         queue,
         seq,
@@ -53,8 +52,7 @@ pub fn fetch_entries_to(
         compression,
         entry_offset,
         entry_len,
-    );
-    entries_fetched(answer)
+    )
 }
 
 // Fetches a group's Append entries from the front while their file is at most the gate.
@@ -73,7 +71,6 @@ pub fn fetch_entry_indexes_before(
     entry_len: &mut [u64],
 ) -> Fetched
     requires { ⌜ Wf (now xs) (now bs) ⌝ }
-    requires { ⌜ SameLength (columns (now index) (now queue) (now seq) (now offset) (now len) (now compression) (now «entry_offset») (now «entry_len»)) ⌝ }
     ensures { λ r. ⌜ EntriesFetched (inGroup group (λ t. ok (fetchEntryIndexesBefore gate t)) (contextOf (now (xs .entry)) (now (bs .entry)))) (columns (now (index .entry)) (now (queue .entry)) (now (seq .entry)) (now (offset .entry)) (now (len .entry)) (now (compression .entry)) (now («entry_offset» .entry)) (now («entry_len» .entry))) r (columns (now (index .exit)) (now (queue .exit)) (now (seq .exit)) (now (offset .exit)) (now (len .exit)) (now (compression .exit)) (now («entry_offset» .exit)) (now («entry_len» .exit))) ⌝ }
 {
     let Place::At(k) = place_of(xs, group) else {
@@ -81,9 +78,11 @@ pub fn fetch_entry_indexes_before(
     };
     let head = head_at(xs, k);
     let rows = entry_rows(xs, k);
-    let answer = head.fetch_entry_indexes_before(
+    let range = head.range_before(rows, gate);
+    answer_range(
+        head,
         rows,
-        gate,
+        range,
         index,
         queue,
         seq,
@@ -92,8 +91,7 @@ pub fn fetch_entry_indexes_before(
         compression,
         entry_offset,
         entry_len,
-    );
-    entries_fetched(answer)
+    )
 }
 
 // Fetches all Rewrite entries of a group.
@@ -111,7 +109,6 @@ pub fn fetch_rewritten_entry_indexes(
     entry_len: &mut [u64],
 ) -> Fetched
     requires { ⌜ Wf (now xs) (now bs) ⌝ }
-    requires { ⌜ SameLength (columns (now index) (now queue) (now seq) (now offset) (now len) (now compression) (now «entry_offset») (now «entry_len»)) ⌝ }
     ensures { λ r. ⌜ EntriesFetched (inGroup group (λ t. ok (fetchRewrittenEntryIndexes t)) (contextOf (now (xs .entry)) (now (bs .entry)))) (columns (now (index .entry)) (now (queue .entry)) (now (seq .entry)) (now (offset .entry)) (now (len .entry)) (now (compression .entry)) (now («entry_offset» .entry)) (now («entry_len» .entry))) r (columns (now (index .exit)) (now (queue .exit)) (now (seq .exit)) (now (offset .exit)) (now (len .exit)) (now (compression .exit)) (now («entry_offset» .exit)) (now («entry_len» .exit))) ⌝ }
 {
     let Place::At(k) = place_of(xs, group) else {
@@ -119,8 +116,11 @@ pub fn fetch_rewritten_entry_indexes(
     };
     let head = head_at(xs, k);
     let rows = entry_rows(xs, k);
-    let answer = head.fetch_rewritten_entry_indexes(
+    let range = head.range_rewritten();
+    answer_range(
+        head,
         rows,
+        range,
         index,
         queue,
         seq,
@@ -129,6 +129,5 @@ pub fn fetch_rewritten_entry_indexes(
         compression,
         entry_offset,
         entry_len,
-    );
-    entries_fetched(answer)
+    )
 }

@@ -8,6 +8,7 @@ mod fetch;
 mod files;
 mod keys;
 mod places;
+mod slices;
 
 pub use all::group_numbers;
 pub use all::is_empty;

@@ -8,3 +8,6 @@ pub mod Finding
 pub mod Pushing
 pub mod Settling
 pub mod Accepting
+pub mod Copying
+pub mod Forming
+pub mod Limiting

@@ -58,6 +58,12 @@ AcceptedAs g new ws vs accepted.the-variants.Passed ws′ vs′ = Passing g new 
 AcceptedAs g new ws vs accepted.the-variants.Back ws′ vs′ = (accept (partsAt g (waitingOf ws vs)) new ≡ back) × (ws′ ≡ ws) × (vs′ ≡ vs)
 AcceptedAs g new ws vs (accepted.the-variants.Finishes k) ws′ vs′ = Finishing g new k ws vs × (ws′ ≡ ws) × (vs′ ≡ vs)
 
+-- ---- the newest part of cell k is taken out
+
+pub record TookFinished (k : ℕ) (ws vs ws′ vs′ : List ℕ) : Type 0 where
+  pub waiting : (g : ℕ) (p : Part) (ps : List Part) → cellOf (headIn k ws vs) (tagged ws vs) ≡ some (pair g (p ∷ ps)) → waitingOf ws′ vs′ ≡ store numbers g (someParts ps) (waitingOf ws vs)
+  pub room : ContextRoom ws′ vs′
+
 -- ---- an item that is copied out
 
 -- item j stands in slices of its own, where there is room for the most entries that wait and for one item's bytes

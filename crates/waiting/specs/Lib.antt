@@ -7,6 +7,7 @@ pub mod Batches
 pub mod Changes
 pub mod Parts
 pub mod Accepts
+pub mod Forms
 pub mod RoomLaws
 pub mod LayoutLaws
 pub mod PlaceLaws
@@ -16,3 +17,7 @@ pub mod HeadLaws
 pub mod BatchLaws
 pub mod PartLaws
 pub mod RetagLaws
+pub mod LimitLaws
+pub mod FormLaws
+pub mod JudgeLaws
+pub mod FinishLaws

@@ -2,13 +2,19 @@
 // stands in one slice of numbers and one of bytes.
 mod accept;
 mod batches;
+mod copies;
 pub mod find;
+mod forms;
 mod heads;
 mod items;
+mod limits;
 mod places;
 mod rooms;
 
-pub use accept::accept_first;
+pub use accept::accept_batch;
+pub use accept::take_finished;
+pub use copies::copy_item;
+pub use copies::tag_at;
 pub use heads::take_part;
 use log_batch::item::LogItem;
 pub use rooms::clear;
@@ -60,6 +66,18 @@ pub enum Step {
     Finish,
     // files go back
     Back,
+}
+
+// How a part that waits is put into a cell.
+pub enum Form {
+    // as the first of its group
+    First,
+    // in front of the newest part
+    Front,
+    // in place of the newest part
+    Replace,
+    // joined to the newest part
+    Join,
 }
 
 // What becomes of a part that comes to a room.

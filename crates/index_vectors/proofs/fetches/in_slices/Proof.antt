@@ -1,5 +1,4 @@
 -- `index_vectors::fetches::in_slices` meets its contract. Assumes nothing.
-use mathlib.Core.Path.{refl}
 use borrow.Author.Needs.{needs}
 use Rattle.index_vectors.proofs.fetches.in_slices.Statement.{statement}
 use Rattle.index_vectors.proofs.fetches.in_slices.Tie as tie
@@ -35,7 +34,7 @@ slice-aggregate-fetch-entries-to-8 c = search needs
 fetch-entries-to-requires : tie.Need-fetch-entries-to-requires
 fetch-entries-to-requires c κs =
     let start = c .before .before .before .before .before .before .before .before .before .before in
-    (start .pre, record { queue = refl; seq = refl; offset = refl; len = refl; compression = refl; «entry_offset» = refl; «entry_len» = refl })
+    start .pre
 
 rows-of-requires : tie.Need-rows-of-requires
 rows-of-requires c κs = search needs

@@ -1,5 +1,5 @@
 -- `merging::calls::carry_out` meets its contract. Assumes nothing.
-use Rattle.merging.proofs.FinishWays.{begun-given, begun-is-ready, staged-given, staged-worked, carried-out}
+use Rattle.merging.proofs.FinishWays.{begun-given, begun-is-ready, staged-plain, staged-worked, carried-out}
 use borrow.Author.Needs.{needs}
 use Rattle.merging.proofs.calls.carry_out.Statement.{statement}
 use Rattle.merging.proofs.calls.carry_out.Tie as tie
@@ -18,7 +18,7 @@ finish-requires c κs =
     let start = c .before .before .before .before .before .before .before .before .before .before .before .before .before .before .before .before .before in
     let begin = c .before .before .before .before .before .before .before .before .before .before .before .begin in
     let stage-all = c .before .before .before .before .before .before .stage-all in
-    (staged-given _ _ _ _ _ _ (start .pre) (begin .ensures) _ _ _ (stage-all .ensures), (stage-all .ensures .ready, staged-worked _ _ _ _ _ _ (start .pre) (begin .ensures) _ _ _ (stage-all .ensures)))
+    (staged-plain _ _ _ _ _ _ (start .pre) (begin .ensures) _ _ _ (stage-all .ensures), (stage-all .ensures .ready, staged-worked _ _ _ _ _ _ (start .pre) (begin .ensures) _ _ _ (stage-all .ensures)))
 
 same-length : tie.Need-same-length
 same-length c = search needs

@@ -36,8 +36,8 @@ returns-2 c =
 lists-fit-requires : tie.Need-lists-fit-requires
 lists-fit-requires c κs =
     let start = c .before .before .before .before .before .before .before in
-    let older = start .pre .0 .wf in
-    let newer = start .pre .0 .newer-wf in
+    let older = start .pre .0 .given .wf in
+    let newer = start .pre .0 .given .newer-wf in
     ((few-counts _ _ older, few-counts _ _ newer), (area-length _ _ (formed-of _ _ older), area-length _ _ (formed-of _ _ newer)))
 
 refuse-requires-3 : tie.Need-refuse-requires-3

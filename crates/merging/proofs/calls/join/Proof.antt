@@ -1,7 +1,7 @@
 -- `merging::calls::join` meets its contract. Assumes nothing.
 use mathlib.Core.Path.{sym, _∙_}
 use borrow.Author.Tests.{not-true, not-false}
-use Rattle.merging.proofs.FinishWays.{kind-there, join-wrong, join-given, join-called}
+use Rattle.merging.proofs.FinishWays.{kind-there, join-wrong, join-plain, join-called}
 use borrow.Author.Needs.{needs}
 use Rattle.merging.proofs.calls.join.Statement.{statement}
 use Rattle.merging.proofs.calls.join.Tie as tie
@@ -66,7 +66,7 @@ carry-out-requires c κs =
     let kind-in2 = c .before .before .before .before .kind-in2 in
     let kinds-join = c .before .before .before .kinds-join in
     let if1 = c .before .before .if1 in
-    join-given (start .args .xs .now) (start .args .bs .now) (start .args .ys .now) (start .args .cs .now) _ _ (kind-in .ensures) (kind-in2 .ensures) (start .pre .0) (start .pre .1) (sym (kinds-join .ensures) ∙ not-false (kinds-join .result) (if1 .left))
+    join-plain (start .args .xs .now) (start .args .bs .now) (start .args .ys .now) (start .args .cs .now) _ _ (kind-in .ensures) (kind-in2 .ensures) (start .pre .0) (start .pre .1) (sym (kinds-join .ensures) ∙ not-false (kinds-join .result) (if1 .left))
 
 same-length-2 : tie.Need-same-length-2
 same-length-2 c = search needs

@@ -1,5 +1,5 @@
 -- `merging::calls::merge_append` meets its contract. Assumes nothing.
-use Rattle.merging.proofs.FinishWays.{append-given, append-called}
+use Rattle.merging.proofs.FinishWays.{append-plain, append-called}
 use borrow.Author.Needs.{needs}
 use Rattle.merging.proofs.calls.merge_append.Statement.{statement}
 use Rattle.merging.proofs.calls.merge_append.Tie as tie
@@ -7,7 +7,7 @@ use Rattle.merging.proofs.calls.merge_append.Tie as tie
 carry-out-requires : tie.Need-carry-out-requires
 carry-out-requires c κs =
     let start = c .before .before .before .before .before .before in
-    append-given _ _ _ _ (start .pre .0 .0) (start .pre .0 .1) (start .pre .1 .0) (start .pre .1 .1)
+    append-plain _ _ _ _ (start .pre .0 .0) (start .pre .0 .1) (start .pre .1 .0) (start .pre .1 .1)
 
 same-length : tie.Need-same-length
 same-length c = search needs

@@ -1,5 +1,5 @@
 -- `merging::numbers::number_at` meets its contract. Assumes nothing.
-use Rattle.merging.proofs.NumberWays.{older-number, newer-number, tombstone-number}
+use Rattle.merging.proofs.NumberWays.{older-number, newer-number, of-tombstone, of-waiting}
 use borrow.Author.Needs.{needs}
 use Rattle.merging.proofs.numbers.number_at.Statement.{statement}
 use Rattle.merging.proofs.numbers.number_at.Tie as tie
@@ -49,9 +49,31 @@ tombstone-number-requires c κs = search needs
 
 returns-3 : tie.Need-returns-3
 returns-3 c =
-    let if2 = c .before .before .if2 in
-    let the-tombstone-number = c .tombstone-number in
-    tombstone-number _ _ _ _ (if2 .left) (the-tombstone-number .ensures)
+    let if2 = c .before .before .before .if2 in
+    let if3 = c .before .before .if3 in
+    let tombstone-number = c .tombstone-number in
+    of-tombstone _ _ _ _ (if2 .left) (if3 .taken) (tombstone-number .ensures)
+
+mul-waiting-number : tie.Need-mul-waiting-number
+mul-waiting-number c = search needs
+
+sub-waiting-number : tie.Need-sub-waiting-number
+sub-waiting-number c = search needs
+
+part-waiting-number-start : tie.Need-part-waiting-number-start
+part-waiting-number-start c = search needs
+
+part-waiting-number-end : tie.Need-part-waiting-number-end
+part-waiting-number-end c = search needs
+
+waiting-number-requires : tie.Need-waiting-number-requires
+waiting-number-requires c κs = search needs
+
+returns-4 : tie.Need-returns-4
+returns-4 c =
+    let if3 = c .before .before .if3 in
+    let waiting-number = c .waiting-number in
+    of-waiting _ _ _ _ (if3 .left) (waiting-number .ensures)
 
 pub number-at-spec : {M : Type 1} → statement M
 number-at-spec =
@@ -69,4 +91,10 @@ number-at-spec =
     mul-tombstone-number-2
     sub-tombstone-number-2
     tombstone-number-requires
-    returns-3)
+    returns-3
+    mul-waiting-number
+    sub-waiting-number
+    part-waiting-number-start
+    part-waiting-number-end
+    waiting-number-requires
+    returns-4)

@@ -13,10 +13,10 @@ use Rattle.merging.proofs.stages.stage_all.Tie as tie
 
 abbrev Inv-loop : tie.InvT-loop
 Inv-loop xs₀ bs₀ ys cs mode flags₀ i₀ xs bs flags i =
-    (i ≤ 80) × Staging (groupBy mode (contextOf ys cs) (contextOf xs₀ bs₀)) (firsts (numberAt xs₀ ys) i) noFlags xs₀ bs₀ flags xs bs
+    (i ≤ 96) × Staging (groupBy mode (contextOf ys cs) (contextOf xs₀ bs₀)) (firsts (numberAt xs₀ ys) i) noFlags xs₀ bs₀ flags xs bs
 
 abbrev μ-loop : tie.MeasureT-loop
-μ-loop xs₀ bs₀ ys cs mode flags₀ i₀ xs bs flags i = 80 - i
+μ-loop xs₀ bs₀ ys cs mode flags₀ i₀ xs bs flags i = 96 - i
 
 loop-holds : tie.Need-loop-holds Inv-loop μ-loop
 loop-holds c =

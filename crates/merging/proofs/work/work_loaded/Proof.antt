@@ -1,7 +1,5 @@
 -- `merging::work::work_loaded` meets its contract. Assumes nothing.
 use Rattle.merging.proofs.WorkWays.{buried-within, buried-for, buried-laid}
-use native.Mathlib.Omega.{arith}
-use Rattle.rules_by_group.specs.RoomLaws.{within-more}
 use borrow.Author.Needs.{needs}
 use Rattle.merging.proofs.work.work_loaded.Statement.{statement}
 use Rattle.merging.proofs.work.work_loaded.Tie as tie
@@ -9,7 +7,7 @@ use Rattle.merging.proofs.work.work_loaded.Tie as tie
 bury-newer-requires : tie.Need-bury-newer-requires
 bury-newer-requires c κs =
     let start = c .before .before .before .before .before .before in
-    (start .pre .0, (within-more 64 16 320 144 _ (omega arith) (omega arith) (start .pre .1 .0), start .pre .1 .1 .1 .0))
+    (start .pre .0, (start .pre .1 .0, start .pre .1 .1 .1 .0))
 
 lay-newer-requires : tie.Need-lay-newer-requires
 lay-newer-requires c κs =

@@ -1,6 +1,6 @@
 -- `queries::fetch::fetch_entries_to` meets its contract. Assumes nothing.
 use Rattle.queries.specs.PlaceLaws.{stands-at, asked-absent}
-use Rattle.queries.proofs.Ways.{numbers-there, entries-wf, fetched-there, fetched-absent}
+use Rattle.queries.proofs.Ways.{numbers-there, entries-wf, range-there, fetched-absent}
 use Rattle.rules.specs.TableQueries.{fetchEntriesTo}
 use Rattle.pipe_log.specs.Numbers.{boundOf}
 use borrow.Author.Needs.{needs}
@@ -21,33 +21,40 @@ returns c =
     let start = c .before .before .before .before .before .before .before .before .before .before .before .before .before in
     let place-of = c .before .before .place-of in
     let enum-told = c .enum-told in
-    fetched-absent (asked-absent _ _ _ _ _ (place-of .ensures (start .args .bs .now) (start .pre .0)) (enum-told .given .1))
+    fetched-absent (asked-absent _ _ _ _ _ (place-of .ensures (start .args .bs .now) (start .pre)) (enum-told .given .1))
 
 head-at-requires : tie.Need-head-at-requires
 head-at-requires c κs =
     let start = c .before .before .before .before .before .before .before .before .before .before .before .before .before .before in
     let place-of = c .before .before .before .place-of in
     let k = c .before .k in
-    numbers-there (stands-at (place-of .ensures (start .args .bs .now) (start .pre .0)) (k .given .1)) (start .pre .0)
+    numbers-there (stands-at (place-of .ensures (start .args .bs .now) (start .pre)) (k .given .1)) (start .pre)
 
 entry-rows-requires : tie.Need-entry-rows-requires
 entry-rows-requires c κs =
     let start = c .before .before .before .before .before .before .before .before .before .before .before .before .before .before .before in
     let place-of = c .before .before .before .before .place-of in
     let k = c .before .before .k in
-    numbers-there (stands-at (place-of .ensures (start .args .bs .now) (start .pre .0)) (k .given .1)) (start .pre .0)
+    numbers-there (stands-at (place-of .ensures (start .args .bs .now) (start .pre)) (k .given .1)) (start .pre)
 
-fetch-entries-to-requires : tie.Need-fetch-entries-to-requires
-fetch-entries-to-requires c κs =
-    let start = c .before .before .before .before .before .before .before .before .before .before .before .before .before .before .before .before .before .before .before .before .before .before .before .before in
-    let place-of = c .before .before .before .before .before .before .before .before .before .before .before .before .before .place-of in
-    let k = c .before .before .before .before .before .before .before .before .before .before .before .k in
-    let head-at = c .before .before .before .before .before .before .before .before .before .head-at in
-    let entry-rows = c .before .before .before .before .before .before .before .before .entry-rows in
-    (entries-wf (stands-at (place-of .ensures (start .args .bs .now) (start .pre .0)) (k .given .1)) (head-at .ensures) (entry-rows .ensures), start .pre .1)
+range-to-requires : tie.Need-range-to-requires
+range-to-requires c κs =
+    let start = c .before .before .before .before .before .before .before .before .before .before .before .before .before .before .before .before in
+    let place-of = c .before .before .before .before .before .place-of in
+    let k = c .before .before .before .k in
+    let head-at = c .before .head-at in
+    let entry-rows = c .entry-rows in
+    entries-wf (stands-at (place-of .ensures (start .args .bs .now) (start .pre)) (k .given .1)) (head-at .ensures) (entry-rows .ensures)
 
-entries-fetched-requires : tie.Need-entries-fetched-requires
-entries-fetched-requires c κs = search needs
+answer-range-requires : tie.Need-answer-range-requires
+answer-range-requires c κs =
+    let start = c .before .before .before .before .before .before .before .before .before .before .before .before .before .before .before .before .before .before .before .before .before .before .before .before .before in
+    let place-of = c .before .before .before .before .before .before .before .before .before .before .before .before .before .before .place-of in
+    let k = c .before .before .before .before .before .before .before .before .before .before .before .before .k in
+    let head-at = c .before .before .before .before .before .before .before .before .before .before .head-at in
+    let entry-rows = c .before .before .before .before .before .before .before .before .before .entry-rows in
+    let range-to = c .before .before .before .before .before .before .before .before .range-to in
+    (entries-wf (stands-at (place-of .ensures (start .args .bs .now) (start .pre)) (k .given .1)) (head-at .ensures) (entry-rows .ensures), range-to .ensures .within)
 
 same-length : tie.Need-same-length
 same-length c = search needs
@@ -80,9 +87,9 @@ returns-2 c =
     let k = c .before .before .before .before .before .before .before .before .before .before .before .before .before .before .before .before .before .before .before .before .before .before .before .before .before .before .before .before .before .k in
     let head-at = c .before .before .before .before .before .before .before .before .before .before .before .before .before .before .before .before .before .before .before .before .before .before .before .before .before .before .before .head-at in
     let entry-rows = c .before .before .before .before .before .before .before .before .before .before .before .before .before .before .before .before .before .before .before .before .before .before .before .before .before .before .entry-rows in
-    let fetch-entries-to = c .before .before .before .before .before .before .before .before .before .before .before .before .before .before .before .before .before .fetch-entries-to in
-    let entries-fetched = c .entries-fetched in
-    fetched-there (stands-at (place-of .ensures (start .args .bs .now) (start .pre .0)) (k .given .1)) (head-at .ensures) (fetchEntriesTo (start .args .begin) (start .args .end) (boundOf (start .args .max-size))) (entry-rows .ensures) _ _ _ _ (fetch-entries-to .ensures) (entries-fetched .ensures)
+    let range-to = c .before .before .before .before .before .before .before .before .before .before .before .before .before .before .before .before .before .before .before .before .before .before .before .before .before .range-to in
+    let answer-range = c .before .before .before .before .before .before .before .before .before .before .before .before .before .before .before .before .answer-range in
+    range-there (stands-at (place-of .ensures (start .args .bs .now) (start .pre)) (k .given .1)) (head-at .ensures) (fetchEntriesTo (start .args .begin) (start .args .end) (boundOf (start .args .max-size))) (entry-rows .ensures) _ (range-to .ensures) (answer-range .ensures)
 
 pub fetch-entries-to-spec : {M : Type 1} → statement M
 fetch-entries-to-spec =
@@ -94,8 +101,8 @@ fetch-entries-to-spec =
     returns
     head-at-requires
     entry-rows-requires
-    fetch-entries-to-requires
-    entries-fetched-requires
+    range-to-requires
+    answer-range-requires
     same-length
     same-length-2
     same-length-3

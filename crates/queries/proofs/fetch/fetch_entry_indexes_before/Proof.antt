@@ -1,6 +1,6 @@
 -- `queries::fetch::fetch_entry_indexes_before` meets its contract. Assumes nothing.
 use Rattle.queries.specs.PlaceLaws.{stands-at, asked-absent}
-use Rattle.queries.proofs.Ways.{numbers-there, entries-wf, fetched-there, fetched-absent}
+use Rattle.queries.proofs.Ways.{numbers-there, entries-wf, range-there, fetched-absent}
 use Rattle.rules.specs.TableQueries.{fetchEntryIndexesBefore}
 use Rattle.rules.specs.Causes.{ok}
 use borrow.Author.Needs.{needs}
@@ -21,33 +21,40 @@ returns c =
     let start = c .before .before .before .before .before .before .before .before .before .before .before .before .before in
     let place-of = c .before .before .place-of in
     let enum-told = c .enum-told in
-    fetched-absent (asked-absent _ _ _ _ _ (place-of .ensures (start .args .bs .now) (start .pre .0)) (enum-told .given .1))
+    fetched-absent (asked-absent _ _ _ _ _ (place-of .ensures (start .args .bs .now) (start .pre)) (enum-told .given .1))
 
 head-at-requires : tie.Need-head-at-requires
 head-at-requires c κs =
     let start = c .before .before .before .before .before .before .before .before .before .before .before .before .before .before in
     let place-of = c .before .before .before .place-of in
     let k = c .before .k in
-    numbers-there (stands-at (place-of .ensures (start .args .bs .now) (start .pre .0)) (k .given .1)) (start .pre .0)
+    numbers-there (stands-at (place-of .ensures (start .args .bs .now) (start .pre)) (k .given .1)) (start .pre)
 
 entry-rows-requires : tie.Need-entry-rows-requires
 entry-rows-requires c κs =
     let start = c .before .before .before .before .before .before .before .before .before .before .before .before .before .before .before in
     let place-of = c .before .before .before .before .place-of in
     let k = c .before .before .k in
-    numbers-there (stands-at (place-of .ensures (start .args .bs .now) (start .pre .0)) (k .given .1)) (start .pre .0)
+    numbers-there (stands-at (place-of .ensures (start .args .bs .now) (start .pre)) (k .given .1)) (start .pre)
 
-fetch-entry-indexes-before-requires : tie.Need-fetch-entry-indexes-before-requires
-fetch-entry-indexes-before-requires c κs =
-    let start = c .before .before .before .before .before .before .before .before .before .before .before .before .before .before .before .before .before .before .before .before .before .before .before .before in
-    let place-of = c .before .before .before .before .before .before .before .before .before .before .before .before .before .place-of in
-    let k = c .before .before .before .before .before .before .before .before .before .before .before .k in
-    let head-at = c .before .before .before .before .before .before .before .before .before .head-at in
-    let entry-rows = c .before .before .before .before .before .before .before .before .entry-rows in
-    (entries-wf (stands-at (place-of .ensures (start .args .bs .now) (start .pre .0)) (k .given .1)) (head-at .ensures) (entry-rows .ensures), start .pre .1)
+range-before-requires : tie.Need-range-before-requires
+range-before-requires c κs =
+    let start = c .before .before .before .before .before .before .before .before .before .before .before .before .before .before .before .before in
+    let place-of = c .before .before .before .before .before .place-of in
+    let k = c .before .before .before .k in
+    let head-at = c .before .head-at in
+    let entry-rows = c .entry-rows in
+    entries-wf (stands-at (place-of .ensures (start .args .bs .now) (start .pre)) (k .given .1)) (head-at .ensures) (entry-rows .ensures)
 
-entries-fetched-requires : tie.Need-entries-fetched-requires
-entries-fetched-requires c κs = search needs
+answer-range-requires : tie.Need-answer-range-requires
+answer-range-requires c κs =
+    let start = c .before .before .before .before .before .before .before .before .before .before .before .before .before .before .before .before .before .before .before .before .before .before .before .before .before in
+    let place-of = c .before .before .before .before .before .before .before .before .before .before .before .before .before .before .place-of in
+    let k = c .before .before .before .before .before .before .before .before .before .before .before .before .k in
+    let head-at = c .before .before .before .before .before .before .before .before .before .before .head-at in
+    let entry-rows = c .before .before .before .before .before .before .before .before .before .entry-rows in
+    let range-before = c .before .before .before .before .before .before .before .before .range-before in
+    (entries-wf (stands-at (place-of .ensures (start .args .bs .now) (start .pre)) (k .given .1)) (head-at .ensures) (entry-rows .ensures), range-before .ensures .within)
 
 same-length : tie.Need-same-length
 same-length c = search needs
@@ -80,9 +87,9 @@ returns-2 c =
     let k = c .before .before .before .before .before .before .before .before .before .before .before .before .before .before .before .before .before .before .before .before .before .before .before .before .before .before .before .before .before .k in
     let head-at = c .before .before .before .before .before .before .before .before .before .before .before .before .before .before .before .before .before .before .before .before .before .before .before .before .before .before .before .head-at in
     let entry-rows = c .before .before .before .before .before .before .before .before .before .before .before .before .before .before .before .before .before .before .before .before .before .before .before .before .before .before .entry-rows in
-    let fetch-entry-indexes-before = c .before .before .before .before .before .before .before .before .before .before .before .before .before .before .before .before .before .fetch-entry-indexes-before in
-    let entries-fetched = c .entries-fetched in
-    fetched-there (stands-at (place-of .ensures (start .args .bs .now) (start .pre .0)) (k .given .1)) (head-at .ensures) (λ t. ok (fetchEntryIndexesBefore (start .args .gate) t)) (entry-rows .ensures) _ _ _ _ (fetch-entry-indexes-before .ensures) (entries-fetched .ensures)
+    let range-before = c .before .before .before .before .before .before .before .before .before .before .before .before .before .before .before .before .before .before .before .before .before .before .before .before .before .range-before in
+    let answer-range = c .before .before .before .before .before .before .before .before .before .before .before .before .before .before .before .before .answer-range in
+    range-there (stands-at (place-of .ensures (start .args .bs .now) (start .pre)) (k .given .1)) (head-at .ensures) (λ t. ok (fetchEntryIndexesBefore (start .args .gate) t)) (entry-rows .ensures) _ (range-before .ensures) (answer-range .ensures)
 
 pub fetch-entry-indexes-before-spec : {M : Type 1} → statement M
 fetch-entry-indexes-before-spec =
@@ -94,8 +101,8 @@ fetch-entry-indexes-before-spec =
     returns
     head-at-requires
     entry-rows-requires
-    fetch-entry-indexes-before-requires
-    entries-fetched-requires
+    range-before-requires
+    answer-range-requires
     same-length
     same-length-2
     same-length-3

@@ -1,6 +1,6 @@
 -- `queries::fetch::fetch_rewritten_entry_indexes` meets its contract. Assumes nothing.
 use Rattle.queries.specs.PlaceLaws.{stands-at, asked-absent}
-use Rattle.queries.proofs.Ways.{numbers-there, entries-wf, fetched-there, fetched-absent}
+use Rattle.queries.proofs.Ways.{numbers-there, entries-wf, range-there, fetched-absent}
 use Rattle.rules.specs.TableQueries.{fetchRewrittenEntryIndexes}
 use Rattle.rules.specs.Causes.{ok}
 use borrow.Author.Needs.{needs}
@@ -21,33 +21,35 @@ returns c =
     let start = c .before .before .before .before .before .before .before .before .before .before .before .before .before in
     let place-of = c .before .before .place-of in
     let enum-told = c .enum-told in
-    fetched-absent (asked-absent _ _ _ _ _ (place-of .ensures (start .args .bs .now) (start .pre .0)) (enum-told .given .1))
+    fetched-absent (asked-absent _ _ _ _ _ (place-of .ensures (start .args .bs .now) (start .pre)) (enum-told .given .1))
 
 head-at-requires : tie.Need-head-at-requires
 head-at-requires c κs =
     let start = c .before .before .before .before .before .before .before .before .before .before .before .before .before .before in
     let place-of = c .before .before .before .place-of in
     let k = c .before .k in
-    numbers-there (stands-at (place-of .ensures (start .args .bs .now) (start .pre .0)) (k .given .1)) (start .pre .0)
+    numbers-there (stands-at (place-of .ensures (start .args .bs .now) (start .pre)) (k .given .1)) (start .pre)
 
 entry-rows-requires : tie.Need-entry-rows-requires
 entry-rows-requires c κs =
     let start = c .before .before .before .before .before .before .before .before .before .before .before .before .before .before .before in
     let place-of = c .before .before .before .before .place-of in
     let k = c .before .before .k in
-    numbers-there (stands-at (place-of .ensures (start .args .bs .now) (start .pre .0)) (k .given .1)) (start .pre .0)
+    numbers-there (stands-at (place-of .ensures (start .args .bs .now) (start .pre)) (k .given .1)) (start .pre)
 
-fetch-rewritten-entry-indexes-requires : tie.Need-fetch-rewritten-entry-indexes-requires
-fetch-rewritten-entry-indexes-requires c κs =
-    let start = c .before .before .before .before .before .before .before .before .before .before .before .before .before .before .before .before .before .before .before .before .before .before .before .before in
-    let place-of = c .before .before .before .before .before .before .before .before .before .before .before .before .before .place-of in
-    let k = c .before .before .before .before .before .before .before .before .before .before .before .k in
-    let head-at = c .before .before .before .before .before .before .before .before .before .head-at in
-    let entry-rows = c .before .before .before .before .before .before .before .before .entry-rows in
-    (entries-wf (stands-at (place-of .ensures (start .args .bs .now) (start .pre .0)) (k .given .1)) (head-at .ensures) (entry-rows .ensures), start .pre .1)
+range-rewritten-requires : tie.Need-range-rewritten-requires
+range-rewritten-requires c κs = search needs
 
-entries-fetched-requires : tie.Need-entries-fetched-requires
-entries-fetched-requires c κs = search needs
+answer-range-requires : tie.Need-answer-range-requires
+answer-range-requires c κs =
+    let start = c .before .before .before .before .before .before .before .before .before .before .before .before .before .before .before .before .before .before .before .before .before .before .before .before .before in
+    let place-of = c .before .before .before .before .before .before .before .before .before .before .before .before .before .before .place-of in
+    let k = c .before .before .before .before .before .before .before .before .before .before .before .before .k in
+    let head-at = c .before .before .before .before .before .before .before .before .before .before .head-at in
+    let entry-rows = c .before .before .before .before .before .before .before .before .before .entry-rows in
+    let range-rewritten = c .before .before .before .before .before .before .before .before .range-rewritten in
+    let wf = entries-wf (stands-at (place-of .ensures (start .args .bs .now) (start .pre)) (k .given .1)) (head-at .ensures) (entry-rows .ensures) in
+    (wf, (range-rewritten .ensures _ wf) .within)
 
 same-length : tie.Need-same-length
 same-length c = search needs
@@ -80,9 +82,10 @@ returns-2 c =
     let k = c .before .before .before .before .before .before .before .before .before .before .before .before .before .before .before .before .before .before .before .before .before .before .before .before .before .before .before .before .before .k in
     let head-at = c .before .before .before .before .before .before .before .before .before .before .before .before .before .before .before .before .before .before .before .before .before .before .before .before .before .before .before .head-at in
     let entry-rows = c .before .before .before .before .before .before .before .before .before .before .before .before .before .before .before .before .before .before .before .before .before .before .before .before .before .before .entry-rows in
-    let fetch-rewritten-entry-indexes = c .before .before .before .before .before .before .before .before .before .before .before .before .before .before .before .before .before .fetch-rewritten-entry-indexes in
-    let entries-fetched = c .entries-fetched in
-    fetched-there (stands-at (place-of .ensures (start .args .bs .now) (start .pre .0)) (k .given .1)) (head-at .ensures) (λ t. ok (fetchRewrittenEntryIndexes t)) (entry-rows .ensures) _ _ _ _ (fetch-rewritten-entry-indexes .ensures) (entries-fetched .ensures)
+    let range-rewritten = c .before .before .before .before .before .before .before .before .before .before .before .before .before .before .before .before .before .before .before .before .before .before .before .before .before .range-rewritten in
+    let answer-range = c .before .before .before .before .before .before .before .before .before .before .before .before .before .before .before .before .answer-range in
+    let wf = entries-wf (stands-at (place-of .ensures (start .args .bs .now) (start .pre)) (k .given .1)) (head-at .ensures) (entry-rows .ensures) in
+    range-there (stands-at (place-of .ensures (start .args .bs .now) (start .pre)) (k .given .1)) (head-at .ensures) (λ t. ok (fetchRewrittenEntryIndexes t)) (entry-rows .ensures) _ (range-rewritten .ensures _ wf) (answer-range .ensures)
 
 pub fetch-rewritten-entry-indexes-spec : {M : Type 1} → statement M
 fetch-rewritten-entry-indexes-spec =
@@ -94,8 +97,8 @@ fetch-rewritten-entry-indexes-spec =
     returns
     head-at-requires
     entry-rows-requires
-    fetch-rewritten-entry-indexes-requires
-    entries-fetched-requires
+    range-rewritten-requires
+    answer-range-requires
     same-length
     same-length-2
     same-length-3
