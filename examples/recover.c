@@ -1,12 +1,17 @@
-/* Recovers a run of the Append queue: batches are replayed into a context, one of them is refused, and what is held is read. */
+/* Recovers two runs of the Append queue, each into a context of its own; the newer one is merged into the older one, which is joined to
+ * a Rewrite context. The index that this makes takes a live batch, and what it holds is read. */
 #include "galdnyrr.h"
 
 #include <inttypes.h>
 #include <stdio.h>
 
-/* An area is 190 KiB: it stands outside of the stack. */
-static uint64_t numbers[GALDNYRR_NUMBERS];
-static uint8_t bytes[GALDNYRR_BYTES];
+/* An area is 173 KiB: it stands outside of the stack. */
+struct area {
+    uint64_t numbers[GALDNYRR_NUMBERS];
+    uint8_t bytes[GALDNYRR_BYTES];
+};
+
+static struct area older, newer, all;
 
 /* A batch in the making, with room for what a call takes at most. */
 struct batch {
@@ -63,28 +68,60 @@ static void add_put(struct batch *b, uint64_t group, const char *key, size_t key
     add_item(b, group, GALDNYRR_PUT, (const uint64_t[7]){key_at, key_len, 1, value_at, value_len, GALDNYRR_APPEND, seq});
 }
 
-static void replay(const struct batch *b) {
-    uint64_t place;
-    uint64_t number = galdnyrr_replay(numbers, GALDNYRR_NUMBERS, bytes, GALDNYRR_BYTES, GALDNYRR_APPEND, 1, b->items,
-                                      b->items_len, b->entries, b->entries_len, b->bytes, b->bytes_len, &place);
+static void fresh(struct area *a, uint64_t queue) {
+    galdnyrr_fresh(a->numbers, GALDNYRR_NUMBERS, a->bytes, GALDNYRR_BYTES, queue);
+}
+
+/* Prints what a call answered. */
+static void tell(const char *call, uint64_t number, uint64_t place) {
     if (number == GALDNYRR_OK) {
-        printf("replayed %zu items\n", b->items_len / GALDNYRR_ITEM_WIDTH);
+        printf("%s: ok\n", call);
     } else if (place == GALDNYRR_NO_PLACE) {
-        printf("refused: %" PRIu64 "\n", number);
+        printf("%s refused: %" PRIu64 "\n", call, number);
     } else {
-        printf("refused: %" PRIu64 " at item %" PRIu64 "\n", number, place);
+        printf("%s refused: %" PRIu64 " at item %" PRIu64 "\n", call, number, place);
     }
 }
 
-/* A list of records for a fetch: eight arrays of one length. */
+static void replay(struct area *a, uint64_t seq, const struct batch *b) {
+    uint64_t place;
+    uint64_t number =
+        galdnyrr_replay(a->numbers, GALDNYRR_NUMBERS, a->bytes, GALDNYRR_BYTES, GALDNYRR_APPEND, seq, b->items,
+                        b->items_len, b->entries, b->entries_len, b->bytes, b->bytes_len, &place);
+    tell("replay", number, place);
+}
+
+static void append(struct area *a, uint64_t seq, const struct batch *b) {
+    uint64_t place;
+    uint64_t number =
+        galdnyrr_append(a->numbers, GALDNYRR_NUMBERS, a->bytes, GALDNYRR_BYTES, GALDNYRR_APPEND, seq, b->items,
+                        b->items_len, b->entries, b->entries_len, b->bytes, b->bytes_len, &place);
+    tell("append", number, place);
+}
+
+static void merge(struct area *a, const struct area *its) {
+    uint64_t place;
+    uint64_t number = galdnyrr_merge(a->numbers, GALDNYRR_NUMBERS, a->bytes, GALDNYRR_BYTES, its->numbers,
+                                     GALDNYRR_NUMBERS, its->bytes, GALDNYRR_BYTES, &place);
+    tell("merge", number, place);
+}
+
+static void join(struct area *a, const struct area *its) {
+    uint64_t place;
+    uint64_t number = galdnyrr_join(a->numbers, GALDNYRR_NUMBERS, a->bytes, GALDNYRR_BYTES, its->numbers,
+                                    GALDNYRR_NUMBERS, its->bytes, GALDNYRR_BYTES, &place);
+    tell("join", number, place);
+}
+
+/* A list of records for a fetch: eight arrays. */
 #define ROOM 64
 static uint64_t record_index[ROOM], record_queue[ROOM], record_seq[ROOM], block_offset[ROOM], block_length[ROOM];
 static uint64_t compression[ROOM], entry_offset[ROOM], entry_length[ROOM];
 
-static void fetch(uint64_t group, uint64_t begin, uint64_t end) {
+static void fetch(const struct area *a, uint64_t group, uint64_t begin, uint64_t end) {
     uint64_t count;
     uint64_t number = galdnyrr_fetch_entries_to(
-        numbers, GALDNYRR_NUMBERS, bytes, GALDNYRR_BYTES, group, begin, end, false, 0, record_index, ROOM, record_queue,
+        a->numbers, GALDNYRR_NUMBERS, a->bytes, GALDNYRR_BYTES, group, begin, end, false, 0, record_index, ROOM, record_queue,
         ROOM, record_seq, ROOM, block_offset, ROOM, block_length, ROOM, compression, ROOM, entry_offset, ROOM,
         entry_length, ROOM, &count);
     if (number != GALDNYRR_OK) {
@@ -97,10 +134,10 @@ static void fetch(uint64_t group, uint64_t begin, uint64_t end) {
     }
 }
 
-static void get(uint64_t group, const char *key, size_t key_len) {
+static void get(const struct area *a, uint64_t group, const char *key, size_t key_len) {
     uint8_t value[32];
     uint64_t len;
-    switch (galdnyrr_get(numbers, GALDNYRR_NUMBERS, bytes, GALDNYRR_BYTES, group, (const uint8_t *)key, key_len, value,
+    switch (galdnyrr_get(a->numbers, GALDNYRR_NUMBERS, a->bytes, GALDNYRR_BYTES, group, (const uint8_t *)key, key_len, value,
                          sizeof value, &len)) {
     case GALDNYRR_OK:
         printf("%.*s = %.*s\n", (int)key_len, key, (int)len, (const char *)value);
@@ -114,25 +151,41 @@ static void get(uint64_t group, const char *key, size_t key_len) {
 }
 
 int main(void) {
-    galdnyrr_fresh(numbers, GALDNYRR_NUMBERS, bytes, GALDNYRR_BYTES, GALDNYRR_APPEND);
-
+    fresh(&older, GALDNYRR_APPEND);
     struct batch first = {.items_len = 0};
     add_entries(&first, 7, 1, 10, 1, 100);
     add_put(&first, 7, "key", 3, "value", 5, 1);
-    replay(&first);
+    replay(&older, 1, &first);
 
     /* A gap: the group ends at 10. Nothing of this batch stays. */
     struct batch gap = {.items_len = 0};
     add_put(&gap, 8, "key", 3, "", 0, 2);
     add_entries(&gap, 7, 12, 1, 2, 100);
-    replay(&gap);
+    replay(&older, 2, &gap);
 
-    fetch(7, 9, 11);
-    fetch(7, 9, 12);
-    get(7, "key", 3);
-    get(7, "other", 5);
-    get(8, "key", 3);
+    /* The run behind it, in a context of its own: its entries take the place of those from 9 on. */
+    fresh(&newer, GALDNYRR_APPEND);
+    struct batch second = {.items_len = 0};
+    add_entries(&second, 7, 9, 3, 3, 50);
+    replay(&newer, 3, &second);
+
+    merge(&older, &newer);
     printf("live entries: %zu\n",
-           galdnyrr_live_entries(numbers, GALDNYRR_NUMBERS, bytes, GALDNYRR_BYTES, GALDNYRR_APPEND));
+           galdnyrr_live_entries(older.numbers, GALDNYRR_NUMBERS, older.bytes, GALDNYRR_BYTES, GALDNYRR_APPEND));
+
+    /* A context of the other queue is joined, not merged. */
+    fresh(&all, GALDNYRR_REWRITE);
+    merge(&older, &all);
+    join(&all, &older);
+
+    struct batch live = {.items_len = 0};
+    add_entries(&live, 7, 12, 1, 4, 50);
+    append(&all, 4, &live);
+
+    fetch(&all, 7, 8, 13);
+    fetch(&all, 7, 9, 14);
+    get(&all, 7, "key", 3);
+    get(&all, 7, "other", 5);
+    get(&all, 8, "key", 3);
     return 0;
 }
