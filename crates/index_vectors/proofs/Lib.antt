@@ -1,3 +1,3 @@
 -- The laws that the functions' proofs cite.
 pub mod Moves
-pub mod Areas
+pub mod AreaLaws

@@ -1,2 +1,5 @@
 -- The definitions that the contracts cite.
+pub mod Told
+pub mod Arguments
+pub mod Areas
 pub mod Reading

@@ -1,60 +1,112 @@
--- `index_vectors::fetches::in_slices` meets its contract. Assumes nothing.
+-- `index_vectors::fetches::in_slices` is safe. Assumes nothing.
 use mathlib.Core.Path.{refl}
 use borrow.Author.Needs.{needs}
 use Rattle.index_vectors.proofs.fetches.in_slices.Statement.{statement}
 use Rattle.index_vectors.proofs.fetches.in_slices.Tie as tie
-use Rattle.index_vectors.proofs.fetches.in_slices.Reads as reads
-use Rattle.index_vectors.proofs.fetches.in_slices.Lts as lts
-use Rattle.index_vectors.proofs.fetches.rows_of.Reads as rows-of-reads
-use Rattle.queries.proofs.fetch_entries_to.Reads as fetch-entries-to-reads
 
-slice-aggregate-fetch-entries-to : tie.Need-slice-aggregate-fetch-entries-to
-slice-aggregate-fetch-entries-to c = search needs
+slice-aggregate-fetch : tie.Need-slice-aggregate-fetch
+slice-aggregate-fetch c = search needs
 
-slice-aggregate-fetch-entries-to-2 : tie.Need-slice-aggregate-fetch-entries-to-2
-slice-aggregate-fetch-entries-to-2 c = search needs
+slice-aggregate-fetch-2 : tie.Need-slice-aggregate-fetch-2
+slice-aggregate-fetch-2 c = search needs
 
-slice-aggregate-fetch-entries-to-3 : tie.Need-slice-aggregate-fetch-entries-to-3
-slice-aggregate-fetch-entries-to-3 c = search needs
+slice-aggregate-fetch-3 : tie.Need-slice-aggregate-fetch-3
+slice-aggregate-fetch-3 c = search needs
 
-slice-aggregate-fetch-entries-to-4 : tie.Need-slice-aggregate-fetch-entries-to-4
-slice-aggregate-fetch-entries-to-4 c = search needs
+slice-aggregate-fetch-4 : tie.Need-slice-aggregate-fetch-4
+slice-aggregate-fetch-4 c = search needs
 
-slice-aggregate-fetch-entries-to-5 : tie.Need-slice-aggregate-fetch-entries-to-5
-slice-aggregate-fetch-entries-to-5 c = search needs
+slice-aggregate-fetch-5 : tie.Need-slice-aggregate-fetch-5
+slice-aggregate-fetch-5 c = search needs
 
-slice-aggregate-fetch-entries-to-6 : tie.Need-slice-aggregate-fetch-entries-to-6
-slice-aggregate-fetch-entries-to-6 c = search needs
+slice-aggregate-fetch-6 : tie.Need-slice-aggregate-fetch-6
+slice-aggregate-fetch-6 c = search needs
 
-slice-aggregate-fetch-entries-to-7 : tie.Need-slice-aggregate-fetch-entries-to-7
-slice-aggregate-fetch-entries-to-7 c = search needs
+slice-aggregate-fetch-7 : tie.Need-slice-aggregate-fetch-7
+slice-aggregate-fetch-7 c = search needs
 
-slice-aggregate-fetch-entries-to-8 : tie.Need-slice-aggregate-fetch-entries-to-8
-slice-aggregate-fetch-entries-to-8 c = search needs
+slice-aggregate-fetch-8 : tie.Need-slice-aggregate-fetch-8
+slice-aggregate-fetch-8 c = search needs
 
-fetch-entries-to-requires : tie.Need-fetch-entries-to-requires
-fetch-entries-to-requires c κs =
-    let start = c .before .before .before .before .before .before .before .before .before .before in
+fetch-requires : tie.Need-fetch-requires
+fetch-requires c κs =
+    let start = c .before .before .before .before .before .before .before .before .before .before .before in
     (start .pre, record { queue = refl; seq = refl; offset = refl; len = refl; compression = refl; «entry_offset» = refl; «entry_len» = refl })
+
+told-fetched-requires : tie.Need-told-fetched-requires
+told-fetched-requires c κs = search needs
+
+is-told-requires : tie.Need-is-told-requires
+is-told-requires c κs = search needs
+
+returns : tie.Need-returns
+returns c = search needs
 
 rows-of-requires : tie.Need-rows-of-requires
 rows-of-requires c κs = search needs
 
-returns : tie.Need-returns
-returns c = search needs
+slice-aggregate-four-are : tie.Need-slice-aggregate-four-are
+slice-aggregate-four-are c = search needs
+
+slice-aggregate-four-are-2 : tie.Need-slice-aggregate-four-are-2
+slice-aggregate-four-are-2 c = search needs
+
+slice-aggregate-four-are-3 : tie.Need-slice-aggregate-four-are-3
+slice-aggregate-four-are-3 c = search needs
+
+slice-aggregate-four-are-4 : tie.Need-slice-aggregate-four-are-4
+slice-aggregate-four-are-4 c = search needs
+
+four-are-requires : tie.Need-four-are-requires
+four-are-requires c κs = search needs
+
+returns-2 : tie.Need-returns-2
+returns-2 c = search needs
+
+slice-aggregate-four-are-5 : tie.Need-slice-aggregate-four-are-5
+slice-aggregate-four-are-5 c = search needs
+
+slice-aggregate-four-are-6 : tie.Need-slice-aggregate-four-are-6
+slice-aggregate-four-are-6 c = search needs
+
+slice-aggregate-four-are-7 : tie.Need-slice-aggregate-four-are-7
+slice-aggregate-four-are-7 c = search needs
+
+slice-aggregate-four-are-8 : tie.Need-slice-aggregate-four-are-8
+slice-aggregate-four-are-8 c = search needs
+
+four-are-requires-2 : tie.Need-four-are-requires-2
+four-are-requires-2 c κs = search needs
+
+returns-3 : tie.Need-returns-3
+returns-3 c = search needs
 
 pub in-slices-spec : {M : Type 1} → statement M
 in-slices-spec =
     tie.close
     (tie.spec
-    slice-aggregate-fetch-entries-to
-    slice-aggregate-fetch-entries-to-2
-    slice-aggregate-fetch-entries-to-3
-    slice-aggregate-fetch-entries-to-4
-    slice-aggregate-fetch-entries-to-5
-    slice-aggregate-fetch-entries-to-6
-    slice-aggregate-fetch-entries-to-7
-    slice-aggregate-fetch-entries-to-8
-    fetch-entries-to-requires
+    slice-aggregate-fetch
+    slice-aggregate-fetch-2
+    slice-aggregate-fetch-3
+    slice-aggregate-fetch-4
+    slice-aggregate-fetch-5
+    slice-aggregate-fetch-6
+    slice-aggregate-fetch-7
+    slice-aggregate-fetch-8
+    fetch-requires
+    told-fetched-requires
+    is-told-requires
+    returns
     rows-of-requires
-    returns)
+    slice-aggregate-four-are
+    slice-aggregate-four-are-2
+    slice-aggregate-four-are-3
+    slice-aggregate-four-are-4
+    four-are-requires
+    returns-2
+    slice-aggregate-four-are-5
+    slice-aggregate-four-are-6
+    slice-aggregate-four-are-7
+    slice-aggregate-four-are-8
+    four-are-requires-2
+    returns-3)
