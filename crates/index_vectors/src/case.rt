@@ -134,7 +134,8 @@ fn front(numbers: &[u64], n: usize) -> &[u64] {
     &numbers[..n]
 }
 
-fn front_bytes(bytes: &[u8], n: usize) -> &[u8] {
+// The first n bytes, or all if there are fewer.
+pub fn front_bytes(bytes: &[u8], n: usize) -> &[u8] {
     if bytes.len() < n {
         return bytes;
     }

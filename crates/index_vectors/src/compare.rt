@@ -1,13 +1,16 @@
 // What a call answered, compared with the stored numbers.
 ghost use mathlib.Core.Path.{_≡_};
 ghost use Prim.Native.Nat.{_≤_, _<_};
+ghost use Rattle.index_vectors.specs.Agreement.{IsAt, SameTold, SameNumbers, SameColumn};
 use crate::told::Told;
 use pipe_log::EntryBlock;
 use pipe_log::EntryIndex;
 use pipe_log::FileBlockHandle;
 
 // Whether the stored number at a place is the given one.
-pub fn is_at(want: &[u64], at: usize, number: u64) -> bool {
+pub fn is_at(want: &[u64], at: usize, number: u64) -> bool
+    ensures { λ r. ⌜ IsAt (now (want .entry)) at number r ⌝ }
+{
     if want.len() <= at {
         return false;
     }
@@ -15,7 +18,9 @@ pub fn is_at(want: &[u64], at: usize, number: u64) -> bool {
 }
 
 // Whether the three numbers of an answer are the first stored ones.
-pub fn is_told(told: Told, want: &[u64]) -> bool {
+pub fn is_told(told: Told, want: &[u64]) -> bool
+    ensures { λ r. ⌜ SameTold told (now (want .entry)) r ⌝ }
+{
     if !is_at(want, 0, told.number) {
         return false;
     }
@@ -26,7 +31,9 @@ pub fn is_told(told: Told, want: &[u64]) -> bool {
 }
 
 // Whether the first `n` numbers of a list are the stored ones from place `at` on.
-pub fn numbers_are(got: &[u64], n: usize, want: &[u64], at: usize) -> bool {
+pub fn numbers_are(got: &[u64], n: usize, want: &[u64], at: usize) -> bool
+    ensures { λ r. ⌜ SameNumbers (now (got .entry)) n (now (want .entry)) at r ⌝ }
+{
     if got.len() < n {
         return false;
     }
@@ -38,7 +45,7 @@ pub fn numbers_are(got: &[u64], n: usize, want: &[u64], at: usize) -> bool {
     }
     let mut i = 0;
     while i < n {
-        if want[at + i] != got[i] {
+        if !is_at(want, at + i, got[i]) {
             return false;
         }
         i += 1;
@@ -54,7 +61,9 @@ fn wide(b: u8) -> u64
 }
 
 // The same of bytes.
-pub fn bytes_are(got: &[u8], n: usize, want: &[u64], at: usize) -> bool {
+pub fn bytes_are(got: &[u8], n: usize, want: &[u64], at: usize) -> bool
+    ensures { λ r. ⌜ SameNumbers (now (got .entry)) n (now (want .entry)) at r ⌝ }
+{
     if got.len() < n {
         return false;
     }
@@ -66,7 +75,7 @@ pub fn bytes_are(got: &[u8], n: usize, want: &[u64], at: usize) -> bool {
     }
     let mut i = 0;
     while i < n {
-        if want[at + i] != wide(got[i]) {
+        if !is_at(want, at + i, wide(got[i])) {
             return false;
         }
         i += 1;
@@ -77,6 +86,7 @@ pub fn bytes_are(got: &[u8], n: usize, want: &[u64], at: usize) -> bool {
 // Whether the first `n` numbers of a list are those at place `j` of the stored rows of entries, which begin at place 3.
 pub fn column_is(got: &[u64], n: usize, want: &[u64], j: usize) -> bool
     requires { ⌜ j < 8 ⌝ }
+    ensures { λ r. ⌜ SameColumn (now (got .entry)) n (now (want .entry)) j r ⌝ }
 {
     if got.len() < n {
         return false;

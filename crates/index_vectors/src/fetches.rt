@@ -2,7 +2,6 @@
 ghost use mathlib.Core.Path.{_≡_};
 ghost use Prim.Native.Nat.{_<_};
 ghost use Rattle.contexts.specs.Contexts.{Wf};
-ghost use Rattle.memtable.specs.Columns.{columns, SameLength};
 ghost use Rattle.index_vectors.specs.Arguments.{boundAs, fetchAs, rowsOf};
 use crate::compare::column_is;
 use crate::compare::is_told;
@@ -23,74 +22,6 @@ fn bound_of(bounded: u64, size: u64) -> Bound
         return Bound::None;
     }
     Bound::At(size)
-}
-
-// Fetches into slices: 50 fetch_entries_to, 51 fetch_entry_indexes_before, otherwise fetch_rewritten_entry_indexes.
-fn fetch(
-    row: [u64; 14],
-    xs: &[u64],
-    bs: &[u8],
-    index: &mut [u64],
-    queue: &mut [u64],
-    seq: &mut [u64],
-    offset: &mut [u64],
-    len: &mut [u64],
-    compression: &mut [u64],
-    entry_offset: &mut [u64],
-    entry_len: &mut [u64],
-) -> Fetched
-    requires { ⌜ Wf (now xs) (now bs) ⌝ }
-    requires { ⌜ SameLength (columns (now index) (now queue) (now seq) (now offset) (now len) (now compression) (now «entry_offset») (now «entry_len»)) ⌝ }
-{
-    let group = row[3];
-    if row[0] == 50 {
-        let size = bound_of(row[6], row[7]);
-        return index::fetch_entries_to(
-            xs,
-            bs,
-            group,
-            row[4],
-            row[5],
-            size,
-            index,
-            queue,
-            seq,
-            offset,
-            len,
-            compression,
-            entry_offset,
-            entry_len,
-        );
-    }
-    if row[0] == 51 {
-        return index::fetch_entry_indexes_before(
-            xs,
-            bs,
-            group,
-            row[4],
-            index,
-            queue,
-            seq,
-            offset,
-            len,
-            compression,
-            entry_offset,
-            entry_len,
-        );
-    }
-    index::fetch_rewritten_entry_indexes(
-        xs,
-        bs,
-        group,
-        index,
-        queue,
-        seq,
-        offset,
-        len,
-        compression,
-        entry_offset,
-        entry_len,
-    )
 }
 
 // The number of rows that a fetch filled; a refused one filled none.
@@ -123,8 +54,31 @@ fn four_are(n: usize, want: &[u64], j: usize, a: &[u64], b: &[u64], c: &[u64], d
     column_is(d, n, want, j + 3)
 }
 
-// Whether a fetch into slices is answered as stored.
-pub fn in_slices(row: [u64; 14], xs: &[u64], bs: &[u8], want: &[u64]) -> bool
+// Whether a fetch filled the slices as stored.
+fn columns_are(
+    answer: Fetched,
+    want: &[u64],
+    index: &[u64],
+    queue: &[u64],
+    seq: &[u64],
+    offset: &[u64],
+    len: &[u64],
+    compression: &[u64],
+    entry_offset: &[u64],
+    entry_len: &[u64],
+) -> bool {
+    if !is_told(told_fetched(answer), want) {
+        return false;
+    }
+    let n = rows_of(answer);
+    if !four_are(n, want, 0, index, queue, seq, offset) {
+        return false;
+    }
+    four_are(n, want, 4, len, compression, entry_offset, entry_len)
+}
+
+// Whether `fetch_entries_to` into slices is answered as stored.
+fn entries_to(row: [u64; 14], xs: &[u64], bs: &[u8], want: &[u64]) -> bool
     requires { ⌜ Wf (now xs) (now bs) ⌝ }
 {
     let mut index = [0u64; 64];
@@ -135,10 +89,13 @@ pub fn in_slices(row: [u64; 14], xs: &[u64], bs: &[u8], want: &[u64]) -> bool
     let mut compression = [0u64; 64];
     let mut entry_offset = [0u64; 64];
     let mut entry_len = [0u64; 64];
-    let answer = fetch(
-        row,
+    let answer = index::fetch_entries_to(
         xs,
         bs,
+        row[3],
+        row[4],
+        row[5],
+        bound_of(row[6], row[7]),
         &mut index,
         &mut queue,
         &mut seq,
@@ -148,14 +105,111 @@ pub fn in_slices(row: [u64; 14], xs: &[u64], bs: &[u8], want: &[u64]) -> bool
         &mut entry_offset,
         &mut entry_len,
     );
-    if !is_told(told_fetched(answer), want) {
-        return false;
+    columns_are(
+        answer,
+        want,
+        &index,
+        &queue,
+        &seq,
+        &offset,
+        &len,
+        &compression,
+        &entry_offset,
+        &entry_len,
+    )
+}
+
+// Whether `fetch_entry_indexes_before` into slices is answered as stored.
+fn indexes_before(row: [u64; 14], xs: &[u64], bs: &[u8], want: &[u64]) -> bool
+    requires { ⌜ Wf (now xs) (now bs) ⌝ }
+{
+    let mut index = [0u64; 64];
+    let mut queue = [0u64; 64];
+    let mut seq = [0u64; 64];
+    let mut offset = [0u64; 64];
+    let mut len = [0u64; 64];
+    let mut compression = [0u64; 64];
+    let mut entry_offset = [0u64; 64];
+    let mut entry_len = [0u64; 64];
+    let answer = index::fetch_entry_indexes_before(
+        xs,
+        bs,
+        row[3],
+        row[4],
+        &mut index,
+        &mut queue,
+        &mut seq,
+        &mut offset,
+        &mut len,
+        &mut compression,
+        &mut entry_offset,
+        &mut entry_len,
+    );
+    columns_are(
+        answer,
+        want,
+        &index,
+        &queue,
+        &seq,
+        &offset,
+        &len,
+        &compression,
+        &entry_offset,
+        &entry_len,
+    )
+}
+
+// Whether `fetch_rewritten_entry_indexes` into slices is answered as stored.
+fn rewritten(row: [u64; 14], xs: &[u64], bs: &[u8], want: &[u64]) -> bool
+    requires { ⌜ Wf (now xs) (now bs) ⌝ }
+{
+    let mut index = [0u64; 64];
+    let mut queue = [0u64; 64];
+    let mut seq = [0u64; 64];
+    let mut offset = [0u64; 64];
+    let mut len = [0u64; 64];
+    let mut compression = [0u64; 64];
+    let mut entry_offset = [0u64; 64];
+    let mut entry_len = [0u64; 64];
+    let answer = index::fetch_rewritten_entry_indexes(
+        xs,
+        bs,
+        row[3],
+        &mut index,
+        &mut queue,
+        &mut seq,
+        &mut offset,
+        &mut len,
+        &mut compression,
+        &mut entry_offset,
+        &mut entry_len,
+    );
+    columns_are(
+        answer,
+        want,
+        &index,
+        &queue,
+        &seq,
+        &offset,
+        &len,
+        &compression,
+        &entry_offset,
+        &entry_len,
+    )
+}
+
+// Whether a fetch into slices is answered as stored: 50 fetch_entries_to, 51 fetch_entry_indexes_before, otherwise
+// fetch_rewritten_entry_indexes.
+fn in_slices(row: [u64; 14], xs: &[u64], bs: &[u8], want: &[u64]) -> bool
+    requires { ⌜ Wf (now xs) (now bs) ⌝ }
+{
+    if row[0] == 50 {
+        return entries_to(row, xs, bs, want);
     }
-    let n = rows_of(answer);
-    if !four_are(n, want, 0, &index, &queue, &seq, &offset) {
-        return false;
+    if row[0] == 51 {
+        return indexes_before(row, xs, bs, want);
     }
-    four_are(n, want, 4, &len, &compression, &entry_offset, &entry_len)
+    rewritten(row, xs, bs, want)
 }
 
 // The fetch that a row names.
@@ -192,7 +246,7 @@ fn records_are(list: [EntryIndex; 64], n: usize, want: &[u64]) -> bool {
 }
 
 // Whether a fetch into a list of records is answered as stored.
-pub fn in_records(row: [u64; 14], xs: &[u64], bs: &[u8], want: &[u64]) -> bool
+fn in_records(row: [u64; 14], xs: &[u64], bs: &[u8], want: &[u64]) -> bool
     requires { ⌜ Wf (now xs) (now bs) ⌝ }
 {
     let empty = EntryIndex {

@@ -15,6 +15,7 @@ ghost use Prim.Native.Nat.{_*_};
 ghost use lib.ListN.{length};
 ghost use Rattle.contexts.specs.Contexts.{areaNumbers, areaBytes};
 use case::Outcome;
+use case::front_bytes;
 use libc::STDOUT_FILENO;
 use store::ALL_BYTES;
 use store::ALL_NUMBERS;
@@ -87,6 +88,25 @@ fn compare_in(name: &[u8], text: &[u8], xs: &mut [u64], bs: &mut [u8]) {
     compare_all(name, text, xs, bs);
 }
 
+// Compares the calls of a text on areas of its own.
+fn compare_text(name: &[u8], text: &[u8]) {
+    let mut xs = [0u64; ALL_NUMBERS];
+    let mut bs = [0u8; ALL_BYTES];
+    compare_in(name, text, &mut xs, &mut bs);
+}
+
+// Compares the calls that a file holds, if it is shorter than the buffer.
+fn compare_read(name: &[u8], fd: i32, text: &mut [u8]) {
+    let length = io::read_full(fd, text);
+    libc::close(fd);
+    if length == text.len() {
+        say(name);
+        say(b": too long\n");
+        return;
+    }
+    compare_text(name, front_bytes(text, length));
+}
+
 // Compares the calls of a file.
 fn compare_file(name: &[u8]) {
     let fd = os::open_read(name);
@@ -96,16 +116,7 @@ fn compare_file(name: &[u8]) {
         return;
     }
     let mut text = [0u8; 262144];
-    let length = io::read_full(fd, &mut text);
-    libc::close(fd);
-    if length == text.len() {
-        say(name);
-        say(b": too long\n");
-        return;
-    }
-    let mut xs = [0u64; ALL_NUMBERS];
-    let mut bs = [0u8; ALL_BYTES];
-    compare_in(name, &text[..length], &mut xs, &mut bs);
+    compare_read(name, fd, &mut text);
 }
 
 fn main() {
