@@ -1,5 +1,4 @@
 -- `index_vectors::fetches::entries_to` is safe. Assumes nothing.
-use mathlib.Core.Path.{refl}
 use borrow.Author.Needs.{needs}
 use Rattle.index_vectors.proofs.fetches.entries_to.Statement.{statement}
 use Rattle.index_vectors.proofs.fetches.entries_to.Tie as tie

@@ -1,5 +1,4 @@
 -- `index_vectors::fetches::indexes_before` is safe. Assumes nothing.
-use mathlib.Core.Path.{refl}
 use borrow.Author.Needs.{needs}
 use Rattle.index_vectors.proofs.fetches.indexes_before.Statement.{statement}
 use Rattle.index_vectors.proofs.fetches.indexes_before.Tie as tie

@@ -1,5 +1,4 @@
 -- `index_vectors::fetches::rewritten` is safe. Assumes nothing.
-use mathlib.Core.Path.{refl}
 use borrow.Author.Needs.{needs}
 use Rattle.index_vectors.proofs.fetches.rewritten.Statement.{statement}
 use Rattle.index_vectors.proofs.fetches.rewritten.Tie as tie
