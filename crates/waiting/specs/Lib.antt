@@ -8,6 +8,7 @@ pub mod Changes
 pub mod Parts
 pub mod Accepts
 pub mod Forms
+pub mod Merges
 pub mod RoomLaws
 pub mod LayoutLaws
 pub mod PlaceLaws

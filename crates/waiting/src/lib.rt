@@ -8,6 +8,8 @@ mod forms;
 mod heads;
 mod items;
 mod limits;
+mod merge;
+mod moves;
 mod places;
 mod rooms;
 
@@ -17,6 +19,7 @@ pub use copies::copy_item;
 pub use copies::tag_at;
 pub use heads::take_part;
 use log_batch::item::LogItem;
+pub use merge::accept_part;
 pub use rooms::clear;
 
 // How many cells the room of a context has: 01's 8 groups twice, since a merge may have the parts of both contexts on the way.
