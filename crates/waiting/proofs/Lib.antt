@@ -13,3 +13,4 @@ pub mod Forming
 pub mod Limiting
 pub mod Moving
 pub mod Merging
+pub mod Seeking

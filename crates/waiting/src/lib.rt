@@ -10,6 +10,7 @@ mod items;
 mod limits;
 mod merge;
 mod moves;
+mod next;
 mod places;
 mod rooms;
 
@@ -20,6 +21,7 @@ pub use copies::tag_at;
 pub use heads::take_part;
 use log_batch::item::LogItem;
 pub use merge::accept_part;
+pub use next::next_cell;
 pub use rooms::clear;
 
 // How many cells the room of a context has: 01's 8 groups twice, since a merge may have the parts of both contexts on the way.
