@@ -4,6 +4,7 @@ pub mod Steps
 pub mod Acts
 pub mod ItemLaws
 pub mod Runs
+pub mod OwnLaws
 pub mod Growth
 pub mod ActLaws
 pub mod RunLaws
