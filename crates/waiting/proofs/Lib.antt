@@ -8,3 +8,4 @@ pub mod Finding
 pub mod Pushing
 pub mod Settling
 pub mod Accepting
+pub mod Copying

@@ -16,3 +16,4 @@ pub mod HeadLaws
 pub mod BatchLaws
 pub mod PartLaws
 pub mod RetagLaws
+pub mod LimitLaws

@@ -2,6 +2,7 @@
 // stands in one slice of numbers and one of bytes.
 mod accept;
 mod batches;
+mod copies;
 pub mod find;
 mod heads;
 mod items;
@@ -9,6 +10,8 @@ mod places;
 mod rooms;
 
 pub use accept::accept_first;
+pub use copies::copy_item;
+pub use copies::tag_at;
 pub use heads::take_part;
 use log_batch::item::LogItem;
 pub use rooms::clear;
