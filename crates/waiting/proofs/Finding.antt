@@ -11,10 +11,11 @@ use lib.ListN.{length, getD}
 use borrow.Author.Tests.{eq-eqb, ne-eqb, lt-ltb, le-ltb, le-leb, lt-leb}
 use Rattle.cells.specs.Part.{part}
 use Rattle.maps.specs.OrderLaws.{split}
+use Rattle.waiting.specs.declared.Place.{Place}
 use Rattle.waiting.specs.declared.Place.the-variants.{At, Free, Full}
 use Rattle.waiting.specs.declared.Step as step
 use Rattle.waiting.specs.Rooms.{headAt, countIn, groupIn}
-use Rattle.waiting.specs.Steps.{isOf, isFree, FirstOf, Found, stepBy, stepOf}
+use Rattle.waiting.specs.Steps.{isOf, isFree, FirstOf, AtCell, FreeCell, NoCell, Found, stepBy, stepOf}
 use Rattle.waiting.specs.HeadLaws.{head-number}
 
 module _ (n : ℕ) (ws : List ℕ) (k : ℕ) (l : k < n) where
@@ -84,3 +85,18 @@ module _ (g n : ℕ) (hs : List ℕ) (k : ℕ) (f : FirstOf (isOf g) n hs k) whe
     pub found-full : n ≤ j → Found g n hs Full
     unfolding Found
     found-full m = record { full = λ i b. e .before i (omega arith); absent = absent }
+
+-- ---- by the place that was found
+
+module _ (g n : ℕ) (hs : List ℕ) (p : Place) (f : Found g n hs p) where
+  pub place-at : (k : ℕ) → p ≡ At k → AtCell g n hs k
+  unfolding Found
+  place-at k e = rw e at f
+
+  pub place-free : (k : ℕ) → p ≡ Free k → FreeCell g n hs k
+  unfolding Found
+  place-free k e = rw e at f
+
+  pub place-full : p ≡ Full → NoCell g n hs
+  unfolding Found
+  place-full e = rw e at f

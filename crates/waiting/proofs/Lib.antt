@@ -9,3 +9,5 @@ pub mod Pushing
 pub mod Settling
 pub mod Accepting
 pub mod Copying
+pub mod Forming
+pub mod Limiting

@@ -7,6 +7,7 @@ pub mod Batches
 pub mod Changes
 pub mod Parts
 pub mod Accepts
+pub mod Forms
 pub mod RoomLaws
 pub mod LayoutLaws
 pub mod PlaceLaws
@@ -17,3 +18,5 @@ pub mod BatchLaws
 pub mod PartLaws
 pub mod RetagLaws
 pub mod LimitLaws
+pub mod FormLaws
+pub mod JudgeLaws

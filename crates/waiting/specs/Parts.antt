@@ -64,12 +64,3 @@ pub record TookPart (n k : ℕ) (ws vs ws′ vs′ : List ℕ) : Type 0 where
 -- the part of a batch from file seq
 unfoldable pub partFor : ℕ → ℕ → List rules.LogItem → Part
 partFor status seq its = record { status = statusOf status; items = its; start = seq; end = seq }
-
--- whether a room of n cells has rows for what waits
-unfoldable pub roomFor : ℕ → Map ℕ (List Part) → Bool
-roomFor n w = leb (waitingItems w) (n * 8) && leb (waitingEntries w) (n * 16)
-
--- the parts ps of group g wait, or there are no rows for them and all is as it was
-abbrev pub Waits : ℕ → ℕ → List Part → List ℕ → List ℕ → Bool → List ℕ → List ℕ → Type 0
-Waits n g ps ws vs true ws′ vs′ = Became g (some ps) (storeOf ws) (roomOf n ws vs) (storeOf ws′) (roomOf n ws′ vs′)
-Waits n g ps ws vs false ws′ vs′ = (roomFor n (store numbers g (some ps) (waitingIn (storeOf ws) (roomOf n ws vs))) ≡ false) × (ws′ ≡ ws) × (vs′ ≡ vs)

@@ -26,7 +26,7 @@ use Rattle.waiting.specs.Parts.{leftHead, WroteIn}
 use Rattle.waiting.specs.PartLaws.{tag-more, tag-other, Retagged, one-cell, two-cell, left-none, left-one}
 
 -- the counts of a tag's items
-counts-with : (t : ℕ) (xs : List Tagged) → (countsFor (itemsWith t xs) .items ≡ countsOf (select (hasTag t) xs) .items) × (countsFor (itemsWith t xs) .entries ≡ countsOf (select (hasTag t) xs) .entries)
+pub counts-with : (t : ℕ) (xs : List Tagged) → (countsFor (itemsWith t xs) .items ≡ countsOf (select (hasTag t) xs) .items) × (countsFor (itemsWith t xs) .entries ≡ countsOf (select (hasTag t) xs) .entries)
 unfolding countsFor itemsWith countsOf
 counts-with t xs = (length-map (select (hasTag t) xs) (λ (x : Tagged). x .item), sum-map entriesIn (λ (x : Tagged). x .item) (select (hasTag t) xs))
 
@@ -39,7 +39,7 @@ module _ (s : Store) (r : Room) (tag : ℕ) (t : Store) (q : Room) (w : Wf s r) 
   none-left = rw items-left (with-taken tag (itemsIn s r))
 
   -- the counts of what is taken out and of what is left
-  taken-both : (t .items + countsFor (itemsWith tag (itemsIn s r)) .items ≡ s .items) × (t .entries + countsFor (itemsWith tag (itemsIn s r)) .entries ≡ s .entries)
+  pub taken-both : (t .items + countsFor (itemsWith tag (itemsIn s r)) .items ≡ s .items) × (t .entries + countsFor (itemsWith tag (itemsIn s r)) .entries ≡ s .entries)
   unfolding itemsIn
   taken-both =
       let x = w .tags-are in

@@ -1,48 +1,74 @@
-// A marked batch's part that comes to wait.
-ghost use mathlib.Core.Bool.{_&&_};
-ghost use mathlib.Core.List.{[], _∷_};
+// A marked batch's part that comes to the room of a context.
 ghost use mathlib.Core.Option.{none};
 ghost use mathlib.Core.Path.{_≡_};
-ghost use Prim.Native.Nat.{_+_, _*_, _≤_, _<_, _^_};
-ghost use lib.Dec.{leb};
-ghost use lib.ListN.{length, getD};
-ghost use Rattle.maps.specs.Maps.{lookup, numbers};
+ghost use Prim.Native.Nat.{_*_};
+ghost use Rattle.cells.specs.Part.{part};
 ghost use Rattle.rules.specs.Items.{replayRewrite};
 ghost use Rattle.rules.specs.Checks.{checks};
 ghost use Rattle.log_batch.specs.Lent.{itemsOf};
-ghost use Rattle.waiting.specs.Rooms.{waitingIn};
-ghost use Rattle.waiting.specs.Layout.{storeOf, roomOf, RoomWf};
+ghost use Rattle.waiting.specs.Layout.{contextCells, ContextRoom};
 ghost use Rattle.waiting.specs.Batches.{unmarked};
-ghost use Rattle.waiting.specs.Parts.{firstHead, partFor, Waits};
+ghost use Rattle.waiting.specs.Parts.{partFor};
+ghost use Rattle.waiting.specs.Steps.{AtCell};
+ghost use Rattle.waiting.specs.Accepts.{AcceptedAs};
+ghost use Rattle.waiting.specs.Forms.{FormAt};
+use crate::Accepted;
+use crate::CELLS;
+use crate::Form;
+use crate::Place;
+use crate::Step;
 use crate::batches::count_batch;
-use crate::heads::counts_in;
-use crate::heads::write_part;
-use stores::Store;
+use crate::find::find;
+use crate::find::step_at;
+use crate::forms::write_form;
+use crate::limits::counts_left;
+use crate::limits::groups_with;
+use crate::limits::within_limits;
 
-// Whether a room of so many cells has rows for more items.
-fn has_rows(store: Store, more: Store, cells: usize) -> bool
-    requires { ⌜ (store .items ≤ cells * 8) × (store .entries ≤ cells * 16) × (more .items ≤ 32) × (more .entries ≤ 1024) × (cells * 218 + 2 < 2 ^ 61) ⌝ }
-    ensures { λ r. ⌜ r ≡ leb (store .items + more .items) (cells * 8) && leb (store .entries + more .entries) (cells * 16) ⌝ }
-{
-    if cells * 8 < store.items + more.items {
-        return false;
-    }
-    store.entries + more.entries <= cells * 16
-}
-
-// The head of a first part in cell `k`.
-fn first_head(k: usize, group: u64, status: u64, seq: u64) -> [u64; 10]
-    requires { ⌜ k * 2 < 2 ^ 64 ⌝ }
-    ensures { λ r. ⌜ r ≡ firstHead k group status seq seq ⌝ }
-{
-    [1, group, k as u64 * 2, status, seq, seq, 0, 0, 0, 0]
-}
-
-// The part of a batch from file `seq` waits as the first of its group in the free cell `k`, or there are no rows for its items.
-pub fn accept_first(
+// Puts the part of a batch into cell `k`, unless a limit would be passed.
+fn accept_form(
     ws: &mut [u64],
     vs: &mut [u8],
-    cells: usize,
+    k: usize,
+    form: Form,
+    group: u64,
+    status: u64,
+    seq: u64,
+    items: &[u64],
+    entries: &[u64],
+    bytes: &[u8],
+) -> Accepted
+    requires { ⌜ ContextRoom (now ws) (now vs) ⌝ }
+    requires { ⌜ FormAt form group contextCells (part 2 (contextCells * 10) (now ws)) k status seq ⌝ }
+    requires { ⌜ checks replayRewrite (itemsOf (now items) (now entries) (now bytes)) ≡ none ⌝ }
+    ensures { λ r. ⌜ AcceptedAs group (partFor status seq (unmarked (itemsOf (now (items .entry)) (now (entries .entry)) (now (bytes .entry))))) (now (ws .entry)) (now (vs .entry)) r (now (ws .exit)) (now (vs .exit)) ⌝ }
+{
+    let groups = groups_with(ws, CELLS, form);
+    let left = counts_left(ws, CELLS, k, form);
+    let more = count_batch(items, entries, bytes);
+    if !within_limits(groups, left, more) {
+        return Accepted::Passed;
+    }
+    write_form(
+        ws,
+        vs,
+        CELLS,
+        k,
+        form,
+        group,
+        status,
+        seq,
+        items,
+        entries,
+        bytes,
+    );
+    Accepted::Waits
+}
+
+// The part of a batch comes to cell `k`, which has parts of its group.
+fn accept_at(
+    ws: &mut [u64],
+    vs: &mut [u8],
     k: usize,
     group: u64,
     status: u64,
@@ -50,19 +76,94 @@ pub fn accept_first(
     items: &[u64],
     entries: &[u64],
     bytes: &[u8],
-) -> bool
-    requires { ⌜ RoomWf cells (now ws) (now vs) ⌝ }
-    requires { ⌜ (k < cells) × (getD (now ws) (2 + k * 10) 0 ≡ 0) × (lookup numbers group (waitingIn (storeOf (now ws)) (roomOf cells (now ws) (now vs))) ≡ none) ⌝ }
+) -> Accepted
+    requires { ⌜ ContextRoom (now ws) (now vs) ⌝ }
+    requires { ⌜ AtCell group contextCells (part 2 (contextCells * 10) (now ws)) k ⌝ }
     requires { ⌜ checks replayRewrite (itemsOf (now items) (now entries) (now bytes)) ≡ none ⌝ }
-    ensures { λ r. ⌜ Waits cells group (partFor status seq (unmarked (itemsOf (now (items .entry)) (now (entries .entry)) (now (bytes .entry)))) ∷ []) (now (ws .entry)) (now (vs .entry)) r (now (ws .exit)) (now (vs .exit)) ⌝ }
+    ensures { λ r. ⌜ AcceptedAs group (partFor status seq (unmarked (itemsOf (now (items .entry)) (now (entries .entry)) (now (bytes .entry))))) (now (ws .entry)) (now (vs .entry)) r (now (ws .exit)) (now (vs .exit)) ⌝ }
 {
-    let store = counts_in(ws);
-    let more = count_batch(items, entries, bytes);
-    if !has_rows(store, more, cells) {
-        return false;
+    let step = step_at(ws, CELLS, k, status, seq);
+    match step {
+        Step::Replace => {
+            accept_form(
+                ws,
+                vs,
+                k,
+                Form::Replace,
+                group,
+                status,
+                seq,
+                items,
+                entries,
+                bytes,
+            )
+        }
+        Step::Front => {
+            accept_form(
+                ws,
+                vs,
+                k,
+                Form::Front,
+                group,
+                status,
+                seq,
+                items,
+                entries,
+                bytes,
+            )
+        }
+        Step::Join => {
+            accept_form(
+                ws,
+                vs,
+                k,
+                Form::Join,
+                group,
+                status,
+                seq,
+                items,
+                entries,
+                bytes,
+            )
+        }
+        Step::Drop => Accepted::Waits,
+        Step::Finish => Accepted::Finishes(k),
+        Step::Back => Accepted::Back,
     }
-    let head = first_head(k, group, status, seq);
-    let tag = k as u64 * 2;
-    write_part(ws, vs, cells, k, &head, store, tag, items, entries, bytes);
-    true
+}
+
+// The part of a batch from file `seq` comes to the room of a context. Within the limits a cell is free for a first part.
+pub fn accept_batch(
+    ws: &mut [u64],
+    vs: &mut [u8],
+    group: u64,
+    status: u64,
+    seq: u64,
+    items: &[u64],
+    entries: &[u64],
+    bytes: &[u8],
+) -> Accepted
+    requires { ⌜ ContextRoom (now ws) (now vs) ⌝ }
+    requires { ⌜ checks replayRewrite (itemsOf (now items) (now entries) (now bytes)) ≡ none ⌝ }
+    ensures { λ r. ⌜ AcceptedAs group (partFor status seq (unmarked (itemsOf (now (items .entry)) (now (entries .entry)) (now (bytes .entry))))) (now (ws .entry)) (now (vs .entry)) r (now (ws .exit)) (now (vs .exit)) ⌝ }
+{
+    let place = find(ws, CELLS, group);
+    match place {
+        Place::At(k) => accept_at(ws, vs, k, group, status, seq, items, entries, bytes),
+        Place::Free(k) => {
+            accept_form(
+                ws,
+                vs,
+                k,
+                Form::First,
+                group,
+                status,
+                seq,
+                items,
+                entries,
+                bytes,
+            )
+        }
+        Place::Full => Accepted::Passed,
+    }
 }

@@ -4,12 +4,14 @@ mod accept;
 mod batches;
 mod copies;
 pub mod find;
+mod forms;
 mod heads;
 mod items;
+mod limits;
 mod places;
 mod rooms;
 
-pub use accept::accept_first;
+pub use accept::accept_batch;
 pub use copies::copy_item;
 pub use copies::tag_at;
 pub use heads::take_part;
@@ -63,6 +65,18 @@ pub enum Step {
     Finish,
     // files go back
     Back,
+}
+
+// How a part that waits is put into a cell.
+pub enum Form {
+    // as the first of its group
+    First,
+    // in front of the newest part
+    Front,
+    // in place of the newest part
+    Replace,
+    // joined to the newest part
+    Join,
 }
 
 // What becomes of a part that comes to a room.
