@@ -11,3 +11,11 @@ pub mod RunLaws
 pub mod BatchLaws
 pub mod GrowthLaws
 pub mod CarryLaws
+pub mod WaitsLaws
+pub mod Finishes
+pub mod StoredLaws
+pub mod SpanLaws
+pub mod FinishLaws
+pub mod MarkedLaws
+pub mod Accepting
+pub mod AcceptLaws

@@ -1,8 +1,8 @@
 -- A Rewrite replay item by item: the context keeps what a Rewrite context keeps, so that each group has Rewrite entries alone.
 -- Assumes nothing.
-use mathlib.Core.Bool.{true, false, not, _&&_}
+use mathlib.Core.Bool.{true, false, not}
 use mathlib.Core.List.{List}
-use mathlib.Core.Option.{Option, none}
+use mathlib.Core.Option.{none}
 use mathlib.Core.Path.{_≡_, refl, sym, ap, _∙_}
 use Prim.Native.Nat.{ℕ, _*_, _<_}
 use lib.ListN.{drop}
@@ -10,7 +10,7 @@ use Rattle.maps.specs.BoolLaws.{clash, neither-left}
 use Rattle.maps.specs.Lists.{any}
 use Rattle.maps.specs.Maps.{lookup, numbers}
 use Rattle.rules.specs.Causes.{ok}
-use Rattle.rules.specs.Items.{Rewrite, sameQueue, hasFile, fileOf, Content, entries, command, kv, LogItem, Placed, isReserved, Call, replayAppend, replayRewrite, liveAppend, liveRewrite, writes}
+use Rattle.rules.specs.Items.{Rewrite, hasFile, Content, entries, command, kv, Placed, isReserved, Call, replayAppend, replayRewrite, liveAppend, liveRewrite, writes}
 use Rattle.rules.specs.Checks.{consecutive, isIncomplete, isOtherQueue, isRewriteReplay, checks}
 use Rattle.rules.specs.Table.{made}
 use Rattle.rules.specs.Context.{context, Context, withGroups, limited, step}

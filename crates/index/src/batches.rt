@@ -27,7 +27,7 @@ use log_batch::open::row_count;
 use stretch::Outcome;
 
 // Carries out item i of a batch that passed the checks.
-fn turn(
+pub fn turn(
     xs: &mut [u64],
     bs: &mut [u8],
     call: Call,
@@ -52,7 +52,7 @@ fn turn(
 }
 
 // Takes an area back to where a batch began, which had so many tombstones and cleaned numbers.
-fn go_back(xs: &mut [u64], bs: &mut [u8], counts: Counts)
+pub fn go_back(xs: &mut [u64], bs: &mut [u8], counts: Counts)
     requires { ⌜ Formed (now xs) (now bs) ⌝ }
     requires { ⌜ Undoable (now xs) (now bs) ⌝ }
     requires { ⌜ lists·rest.Wf (cutTo (counts .tombstones) (counts .cleaned) (drop 9376 (now xs))) (drop 16384 (now bs)) ⌝ }
@@ -64,7 +64,7 @@ fn go_back(xs: &mut [u64], bs: &mut [u8], counts: Counts)
 }
 
 // Carries out the items of a batch that passed the checks, in order.
-fn run_items(
+pub fn run_items(
     xs: &mut [u64],
     bs: &mut [u8],
     call: Call,

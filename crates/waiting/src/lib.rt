@@ -12,6 +12,7 @@ mod places;
 mod rooms;
 
 pub use accept::accept_batch;
+pub use batches::count_batch;
 pub use copies::copy_item;
 pub use copies::tag_at;
 pub use heads::take_part;
