@@ -47,7 +47,7 @@ fn is_index(kind: Kind) -> bool
 }
 
 // The answer to a call on the wrong kind.
-fn wrong_kind() -> Answer
+pub fn wrong_kind() -> Answer
     ensures { λ r. ⌜ r ≡ Answer.Refused 1 Position.None ⌝ }
 {
     Answer::Refused {

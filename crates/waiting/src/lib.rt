@@ -16,6 +16,7 @@ mod rooms;
 
 pub use accept::accept_batch;
 pub use accept::take_finished;
+pub use batches::count_batch;
 pub use copies::copy_item;
 pub use copies::tag_at;
 pub use heads::take_part;

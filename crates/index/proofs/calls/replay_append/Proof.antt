@@ -7,6 +7,7 @@ use Rattle.rules.specs.Items.{Append}
 use Rattle.rules.specs.Checks.{isRewriteReplay}
 use Rattle.log_batch.specs.Judged.{callOf}
 use Rattle.contexts.specs.AreaLaws.{formed-of}
+use Rattle.index.specs.OwnLaws.{keeping-other}
 use Rattle.index.proofs.CallLaws.{zero-below, replay-wrong, replay-right}
 use borrow.Author.Needs.{needs}
 use Rattle.index.proofs.calls.replay_append.Statement.{statement}
@@ -51,7 +52,7 @@ write-requires : tie.Need-write-requires
 unfolding isRewriteReplay callOf
 write-requires c κs =
     let start = c .before .before .before .before .before .before .before .before .before .before .before .before in
-    (formed-of _ _ (start .pre), refl)
+    (formed-of _ _ (start .pre), keeping-other _ _ refl)
 
 same-length-2 : tie.Need-same-length-2
 same-length-2 c = search needs
