@@ -22,6 +22,25 @@ pub extern "C" fn galdnyrr_fresh(xs: &mut [u64], bs: &mut [u8], queue: u64)
     contexts::fresh(xs, bs, queue_of(queue));
 }
 
+// Replays a batch into a context of its file's queue.
+#[no_mangle]
+pub extern "C" fn galdnyrr_replay(
+    xs: &mut [u64],
+    bs: &mut [u8],
+    queue: u64,
+    seq: u64,
+    items: &[u64],
+    entries: &[u64],
+    bytes: &[u8],
+    place: &mut u64,
+) -> u64
+    requires { ⌜ Wf (now xs) (now bs) ⌝ }
+    ensures { λ r. ⌜ Told (rules·calls.replay (batchOf (fileOf queue seq) (now (items .entry)) (now (entries .entry)) (now (bytes .entry)))) (now (xs .entry)) (now (bs .entry)) r (now (place .exit)) (now (xs .exit)) (now (bs .exit)) ⌝ }
+{
+    let answer = index::replay(xs, bs, file_of(queue, seq), items, entries, bytes);
+    tell(answer, place)
+}
+
 // Replays a batch of the Append queue into an Append context.
 #[no_mangle]
 pub extern "C" fn galdnyrr_replay_append(
