@@ -19,8 +19,8 @@ ORACLE = ROOT / 'oracle' / 'target' / 'release' / 'oracle'
 DATA = ROOT / 'crates' / 'index_vectors' / 'data'
 REWRITE = False
 
-# a file is closed at the next script once it has so many bytes; the program reads files below 262,144 bytes
-MOST = 200000
+# the bytes of a file: the program reads files below 262,144 bytes
+MOST = 260000
 
 # ---- scripts
 
@@ -172,12 +172,26 @@ class InRewriteContexts(InContexts):
     """Each table is a group of a Rewrite context, to which Append contexts are joined. Its span is made by marks."""
 
     def t_new(self, table, group):
-        self.group[table] = group
+        self.group[table] = self.group['1' + table] = group
         self.say('c', table, 'new', 1)
         self.say('c', '1' + table, 'new', 0)
 
     def appended(self, table, kind, *words):
         super().appended('1' + table, kind, *words)
+
+    def t_put(self, table, key, value, *file):
+        if file[0] == '1':
+            self.rewritten(table, file[1], '-', 'P', key, value, *file)
+        else:
+            self.appended(table, 'P', key, value, *file)
+
+    def t_delete(self, table, key):
+        self.appended(table, 'D', key)
+        self.rewritten(table, 9, '-', 'D', key)
+
+    def t_compact_to(self, table, index):
+        self.appended(table, 'C', index)
+        self.rewritten(table, 9, '-', 'C', index)
 
     def rewritten(self, table, seq, gate, kind, *words):
         self.say('c', table, 'replay', 1, seq, 1, kind, self.group[table], *words)
@@ -338,6 +352,10 @@ class File:
 
     def length(self):
         return sum(len(line) + 1 for line in self.lines)
+
+    def add(self, other):
+        self.lines += other.lines
+        self.count += other.count
 
     def area(self, context):
         return self.areas.setdefault(context, len(self.areas))
@@ -548,13 +566,21 @@ class File:
 
 
 def files(script):
-    """The rows of a script, in files that each have whole scripts and are not too long."""
-    made = []
+    """The rows of scripts, in files that each have whole scripts and are not too long."""
+    made = [File()]
     for words, said in answered(script):
-        if words[0] == 'script' and (not made or MOST < made[-1].length()):
-            made.append(File())
-        made[-1].take(words, said)
-    return made
+        if words[0] == 'script':
+            one = File()
+            one.take(words, said)
+            made.append(one)
+        else:
+            made[-1].take(words, said)
+    packed = [made[0]]
+    for one in made[1:]:
+        if MOST < packed[-1].length() + one.length():
+            packed.append(File())
+        packed[-1].add(one)
+    return packed
 
 
 def main():

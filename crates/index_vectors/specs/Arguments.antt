@@ -9,6 +9,7 @@ use Rattle.pipe_log.specs.declared.Gate as gate
 use Rattle.pipe_log.specs.declared.Bound as bound
 use Rattle.queries.specs.declared.Fetched as fetched
 use Rattle.records.specs.declared.Fetch as fetch
+use Rattle.index_vectors.specs.declared.row.Row.{Row}
 
 abbrev pub queueAs : ℕ → queue.LogQueue
 queueAs n = cond (eqb n 0) queue.the-variants.Append queue.the-variants.Rewrite
@@ -19,11 +20,31 @@ gateAs gated seq = cond (eqb gated 0) gate.the-variants.None (gate.the-variants.
 abbrev pub boundAs : ℕ → ℕ → bound.Bound
 boundAs bounded size = cond (eqb bounded 0) bound.the-variants.None (bound.the-variants.At size)
 
+-- the fourteen numbers of a line by their names
+abbrev pub rowAs : List ℕ → Row
+rowAs head =
+    record {
+      what = getD head 0 0;
+      area = getD head 1 0;
+      other = getD head 2 0;
+      group = getD head 3 0;
+      a = getD head 4 0;
+      b = getD head 5 0;
+      c = getD head 6 0;
+      d = getD head 7 0;
+      e = getD head 8 0;
+      room = getD head 9 0;
+      items = getD head 10 0;
+      entries = getD head 11 0;
+      bytes = getD head 12 0;
+      want = getD head 13 0;
+    }
+
 -- 50 fetch_entries_to, 51 fetch_entry_indexes_before, otherwise fetch_rewritten_entry_indexes
-abbrev pub fetchAs : List ℕ → fetch.Fetch
+abbrev pub fetchAs : Row → fetch.Fetch
 fetchAs row =
-    cond (eqb (getD row 0 0) 50) (fetch.the-variants.EntriesTo (getD row 4 0) (getD row 5 0) (boundAs (getD row 6 0) (getD row 7 0)))
-    (cond (eqb (getD row 0 0) 51) (fetch.the-variants.EntryIndexesBefore (getD row 4 0)) fetch.the-variants.RewrittenEntryIndexes)
+    cond (eqb (row .what) 50) (fetch.the-variants.EntriesTo (row .a) (row .b) (boundAs (row .c) (row .d)))
+    (cond (eqb (row .what) 51) (fetch.the-variants.EntryIndexesBefore (row .a)) fetch.the-variants.RewrittenEntryIndexes)
 
 -- the rows that a fetch filled
 abbrev pub rowsOf : fetched.Fetched → ℕ

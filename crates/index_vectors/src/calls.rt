@@ -5,6 +5,7 @@ use crate::compare::is_told;
 use crate::compare::numbers_are;
 use crate::fetches;
 use crate::keys::keys;
+use crate::row::Row;
 use crate::told::told_answer;
 use crate::told::told_taken;
 use crate::whole;
@@ -24,12 +25,12 @@ fn cleaned_to(xs: &mut [u64], bs: &[u8], room: usize, list: &mut [u64]) -> Taken
 }
 
 // `take_cleaned_region_logs`, with room for so many numbers.
-fn cleaned(row: [u64; 14], xs: &mut [u64], bs: &[u8], want: &[u64]) -> bool
+fn cleaned(row: Row, xs: &mut [u64], bs: &[u8], want: &[u64]) -> bool
     requires { ⌜ Wf (now xs) (now bs) ⌝ }
     ensures { λ _. ⌜ Wf (now (xs .exit)) (now (bs .entry)) ⌝ }
 {
     let mut list = [0u64; 64];
-    let answer = cleaned_to(xs, bs, row[9] as usize, &mut list);
+    let answer = cleaned_to(xs, bs, row.room as usize, &mut list);
     if !is_told(told_taken(answer), want) {
         return false;
     }
@@ -40,10 +41,10 @@ fn cleaned(row: [u64; 14], xs: &mut [u64], bs: &[u8], want: &[u64]) -> bool
 }
 
 // The queries, by the tens of their numbers.
-fn ask(row: [u64; 14], xs: &[u64], bs: &[u8], bytes: &[u8], want: &[u64]) -> bool
+fn ask(row: Row, xs: &[u64], bs: &[u8], bytes: &[u8], want: &[u64]) -> bool
     requires { ⌜ Wf (now xs) (now bs) ⌝ }
 {
-    match row[0] / 10 {
+    match row.what / 10 {
         1 => is_told(asks::number(row, xs, bs), want),
         2 => is_told(asks::count(row, xs, bs), want),
         3 => asks::one(row, xs, bs, bytes, want),
@@ -57,7 +58,7 @@ fn ask(row: [u64; 14], xs: &[u64], bs: &[u8], bytes: &[u8], want: &[u64]) -> boo
 
 // The calls by their numbers: below 4 recovery, 4 and 5 the live writes, 9 the cleaned numbers, and above it the queries.
 pub fn call(
-    row: [u64; 14],
+    row: Row,
     xs: &mut [u64],
     bs: &mut [u8],
     ys: &[u64],
@@ -70,7 +71,7 @@ pub fn call(
     requires { ⌜ Wf (now xs) (now bs) × Wf (now ys) (now cs) ⌝ }
     ensures { λ _. ⌜ Wf (now (xs .exit)) (now (bs .exit)) ⌝ }
 {
-    let what = row[0];
+    let what = row.what;
     if what < 4 {
         let answer = recover(row, xs, bs, ys, cs, items, entries, bytes);
         return is_told(told_answer(answer), want);

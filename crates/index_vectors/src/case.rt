@@ -4,6 +4,8 @@ ghost use Prim.Native.Nat.{_≤_, _<_};
 ghost use lib.ListN.{length, take};
 ghost use Rattle.index_vectors.specs.Areas.{Areas};
 ghost use Rattle.index_vectors.specs.Reading.{movesOn, movesTo, outcomeMovesOn, outcomeMovesTo};
+use crate::row::Row;
+use crate::row::row_of;
 use crate::store::run;
 use text::Number;
 use text::number_at;
@@ -89,7 +91,7 @@ fn read_bytes(text: &[u8], at: usize, count: usize, out: &mut [u8]) -> Read
 fn read_lists(
     text: &[u8],
     at: usize,
-    row: [u64; 14],
+    row: Row,
     items: &mut [u64],
     entries: &mut [u64],
     bytes: &mut [u8],
@@ -98,10 +100,10 @@ fn read_lists(
     requires { ⌜ at ≤ length (now text) ⌝ }
     ensures { λ r. ⌜ movesTo r at (length (now (text .entry))) ⌝ }
 {
-    let items_len = row[10] as usize;
-    let entries_len = row[11] as usize;
-    let bytes_len = row[12] as usize;
-    let want_len = row[13] as usize;
+    let items_len = row.items as usize;
+    let entries_len = row.entries as usize;
+    let bytes_len = row.bytes as usize;
+    let want_len = row.want as usize;
     if items.len() < items_len {
         return Read::Malformed;
     }
@@ -144,7 +146,7 @@ pub fn front_bytes(bytes: &[u8], n: usize) -> &[u8] {
 
 // Makes the call of a row with the first numbers of the four lists.
 fn run_fronts(
-    row: [u64; 14],
+    row: Row,
     xs: &mut [u64],
     bs: &mut [u8],
     items: &[u64],
@@ -155,15 +157,15 @@ fn run_fronts(
     requires { ⌜ Areas 8 (now xs) (now bs) ⌝ }
     ensures { λ _. ⌜ Areas 8 (now (xs .exit)) (now (bs .exit)) ⌝ }
 {
-    let lent_items = front(items, row[10] as usize);
-    let lent_entries = front(entries, row[11] as usize);
-    let lent_bytes = front_bytes(bytes, row[12] as usize);
-    let stored = front(want, row[13] as usize);
+    let lent_items = front(items, row.items as usize);
+    let lent_entries = front(entries, row.entries as usize);
+    let lent_bytes = front_bytes(bytes, row.bytes as usize);
+    let stored = front(want, row.want as usize);
     run(row, xs, bs, lent_items, lent_entries, lent_bytes, stored)
 }
 
 // Runs the call of a given first line whose lists are at a place.
-fn run_from(text: &[u8], at: usize, row: [u64; 14], xs: &mut [u64], bs: &mut [u8]) -> Outcome
+fn run_from(text: &[u8], at: usize, row: Row, xs: &mut [u64], bs: &mut [u8]) -> Outcome
     requires { ⌜ at ≤ length (now text) ⌝ }
     requires { ⌜ Areas 8 (now xs) (now bs) ⌝ }
     ensures { λ r. ⌜ outcomeMovesTo r at (length (now (text .entry))) ⌝ }
@@ -200,9 +202,9 @@ pub fn run_at(text: &[u8], at: usize, xs: &mut [u64], bs: &mut [u8]) -> Outcome
     let Read::UpTo(named) = skip_line(text, at) else {
         return Outcome::Malformed;
     };
-    let mut row = [0u64; 14];
-    let Read::UpTo(headed) = read_numbers(text, named, 14, 14, &mut row) else {
+    let mut head = [0u64; 14];
+    let Read::UpTo(headed) = read_numbers(text, named, 14, 14, &mut head) else {
         return Outcome::Malformed;
     };
-    run_from(text, headed, row, xs, bs)
+    run_from(text, headed, row_of(head), xs, bs)
 }

@@ -6,6 +6,7 @@ ghost use Rattle.index_vectors.specs.Arguments.{boundAs, fetchAs, rowsOf
 use crate::compare::column_is;
 use crate::compare::is_told;
 use crate::compare::record_is;
+use crate::row::Row;
 use crate::told::told_fetched;
 use index::Fetch;
 use index::Fetched;
@@ -78,7 +79,7 @@ fn columns_are(
 }
 
 // Whether `fetch_entries_to` into slices is answered as stored.
-fn entries_to(row: [u64; 14], xs: &[u64], bs: &[u8], want: &[u64]) -> bool
+fn entries_to(row: Row, xs: &[u64], bs: &[u8], want: &[u64]) -> bool
     requires { ⌜ Wf (now xs) (now bs) ⌝ }
 {
     let mut index = [0u64; 64];
@@ -92,10 +93,10 @@ fn entries_to(row: [u64; 14], xs: &[u64], bs: &[u8], want: &[u64]) -> bool
     let answer = index::fetch_entries_to(
         xs,
         bs,
-        row[3],
-        row[4],
-        row[5],
-        bound_of(row[6], row[7]),
+        row.group,
+        row.a,
+        row.b,
+        bound_of(row.c, row.d),
         &mut index,
         &mut queue,
         &mut seq,
@@ -120,7 +121,7 @@ fn entries_to(row: [u64; 14], xs: &[u64], bs: &[u8], want: &[u64]) -> bool
 }
 
 // Whether `fetch_entry_indexes_before` into slices is answered as stored.
-fn indexes_before(row: [u64; 14], xs: &[u64], bs: &[u8], want: &[u64]) -> bool
+fn indexes_before(row: Row, xs: &[u64], bs: &[u8], want: &[u64]) -> bool
     requires { ⌜ Wf (now xs) (now bs) ⌝ }
 {
     let mut index = [0u64; 64];
@@ -134,8 +135,8 @@ fn indexes_before(row: [u64; 14], xs: &[u64], bs: &[u8], want: &[u64]) -> bool
     let answer = index::fetch_entry_indexes_before(
         xs,
         bs,
-        row[3],
-        row[4],
+        row.group,
+        row.a,
         &mut index,
         &mut queue,
         &mut seq,
@@ -160,7 +161,7 @@ fn indexes_before(row: [u64; 14], xs: &[u64], bs: &[u8], want: &[u64]) -> bool
 }
 
 // Whether `fetch_rewritten_entry_indexes` into slices is answered as stored.
-fn rewritten(row: [u64; 14], xs: &[u64], bs: &[u8], want: &[u64]) -> bool
+fn rewritten(row: Row, xs: &[u64], bs: &[u8], want: &[u64]) -> bool
     requires { ⌜ Wf (now xs) (now bs) ⌝ }
 {
     let mut index = [0u64; 64];
@@ -174,7 +175,7 @@ fn rewritten(row: [u64; 14], xs: &[u64], bs: &[u8], want: &[u64]) -> bool
     let answer = index::fetch_rewritten_entry_indexes(
         xs,
         bs,
-        row[3],
+        row.group,
         &mut index,
         &mut queue,
         &mut seq,
@@ -200,31 +201,31 @@ fn rewritten(row: [u64; 14], xs: &[u64], bs: &[u8], want: &[u64]) -> bool
 
 // Whether a fetch into slices is answered as stored: 50 fetch_entries_to, 51 fetch_entry_indexes_before, otherwise
 // fetch_rewritten_entry_indexes.
-fn in_slices(row: [u64; 14], xs: &[u64], bs: &[u8], want: &[u64]) -> bool
+fn in_slices(row: Row, xs: &[u64], bs: &[u8], want: &[u64]) -> bool
     requires { ⌜ Wf (now xs) (now bs) ⌝ }
 {
-    if row[0] == 50 {
+    if row.what == 50 {
         return entries_to(row, xs, bs, want);
     }
-    if row[0] == 51 {
+    if row.what == 51 {
         return indexes_before(row, xs, bs, want);
     }
     rewritten(row, xs, bs, want)
 }
 
 // The fetch that a row names.
-fn fetch_of(row: [u64; 14]) -> Fetch
+fn fetch_of(row: Row) -> Fetch
     ensures { λ r. ⌜ r ≡ fetchAs row ⌝ }
 {
-    if row[0] == 50 {
+    if row.what == 50 {
         return Fetch::EntriesTo {
-            begin: row[4],
-            end: row[5],
-            max_size: bound_of(row[6], row[7]),
+            begin: row.a,
+            end: row.b,
+            max_size: bound_of(row.c, row.d),
         };
     }
-    if row[0] == 51 {
-        return Fetch::EntryIndexesBefore { gate: row[4] };
+    if row.what == 51 {
+        return Fetch::EntryIndexesBefore { gate: row.a };
     }
     Fetch::RewrittenEntryIndexes
 }
@@ -246,7 +247,7 @@ fn records_are(list: [EntryIndex; 64], n: usize, want: &[u64]) -> bool {
 }
 
 // Whether a fetch into a list of records is answered as stored.
-fn in_records(row: [u64; 14], xs: &[u64], bs: &[u8], want: &[u64]) -> bool
+fn in_records(row: Row, xs: &[u64], bs: &[u8], want: &[u64]) -> bool
     requires { ⌜ Wf (now xs) (now bs) ⌝ }
 {
     let empty = EntryIndex {
@@ -257,7 +258,7 @@ fn in_records(row: [u64; 14], xs: &[u64], bs: &[u8], want: &[u64]) -> bool
         entry_len: 0,
     };
     let list = [empty; 64];
-    let listed = index::fetch_listed(xs, bs, row[3], fetch_of(row), list);
+    let listed = index::fetch_listed(xs, bs, row.group, fetch_of(row), list);
     let answer = listed.answer;
     if !is_told(told_fetched(answer), want) {
         return false;
@@ -267,7 +268,7 @@ fn in_records(row: [u64; 14], xs: &[u64], bs: &[u8], want: &[u64]) -> bool
 }
 
 // Whether both forms of a fetch are answered as stored.
-pub fn entries(row: [u64; 14], xs: &[u64], bs: &[u8], want: &[u64]) -> bool
+pub fn entries(row: Row, xs: &[u64], bs: &[u8], want: &[u64]) -> bool
     requires { ⌜ Wf (now xs) (now bs) ⌝ }
 {
     if !in_slices(row, xs, bs, want) {

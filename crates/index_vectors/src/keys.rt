@@ -4,62 +4,49 @@ use crate::compare::bytes_are;
 use crate::compare::is_told;
 use crate::compare::numbers_are;
 use crate::fetches::rows_of;
+use crate::row::Row;
 use crate::told::told_fetched;
 use index::Fetched;
 
 // A scan whose start is the first bytes of a list, and whose end the rest.
-fn scan(
-    row: [u64; 14],
-    xs: &[u64],
-    bs: &[u8],
-    bytes: &[u8],
-    lens: &mut [u64],
-    out: &mut [u8],
-) -> Fetched
+fn scan(row: Row, xs: &[u64], bs: &[u8], bytes: &[u8], lens: &mut [u64], out: &mut [u8]) -> Fetched
     requires { ⌜ Wf (now xs) (now bs) ⌝ }
 {
-    let m = row[5] as usize;
+    let m = row.b as usize;
     if bytes.len() < m {
         return Fetched::BadRange;
     }
     index::scan(
         xs,
         bs,
-        row[3],
-        row[4] == 1,
+        row.group,
+        row.a == 1,
         &bytes[..m],
-        row[6] == 1,
+        row.c == 1,
         &bytes[m..],
-        row[7] == 1,
-        row[8] as usize,
+        row.d == 1,
+        row.e as usize,
         lens,
         out,
     )
 }
 
 // 40 scan, 41 fetch_kvs_before, otherwise fetch_rewritten_kvs.
-fn fetch(
-    row: [u64; 14],
-    xs: &[u64],
-    bs: &[u8],
-    bytes: &[u8],
-    lens: &mut [u64],
-    out: &mut [u8],
-) -> Fetched
+fn fetch(row: Row, xs: &[u64], bs: &[u8], bytes: &[u8], lens: &mut [u64], out: &mut [u8]) -> Fetched
     requires { ⌜ Wf (now xs) (now bs) ⌝ }
 {
-    if row[0] == 40 {
+    if row.what == 40 {
         return scan(row, xs, bs, bytes, lens, out);
     }
-    if row[0] == 41 {
-        return index::fetch_kvs_before(xs, bs, row[3], row[4], lens, out);
+    if row.what == 41 {
+        return index::fetch_kvs_before(xs, bs, row.group, row.a, lens, out);
     }
-    index::fetch_rewritten_kvs(xs, bs, row[3], lens, out)
+    index::fetch_rewritten_kvs(xs, bs, row.group, lens, out)
 }
 
 // A query of keys into the first `room` rows of lists.
 fn fetch_to(
-    row: [u64; 14],
+    row: Row,
     xs: &[u64],
     bs: &[u8],
     bytes: &[u8],
@@ -95,12 +82,12 @@ fn rows_are(n: usize, lens: &[u64], out: &[u8], want: &[u64]) -> bool {
 }
 
 // Whether a query of keys is answered as stored, with room for so many rows.
-pub fn keys(row: [u64; 14], xs: &[u64], bs: &[u8], bytes: &[u8], want: &[u64]) -> bool
+pub fn keys(row: Row, xs: &[u64], bs: &[u8], bytes: &[u8], want: &[u64]) -> bool
     requires { ⌜ Wf (now xs) (now bs) ⌝ }
 {
     let mut lens = [0u64; 32];
     let mut out = [0u8; 1024];
-    let answer = fetch_to(row, xs, bs, bytes, row[9] as usize, &mut lens, &mut out);
+    let answer = fetch_to(row, xs, bs, bytes, row.room as usize, &mut lens, &mut out);
     if !is_told(told_fetched(answer), want) {
         return false;
     }

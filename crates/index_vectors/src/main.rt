@@ -5,6 +5,7 @@ mod case;
 mod compare;
 mod fetches;
 mod keys;
+mod row;
 mod store;
 mod told;
 mod whole;

@@ -5,6 +5,7 @@ ghost use lib.ListN.{length};
 ghost use Rattle.contexts.specs.Contexts.{areaNumbers, areaBytes, Wf};
 ghost use Rattle.index_vectors.specs.Areas.{Areas};
 use crate::calls::call;
+use crate::row::Row;
 use index::BYTES;
 use index::NUMBERS;
 use pipe_log::LogQueue;
@@ -59,7 +60,7 @@ fn copy_area(xs: &[u64], bs: &[u8], k: usize, ys: &mut [u64], cs: &mut [u8])
 // Makes the call of a row on area k, beside another context.
 fn call_at(
     k: usize,
-    row: [u64; 14],
+    row: Row,
     xs: &mut [u64],
     bs: &mut [u8],
     ys: &[u64],
@@ -92,7 +93,7 @@ fn call_at(
 
 // Makes the call of a row on the area that it names, and says whether the answer is as stored.
 pub fn run(
-    row: [u64; 14],
+    row: Row,
     xs: &mut [u64],
     bs: &mut [u8],
     items: &[u64],
@@ -103,8 +104,8 @@ pub fn run(
     requires { ⌜ Areas 8 (now xs) (now bs) ⌝ }
     ensures { λ _. ⌜ Areas 8 (now (xs .exit)) (now (bs .exit)) ⌝ }
 {
-    let k = row[1] as usize;
-    let other = row[2] as usize;
+    let k = row.area as usize;
+    let other = row.other as usize;
     if AREAS <= k {
         return false;
     }

@@ -4,6 +4,7 @@ use crate::compare::bytes_are;
 use crate::compare::is_told;
 use crate::compare::numbers_are;
 use crate::fetches::rows_of;
+use crate::row::Row;
 use crate::told::Told;
 use crate::told::told_fetched;
 use crate::told::told_flag;
@@ -26,11 +27,11 @@ fn groups_to(xs: &[u64], bs: &[u8], room: usize, list: &mut [u64]) -> Fetched
 }
 
 // The numbers of all groups, with room for so many.
-fn groups(row: [u64; 14], xs: &[u64], bs: &[u8], want: &[u64]) -> bool
+fn groups(row: Row, xs: &[u64], bs: &[u8], want: &[u64]) -> bool
     requires { ⌜ Wf (now xs) (now bs) ⌝ }
 {
     let mut list = [0u64; 8];
-    let answer = groups_to(xs, bs, row[9] as usize, &mut list);
+    let answer = groups_to(xs, bs, row.room as usize, &mut list);
     if !is_told(told_fetched(answer), want) {
         return false;
     }
@@ -38,17 +39,17 @@ fn groups(row: [u64; 14], xs: &[u64], bs: &[u8], want: &[u64]) -> bool
 }
 
 // 60 group_numbers, 61 is_empty, otherwise the live count of a queue.
-pub fn all(row: [u64; 14], xs: &[u64], bs: &[u8], want: &[u64]) -> bool
+pub fn all(row: Row, xs: &[u64], bs: &[u8], want: &[u64]) -> bool
     requires { ⌜ Wf (now xs) (now bs) ⌝ }
 {
-    if row[0] == 60 {
+    if row.what == 60 {
         return groups(row, xs, bs, want);
     }
-    if row[0] == 61 {
+    if row.what == 61 {
         return is_told(told_flag(index::is_empty(xs, bs)), want);
     }
     is_told(
-        told_live(index::live_entries(xs, bs, queue_of(row[4]))),
+        told_live(index::live_entries(xs, bs, queue_of(row.a))),
         want,
     )
 }
@@ -70,34 +71,34 @@ fn bytes_from(bs: &[u8], from: usize, want: &[u64]) -> bool {
 }
 
 // Whether the stored numbers stand in the stretch of a group: 72 its numbers, otherwise its bytes.
-fn stretch(row: [u64; 14], xs: &[u64], bs: &[u8], want: &[u64]) -> bool
+fn stretch(row: Row, xs: &[u64], bs: &[u8], want: &[u64]) -> bool
     requires { ⌜ Wf (now xs) (now bs) ⌝ }
 {
-    let Place::At(k) = queries::place_of(xs, row[3]) else {
+    let Place::At(k) = queries::place_of(xs, row.group) else {
         return false;
     };
-    let at = row[4] as usize;
+    let at = row.a as usize;
     if SLOTS <= k {
         return false;
     }
     if STRETCH_BYTES < at {
         return false;
     }
-    if row[0] == 72 {
+    if row.what == 72 {
         return numbers_from(xs, k * STRETCH + at, want);
     }
     bytes_from(bs, k * STRETCH_BYTES + at, want)
 }
 
 // Whether the stored numbers stand in an area: 70 its numbers, 71 its bytes, otherwise in the stretch of a group.
-pub fn area(row: [u64; 14], xs: &[u64], bs: &[u8], want: &[u64]) -> bool
+pub fn area(row: Row, xs: &[u64], bs: &[u8], want: &[u64]) -> bool
     requires { ⌜ Wf (now xs) (now bs) ⌝ }
 {
-    if row[0] == 70 {
-        return numbers_from(xs, row[4] as usize, want);
+    if row.what == 70 {
+        return numbers_from(xs, row.a as usize, want);
     }
-    if row[0] == 71 {
-        return bytes_from(bs, row[4] as usize, want);
+    if row.what == 71 {
+        return bytes_from(bs, row.a as usize, want);
     }
     stretch(row, xs, bs, want)
 }

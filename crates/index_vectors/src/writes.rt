@@ -2,22 +2,12 @@
 ghost use mathlib.Core.Path.{_≡_};
 ghost use Rattle.contexts.specs.Contexts.{Wf};
 ghost use Rattle.index_vectors.specs.Arguments.{queueAs, gateAs};
+use crate::row::Row;
 use index::Answer;
 use index::Position;
 use pipe_log::FileId;
 use pipe_log::Gate;
 use pipe_log::LogQueue;
-
-// Which call is made, and where the row has its arguments.
-const WHAT: usize = 0;
-
-const QUEUE: usize = 4;
-
-const SEQ: usize = 5;
-
-const GATED: usize = 6;
-
-const GATE: usize = 7;
 
 // Where an area has its kind; an Append context has 0.
 const KIND: usize = groups::NUMBERS;
@@ -77,7 +67,7 @@ fn merge(xs: &mut [u64], bs: &mut [u8], ys: &[u64], cs: &[u8]) -> Answer
 
 // The calls of recovery: 0 fresh, 1 replay, 2 merge, otherwise join.
 pub fn recover(
-    head: [u64; 14],
+    row: Row,
     xs: &mut [u64],
     bs: &mut [u8],
     ys: &[u64],
@@ -89,9 +79,9 @@ pub fn recover(
     requires { ⌜ Wf (now xs) (now bs) × Wf (now ys) (now cs) ⌝ }
     ensures { λ _. ⌜ Wf (now (xs .exit)) (now (bs .exit)) ⌝ }
 {
-    let what = head[WHAT];
+    let what = row.what;
     if what == 0 {
-        return fresh(xs, bs, queue_of(head[QUEUE]));
+        return fresh(xs, bs, queue_of(row.a));
     }
     if what == 1 {
         return index::replay_append(xs, bs, items, entries, bytes);
@@ -104,7 +94,7 @@ pub fn recover(
 
 // The live writes: 4 append, otherwise rewrite.
 pub fn write(
-    head: [u64; 14],
+    row: Row,
     xs: &mut [u64],
     bs: &mut [u8],
     items: &[u64],
@@ -114,17 +104,9 @@ pub fn write(
     requires { ⌜ Wf (now xs) (now bs) ⌝ }
     ensures { λ _. ⌜ Wf (now (xs .exit)) (now (bs .exit)) ⌝ }
 {
-    let file = FileId::new(queue_of(head[QUEUE]), head[SEQ]);
-    if head[WHAT] == 4 {
+    let file = FileId::new(queue_of(row.a), row.b);
+    if row.what == 4 {
         return index::append(xs, bs, file, items, entries, bytes);
     }
-    index::rewrite(
-        xs,
-        bs,
-        gate_of(head[GATED], head[GATE]),
-        file,
-        items,
-        entries,
-        bytes,
-    )
+    index::rewrite(xs, bs, gate_of(row.c, row.d), file, items, entries, bytes)
 }

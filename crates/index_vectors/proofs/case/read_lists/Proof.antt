@@ -6,18 +6,6 @@ use borrow.Author.Needs.{needs}
 use Rattle.index_vectors.proofs.case.read_lists.Statement.{statement}
 use Rattle.index_vectors.proofs.case.read_lists.Tie as tie
 
-array-read-items-len : tie.Need-array-read-items-len
-array-read-items-len c = search needs
-
-array-read-entries-len : tie.Need-array-read-entries-len
-array-read-entries-len c = search needs
-
-array-read-bytes-len : tie.Need-array-read-bytes-len
-array-read-bytes-len c = search needs
-
-array-read-want-len : tie.Need-array-read-want-len
-array-read-want-len c = search needs
-
 returns : tie.Need-returns
 returns c = search needs
 
@@ -136,10 +124,6 @@ pub read-lists-spec : {M : Type 1} → statement M
 read-lists-spec =
     tie.close
     (tie.spec
-    array-read-items-len
-    array-read-entries-len
-    array-read-bytes-len
-    array-read-want-len
     returns
     returns-2
     returns-3

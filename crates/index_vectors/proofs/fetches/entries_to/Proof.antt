@@ -3,21 +3,6 @@ use borrow.Author.Needs.{needs}
 use Rattle.index_vectors.proofs.fetches.entries_to.Statement.{statement}
 use Rattle.index_vectors.proofs.fetches.entries_to.Tie as tie
 
-array-read-fetch-entries-to : tie.Need-array-read-fetch-entries-to
-array-read-fetch-entries-to c = search needs
-
-array-read-fetch-entries-to-2 : tie.Need-array-read-fetch-entries-to-2
-array-read-fetch-entries-to-2 c = search needs
-
-array-read-fetch-entries-to-3 : tie.Need-array-read-fetch-entries-to-3
-array-read-fetch-entries-to-3 c = search needs
-
-array-read-bound-of : tie.Need-array-read-bound-of
-array-read-bound-of c = search needs
-
-array-read-bound-of-2 : tie.Need-array-read-bound-of-2
-array-read-bound-of-2 c = search needs
-
 bound-of-requires : tie.Need-bound-of-requires
 bound-of-requires c κs = search needs
 
@@ -84,11 +69,6 @@ pub entries-to-spec : {M : Type 1} → statement M
 entries-to-spec =
     tie.close
     (tie.spec
-    array-read-fetch-entries-to
-    array-read-fetch-entries-to-2
-    array-read-fetch-entries-to-3
-    array-read-bound-of
-    array-read-bound-of-2
     bound-of-requires
     slice-aggregate-fetch-entries-to
     slice-aggregate-fetch-entries-to-2

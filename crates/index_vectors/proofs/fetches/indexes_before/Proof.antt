@@ -3,12 +3,6 @@ use borrow.Author.Needs.{needs}
 use Rattle.index_vectors.proofs.fetches.indexes_before.Statement.{statement}
 use Rattle.index_vectors.proofs.fetches.indexes_before.Tie as tie
 
-array-read-fetch-entry-indexes-before : tie.Need-array-read-fetch-entry-indexes-before
-array-read-fetch-entry-indexes-before c = search needs
-
-array-read-fetch-entry-indexes-before-2 : tie.Need-array-read-fetch-entry-indexes-before-2
-array-read-fetch-entry-indexes-before-2 c = search needs
-
 slice-aggregate-fetch-entry-indexes-before : tie.Need-slice-aggregate-fetch-entry-indexes-before
 slice-aggregate-fetch-entry-indexes-before c = search needs
 
@@ -72,8 +66,6 @@ pub indexes-before-spec : {M : Type 1} → statement M
 indexes-before-spec =
     tie.close
     (tie.spec
-    array-read-fetch-entry-indexes-before
-    array-read-fetch-entry-indexes-before-2
     slice-aggregate-fetch-entry-indexes-before
     slice-aggregate-fetch-entry-indexes-before-2
     slice-aggregate-fetch-entry-indexes-before-3

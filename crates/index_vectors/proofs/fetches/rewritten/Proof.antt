@@ -3,9 +3,6 @@ use borrow.Author.Needs.{needs}
 use Rattle.index_vectors.proofs.fetches.rewritten.Statement.{statement}
 use Rattle.index_vectors.proofs.fetches.rewritten.Tie as tie
 
-array-read-fetch-rewritten-entry-indexes : tie.Need-array-read-fetch-rewritten-entry-indexes
-array-read-fetch-rewritten-entry-indexes c = search needs
-
 slice-aggregate-fetch-rewritten-entry-indexes : tie.Need-slice-aggregate-fetch-rewritten-entry-indexes
 slice-aggregate-fetch-rewritten-entry-indexes c = search needs
 
@@ -69,7 +66,6 @@ pub rewritten-spec : {M : Type 1} → statement M
 rewritten-spec =
     tie.close
     (tie.spec
-    array-read-fetch-rewritten-entry-indexes
     slice-aggregate-fetch-rewritten-entry-indexes
     slice-aggregate-fetch-rewritten-entry-indexes-2
     slice-aggregate-fetch-rewritten-entry-indexes-3

@@ -3,12 +3,6 @@ use borrow.Author.Needs.{needs}
 use Rattle.index_vectors.proofs.writes.recover.Statement.{statement}
 use Rattle.index_vectors.proofs.writes.recover.Tie as tie
 
-array-read-what : tie.Need-array-read-what
-array-read-what c = search needs
-
-array-read-queue-of : tie.Need-array-read-queue-of
-array-read-queue-of c = search needs
-
 queue-of-requires : tie.Need-queue-of-requires
 queue-of-requires c κs = search needs
 
@@ -66,8 +60,6 @@ pub recover-spec : {M : Type 1} → statement M
 recover-spec =
     tie.close
     (tie.spec
-    array-read-what
-    array-read-queue-of
     queue-of-requires
     fresh-requires
     same-length
