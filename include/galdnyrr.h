@@ -113,12 +113,6 @@ uint64_t galdnyrr_replay(uint64_t *numbers, size_t numbers_len, uint8_t *bytes, 
                          uint64_t seq, const uint64_t *items, size_t items_len, const uint64_t *entries,
                          size_t entries_len, const uint8_t *batch_bytes, size_t batch_bytes_len, uint64_t *place);
 
-/* Replays a batch of the Append queue into an Append context. `place` gets the position of the item that is refused, or
- * GALDNYRR_NO_PLACE. Refused: 1, 2 to 5, 14, 18. */
-uint64_t galdnyrr_replay_append(uint64_t *numbers, size_t numbers_len, uint8_t *bytes, size_t bytes_len,
-                                const uint64_t *items, size_t items_len, const uint64_t *entries, size_t entries_len,
-                                const uint8_t *batch_bytes, size_t batch_bytes_len, uint64_t *place);
-
 /* Joins an Append context, which is only read, to a Rewrite context, which becomes the index. Refused, without a place: 1, 18. */
 uint64_t galdnyrr_join(uint64_t *numbers, size_t numbers_len, uint8_t *bytes, size_t bytes_len,
                        const uint64_t *append_numbers, size_t append_numbers_len, const uint8_t *append_bytes,

@@ -8,8 +8,7 @@ numbers; crates/index_vectors/README.md has the layout.
 - bench_N.txt: document 01's bench cases, its open points, and the calls of crates/rules/proofs/Script.antt.
 - tables_N.txt: the scripts of one group's table, as scripts of that group: once in Append contexts, and once in the index.
 - index_N.txt: the scripts of contexts and the index.
-The index has no call for Rewrite replay and for a merge of Rewrite contexts. As long as REWRITE is False such calls are left out
-before the Rust is asked.
+There is no call for a merge of Rewrite contexts. As long as REWRITE_MERGE is False such calls are left out before the Rust is asked.
 """
 import pathlib
 import subprocess
@@ -17,7 +16,7 @@ import subprocess
 ROOT = pathlib.Path(__file__).resolve().parents[2]
 ORACLE = ROOT / 'oracle' / 'target' / 'release' / 'oracle'
 DATA = ROOT / 'crates' / 'index_vectors' / 'data'
-REWRITE = False
+REWRITE_MERGE = False
 
 # the bytes of a file: the program reads files below 262,144 bytes
 MOST = 260000
@@ -66,11 +65,8 @@ def possible(script):
     for words in script:
         if words[0] == 'c' and words[2] == 'new':
             kinds[words[1]] = words[3]
-        if not REWRITE and words[0] == 'c':
-            if words[2] == 'replay' and words[3] == '1':
-                continue
-            if words[2] == 'merge' and '1' in (kinds[words[1]], kinds[words[3]]):
-                continue
+        if not REWRITE_MERGE and words[0] == 'c' and words[2] == 'merge' and '1' in (kinds[words[1]], kinds[words[3]]):
+            continue
         yield words
 
 
@@ -208,12 +204,12 @@ class InRewriteContexts(InContexts):
 def tables(*paths):
     """The scripts of tables, as scripts of contexts and the index."""
     made = []
-    for kind in [InContexts, InIndex] + ([InRewriteContexts] if REWRITE else []):
+    for kind in [InContexts, InIndex, InRewriteContexts]:
         for path in paths:
             script = kind()
             for words in (words for one in scripts(path, 't') for words in one):
                 script.take(words)
-            made += script.script
+            made += possible(script.script)
     return made
 
 

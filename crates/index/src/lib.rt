@@ -10,7 +10,6 @@ mod spans;
 mod stored;
 
 pub use calls::append;
-pub use calls::replay_append;
 pub use calls::rewrite;
 pub use contexts::Answer;
 pub use contexts::BYTES;

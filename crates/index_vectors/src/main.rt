@@ -125,6 +125,7 @@ fn main() {
     compare_file(b"tables_1.txt");
     compare_file(b"tables_2.txt");
     compare_file(b"tables_3.txt");
+    compare_file(b"tables_4.txt");
     compare_file(b"index_1.txt");
     compare_file(b"index_2.txt");
     compare_file(b"index_3.txt");

@@ -84,7 +84,8 @@ pub fn recover(
         return fresh(xs, bs, queue_of(row.a));
     }
     if what == 1 {
-        return index::replay_append(xs, bs, items, entries, bytes);
+        let file = FileId::new(queue_of(row.a), row.b);
+        return index::replay(xs, bs, file, items, entries, bytes);
     }
     if what == 2 {
         return merge(xs, bs, ys, cs);

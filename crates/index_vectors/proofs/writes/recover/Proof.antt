@@ -18,8 +18,14 @@ same-length-2 c = search needs
 returns : tie.Need-returns
 returns c = search needs
 
-replay-append-requires : tie.Need-replay-append-requires
-replay-append-requires c κs = search needs
+queue-of-requires-2 : tie.Need-queue-of-requires-2
+queue-of-requires-2 c κs = search needs
+
+new-requires : tie.Need-new-requires
+new-requires c κs = search needs
+
+replay-requires : tie.Need-replay-requires
+replay-requires c κs = search needs
 
 same-length-3 : tie.Need-same-length-3
 same-length-3 c = search needs
@@ -28,9 +34,7 @@ same-length-4 : tie.Need-same-length-4
 same-length-4 c = search needs
 
 returns-2 : tie.Need-returns-2
-returns-2 c =
-    let replay-append = c .before .before .before .before .replay-append in
-    replay-append .ensures 0 .wf
+returns-2 c = search needs
 
 merge-requires : tie.Need-merge-requires
 merge-requires c κs = search needs
@@ -65,7 +69,9 @@ recover-spec =
     same-length
     same-length-2
     returns
-    replay-append-requires
+    queue-of-requires-2
+    new-requires
+    replay-requires
     same-length-3
     same-length-4
     returns-2
