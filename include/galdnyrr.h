@@ -107,8 +107,8 @@ enum {
 /* Makes a fresh context of a queue, whatever the area held. Never refused. */
 void galdnyrr_fresh(uint64_t *numbers, size_t numbers_len, uint8_t *bytes, size_t bytes_len, uint64_t queue);
 
-/* Replays a batch into a context of its file's queue. `place` gets the position of the item that is refused, or
- * GALDNYRR_NO_PLACE. Refused: 1, 2 to 5, 7, 8, 14, 18. */
+/* Replays a batch into a context of its file's queue. A marked batch of the Rewrite queue waits, or finishes what waited. `place` gets
+ * the position of the item that is refused, or GALDNYRR_NO_PLACE. Refused: 1, 2 to 5, 7, 8, 14, 18. */
 uint64_t galdnyrr_replay(uint64_t *numbers, size_t numbers_len, uint8_t *bytes, size_t bytes_len, uint64_t queue,
                          uint64_t seq, const uint64_t *items, size_t items_len, const uint64_t *entries,
                          size_t entries_len, const uint8_t *batch_bytes, size_t batch_bytes_len, uint64_t *place);

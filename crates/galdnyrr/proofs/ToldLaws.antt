@@ -6,7 +6,7 @@ use Prim.Native.Nat.{ℕ}
 use Rattle.rules.specs.Causes.{Result}
 use Rattle.rules.specs.Items.{FileId}
 use Rattle.rules.specs.Context.{Context}
-use Rattle.rules.specs.Calls.{append, rewrite}
+use Rattle.rules.specs.Calls.{replay, append, rewrite}
 use Rattle.log_batch.specs.Lent.{batchOf}
 use Rattle.contexts.specs.declared.Answer.{Answer}
 use Rattle.contexts.specs.Contexts.{contextOf, answerAs, Called}
@@ -23,6 +23,10 @@ module _ (xs bs : List ℕ) (r : Answer) (n p : ℕ) (ys fs : List ℕ) (tells :
       }
 
   module _ (items es ds : List ℕ) (file lent : FileId) (same : file ≡ lent) where
+    pub replay-told : Called (replay (batchOf file items es ds)) xs bs r ys fs → Told (replay (batchOf lent items es ds)) xs bs n p ys fs
+    replay-told k =
+        told (replay (batchOf lent items es ds)) (subst (λ f. Called (replay (batchOf f items es ds)) xs bs r ys fs) same k)
+
     pub append-told : Called (append (batchOf file items es ds)) xs bs r ys fs → Told (append (batchOf lent items es ds)) xs bs n p ys fs
     append-told k =
         told (append (batchOf lent items es ds)) (subst (λ f. Called (append (batchOf f items es ds)) xs bs r ys fs) same k)

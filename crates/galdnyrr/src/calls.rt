@@ -1,8 +1,6 @@
 // Contexts and the index for C and Rust: the calls of `index`, with number and place for an answer.
 ghost use mathlib.Core.Path.{_≡_};
-ghost use Prim.Native.Nat.{ℕ};
 ghost use lib.ListN.{length};
-ghost use Rattle.rules.specs.Items.{Append};
 ghost use Rattle.rules.specs.Calls as rules·calls;
 ghost use Rattle.pipe_log.specs.Rows.{queueAt};
 ghost use Rattle.log_batch.specs.Lent.{batchOf};
@@ -22,20 +20,22 @@ pub extern "C" fn galdnyrr_fresh(xs: &mut [u64], bs: &mut [u8], queue: u64)
     contexts::fresh(xs, bs, queue_of(queue));
 }
 
-// Replays a batch of the Append queue into an Append context.
+// Replays a batch into a context of its file's queue.
 #[no_mangle]
-pub extern "C" fn galdnyrr_replay_append(
+pub extern "C" fn galdnyrr_replay(
     xs: &mut [u64],
     bs: &mut [u8],
+    queue: u64,
+    seq: u64,
     items: &[u64],
     entries: &[u64],
     bytes: &[u8],
     place: &mut u64,
 ) -> u64
     requires { ⌜ Wf (now xs) (now bs) ⌝ }
-    ensures { λ r. ⌜ ((seq : ℕ) → Told (rules·calls.replay (batchOf (record { queue = Append; seq = seq }) (now (items .entry)) (now (entries .entry)) (now (bytes .entry)))) (now (xs .entry)) (now (bs .entry)) r (now (place .exit)) (now (xs .exit)) (now (bs .exit))) ⌝ }
+    ensures { λ r. ⌜ Told (rules·calls.replay (batchOf (fileOf queue seq) (now (items .entry)) (now (entries .entry)) (now (bytes .entry)))) (now (xs .entry)) (now (bs .entry)) r (now (place .exit)) (now (xs .exit)) (now (bs .exit)) ⌝ }
 {
-    let answer = index::replay_append(xs, bs, items, entries, bytes);
+    let answer = index::replay(xs, bs, file_of(queue, seq), items, entries, bytes);
     tell(answer, place)
 }
 

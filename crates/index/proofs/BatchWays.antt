@@ -9,19 +9,21 @@ use borrow.Rule.Slice.PartMut.{putMid}
 use Rattle.groups.specs.Undo.{Begun, Undone}
 use Rattle.lists.specs.Rest.{cutTo}
 use Rattle.lists.specs.Rest as lists
-use mathlib.Core.Option.{some}
+use mathlib.Core.Option.{none, some}
 use lib.Dec.{eqb}
 use lib.ListN.{getD}
 use borrow.Author.Tests.{ne-eqb}
 use Rattle.rules.specs.Causes.{left}
 use Rattle.rules.specs.Items.{LogItem, Call, placedFrom}
+use Rattle.rules.specs.Checks.{checks}
 use Rattle.rules.specs.Context.{limited, run}
 use Rattle.log_batch.specs.Lent.{rowCount, itemAt, itemsOf}
 use Rattle.stretch.specs.declared.Outcome.the-variants.{Done, Refused}
 use Rattle.contexts.specs.declared.Answer.the-variants as answer
 use Rattle.contexts.specs.declared.Position.the-variants as position
 use Rattle.contexts.specs.Contexts.{contextOf, Formed, answerAs, positionOf, Answered}
-use Rattle.index.specs.Runs.{Stepped, Going, WentBack}
+use Rattle.index.specs.Runs.{Keeping, Stepped, Going, WentBack}
+use Rattle.index.specs.OwnLaws.{keeping-step, item-clear}
 use Rattle.index.specs.BatchLaws.{begun-formed, begun-context, begun-going, going-on, gone-back, runFrom, run-start, run-end, run-done, run-refused}
 use Rattle.contexts.specs.AreaLaws.{before-back, behind-back}
 
@@ -39,31 +41,34 @@ pub record Under (c : Call) (items es bs : List ℕ) (n t m : ℕ) (ys ds : List
   pub formed : Formed xs fs
   pub going : i < n → Going t m (contextOf ys ds) xs fs
   pub inside : i ≤ n
+  pub own : Keeping c (contextOf xs fs)
 
 module _ (c : Call) (items es bs : List ℕ) (n : ℕ) where
   module _ (xs ds ys : List ℕ) (t m : ℕ) (w : Formed xs ds) (b : Begun xs ds ys)
       (et : t ≡ getD (take (length xs - 9376) (drop 9376 xs)) 1 0) (em : m ≡ getD (take (length xs - 9376) (drop 9376 xs)) 2 0) where
-    pub under-start : Under c items es bs n t m ys ds 0 ys ds
-    under-start =
+    pub under-start : Keeping c (contextOf xs ds) → Under c items es bs n t m ys ds 0 ys ds
+    under-start k =
         let g = begun-going xs ds ys w b in
         record {
           rest = refl;
           formed = begun-formed xs ds ys w b;
           going = λ l. rw (et, em, part-to-end xs 9376, begun-context xs ds ys w b) g;
           inside = omega arith;
+          own = rw (begun-context xs ds ys w b) k;
         }
 
   module _ (t m : ℕ) (ys ds : List ℕ) (i : ℕ) (xs fs : List ℕ) (u : Under c items es bs n t m ys ds i xs fs) (l : i < n) where
     abbrev here : LogItem
     here = itemAt es bs (drop (i * 9) items)
 
-    pub under-more : (zs gs : List ℕ) → Stepped c here (eqb (i + 1) n) xs fs Done zs gs → Under c items es bs n t m ys ds (i + 1) zs gs
-    under-more zs gs s =
+    pub under-more : n ≡ rowCount items → checks c (itemsOf items es bs) ≡ none → (zs gs : List ℕ) → Stepped c here (eqb (i + 1) n) xs fs Done zs gs → Under c items es bs n t m ys ds (i + 1) zs gs
+    under-more q p zs gs s =
         record {
           rest = sym (run-done c items es bs n i (contextOf xs fs) (contextOf zs gs) l (sym (s .rule (some i)))) ∙ u .rest;
           formed = s .formed;
           going = λ k. going-on t m (contextOf ys ds) xs fs zs gs (u .going l) (s .kept (ne-eqb (i + 1) n (λ e. omega arith)));
           inside = omega arith;
+          own = keeping-step c (record { item = here; place = some i }) (contextOf xs fs) (contextOf zs gs) (item-clear c items es bs i p (rw q at l)) (u .own) (sym (s .rule (some i)));
         }
 
     -- refused: the area can go back

@@ -26,30 +26,30 @@ use Rattle.contexts.specs.Contexts.{restAt, contextOf, Formed, Wf, answerAs, po
 use Rattle.contexts.specs.AreaLaws.{formed-of, answered-called}
 
 -- a call that refuses at once
-refused-answered : (to : Context → Result Context) (xs bs : List ℕ) (r : Answer) (f : Refusal) → Formed xs bs → to (contextOf xs bs) ≡ refused f → answerAs r (contextOf xs bs) ≡ refused f → Answered to xs bs r xs bs
+pub refused-answered : (to : Context → Result Context) (xs bs : List ℕ) (r : Answer) (f : Refusal) → Formed xs bs → to (contextOf xs bs) ≡ refused f → answerAs r (contextOf xs bs) ≡ refused f → Answered to xs bs r xs bs
 unfolding left
 refused-answered to xs bs r f w e a =
     record { answers = a ∙ sym e; leaves = sym (ap (left (contextOf xs bs)) e); formed = w }
 
 -- a call that is another one on this area
-same-answered : (to as′ : Context → Result Context) (xs bs : List ℕ) (r : Answer) (ys ds : List ℕ) → to (contextOf xs bs) ≡ as′ (contextOf xs bs) → Answered as′ xs bs r ys ds → Answered to xs bs r ys ds
+pub same-answered : (to as′ : Context → Result Context) (xs bs : List ℕ) (r : Answer) (ys ds : List ℕ) → to (contextOf xs bs) ≡ as′ (contextOf xs bs) → Answered as′ xs bs r ys ds → Answered to xs bs r ys ds
 same-answered to as′ xs bs r ys ds e k =
     record { answers = k .answers ∙ sym e; leaves = k .leaves ∙ ap (left (contextOf xs bs)) (sym e); formed = k .formed }
 
-refused-called : (to : Context → Result Context) (xs bs : List ℕ) (r : Answer) (f : Refusal) → Wf xs bs → to (contextOf xs bs) ≡ refused f → answerAs r (contextOf xs bs) ≡ refused f → Called to xs bs r xs bs
+pub refused-called : (to : Context → Result Context) (xs bs : List ℕ) (r : Answer) (f : Refusal) → Wf xs bs → to (contextOf xs bs) ≡ refused f → answerAs r (contextOf xs bs) ≡ refused f → Called to xs bs r xs bs
 refused-called to xs bs r f w e a =
     answered-called to xs bs r xs bs w (λ d k. absurd (refused-not-ok (sym e ∙ k))) (refused-answered to xs bs r f (formed-of xs bs w) e a)
 
-same-called : (to as′ : Context → Result Context) (xs bs : List ℕ) (r : Answer) (ys ds : List ℕ) → Wf xs bs → ((d : Context) → to (contextOf xs bs) ≡ ok d → Kept d) → to (contextOf xs bs) ≡ as′ (contextOf xs bs) → Answered as′ xs bs r ys ds → Called to xs bs r ys ds
+pub same-called : (to as′ : Context → Result Context) (xs bs : List ℕ) (r : Answer) (ys ds : List ℕ) → Wf xs bs → ((d : Context) → to (contextOf xs bs) ≡ ok d → Kept d) → to (contextOf xs bs) ≡ as′ (contextOf xs bs) → Answered as′ xs bs r ys ds → Called to xs bs r ys ds
 same-called to as′ xs bs r ys ds w k e a = answered-called to xs bs r ys ds w k (same-answered to as′ xs bs r ys ds e a)
 
 -- ---- the checks
 
 module _ (c : Call) (file : FileId) (items es ds : List ℕ) (xs bs : List ℕ) where
-  abbrev batch : Batch
+  abbrev pub batch : Batch
   batch = batchOf file items es ds
 
-  abbrev writes-it : Context → Result Context
+  abbrev pub writes-it : Context → Result Context
   writes-it x = checked c batch (runBatch c batch x)
 
   pub checks-refuse : (n p : ℕ) → Formed xs bs → some (record { number = n; place = some p }) ≡ checks c (itemsOf items es ds) → Answered writes-it xs bs (answer.Refused n (position.At p)) xs bs
@@ -65,7 +65,7 @@ module _ (c : Call) (file : FileId) (items es ds : List ℕ) (xs bs : List ℕ) 
 -- ---- the kind
 
 module _ (xs bs : List ℕ) (k : Kind) (e : k ≡ kindOf (getD (take (length xs - 9376) (drop 9376 xs)) 0 0)) where
-  kind-is : contextOf xs bs .kind ≡ k
+  pub kind-is : contextOf xs bs .kind ≡ k
   unfolding contextOf restAt withGroups withWaiting
   kind-is = rest-kind (drop 9376 xs) (drop 16384 bs) ∙ sym (rw (part-to-end xs 9376) at e)
 

@@ -2,3 +2,7 @@
 pub mod GrowthLaws
 pub mod BatchWays
 pub mod CallLaws
+pub mod StoredWays
+pub mod SpanWays
+pub mod FinishWays
+pub mod ReplayWays

@@ -64,7 +64,7 @@ module _ (xs bs ys : List ℕ) (w : Formed xs bs) (b : Begun xs bs ys) where
   abbrev rest : List ℕ
   rest = drop numbersInUse xs
 
-  begun-room : RoomKept xs bs ys bs
+  pub begun-room : RoomKept xs bs ys bs
   begun-room = behind-room xs bs ys bs (b .behind) refl
 
   pub begun-formed : Formed ys bs

@@ -5,9 +5,8 @@ use mathlib.Core.Path.{_≡_, sym, _∙_}
 use Prim.Native.Nat.{ℕ, _-_}
 use lib.ListN.{length, getD, take, drop}
 use borrow.Rule.Slice.PartAt.{part-to-end}
-use Rattle.maps.specs.BoolLaws.{clash, both-left, both-right}
+use Rattle.maps.specs.BoolLaws.{both-left, both-right}
 use Rattle.rules.specs.Items as rules
-use Rattle.rules.specs.Checks.{isRewriteReplay}
 use Rattle.rules.specs.Table.{Table}
 use Rattle.log_batch.specs.declared.causes.Call as call
 use Rattle.log_batch.specs.declared.item.LogItem as lent
@@ -22,7 +21,7 @@ use Rattle.waiting.specs.Layout.{waitingOf}
 use Rattle.deeds.specs.declared.Deed as deed
 use Rattle.index.specs.Steps.{addsTombstone, addsCleaned, roomIf, listsHaveRoom}
 use Rattle.deeds.specs.Deeds.{rowsIn, keyIn, valueIn, deedOf}
-use Rattle.deeds.specs.DeedLaws.{DeedSays, deed-says}
+use Rattle.deeds.specs.DeedLaws.{OnlyRewrite, DeedSays, deed-says}
 use Rattle.index.specs.Acts.{deedOn, Acted}
 use Rattle.deeds.specs.Deeds.{DeedReady}
 use Rattle.index.specs.ItemLaws.{deed-ready}
@@ -53,8 +52,8 @@ module _ (c : call.Call) (it : lent.LogItem) (es ds : List ℕ) (ready : ItemRea
   unfolding itemOf
   says = deed-says c (it .content) es ds (ready .lent-is .within) (ready .bare) (ready .clear)
 
-  pub does-ready : isRewriteReplay (callOf c) ≡ false → (t : Table) → DeedReady does rows key value t
-  does-ready f t = deed-ready (callOf c) item rows key value t (λ y. absurd (clash (sym f ∙ y))) does says
+  pub does-ready : (t : Table) → OnlyRewrite (callOf c) t → DeedReady does rows key value t
+  does-ready t o = deed-ready (callOf c) item rows key value t o does says
 
   module _ (last : Bool) (xs bs : List ℕ) (w : Formed xs bs) (u : Undoable xs bs) (t n r : Bool)
       (et : t ≡ addsTombstone (callOf c) item) (en : n ≡ addsCleaned (callOf c) item)

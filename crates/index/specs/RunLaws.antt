@@ -30,14 +30,22 @@ use Rattle.index.specs.Growth.{listsWith, AreaGrown}
 use Rattle.index.specs.Runs.{BackKept, Stepped}
 
 -- what lies behind the groups is as it was, and so are the lists
-lists-stay : (xs bs ys ds : List ℕ) → BehindKept xs bs ys ds → Keeps (drop numbersInUse xs) (drop bytesInUse bs) (drop numbersInUse ys) (drop bytesInUse ds)
+pub lists-stay : (xs bs ys ds : List ℕ) → BehindKept xs bs ys ds → Keeps (drop numbersInUse xs) (drop bytesInUse bs) (drop numbersInUse ys) (drop bytesInUse ds)
 lists-stay xs bs ys ds b = rw (b .numbers, b .bytes) (keeps-all (drop numbersInUse xs) (drop bytesInUse bs))
 
-room-stays : (xs bs ys ds : List ℕ) → BehindKept xs bs ys ds → RoomKept xs bs ys ds
+pub room-stays : (xs bs ys ds : List ℕ) → BehindKept xs bs ys ds → RoomKept xs bs ys ds
 room-stays xs bs ys ds b = behind-room xs bs ys ds (b .numbers) (b .bytes)
 
-rest-wf : (xs bs ys ds : List ℕ) → BehindKept xs bs ys ds → lists.Wf (drop numbersInUse xs) (drop bytesInUse bs) → lists.Wf (drop numbersInUse ys) (drop bytesInUse ds)
+pub rest-wf : (xs bs ys ds : List ℕ) → BehindKept xs bs ys ds → lists.Wf (drop numbersInUse xs) (drop bytesInUse bs) → lists.Wf (drop numbersInUse ys) (drop bytesInUse ds)
 rest-wf xs bs ys ds b w = rw (b .numbers, b .bytes) w
+
+-- the context with other groups
+pub behind-context : (xs bs ys ds : List ℕ) → BehindKept xs bs ys ds → contextOf ys ds ≡ withGroups (groupsOf ys ds) (contextOf xs bs)
+unfolding contextOf restAt withGroups withWaiting
+behind-context xs bs ys ds b =
+    ap (λ (v : Map ℕ (List Part)). withGroups (groupsOf ys ds) (withWaiting v (restOf (drop numbersInUse ys) (drop bytesInUse ds)))) (room-waiting xs bs ys ds (room-stays xs bs ys ds b))
+    ∙ ap (λ (l : List ℕ). withGroups (groupsOf ys ds) (withWaiting (waitingOf (waitingNumbers xs) (waitingBytes bs)) (restOf l (drop bytesInUse ds)))) (b .numbers)
+    ∙ ap (λ (l : List ℕ). withGroups (groupsOf ys ds) (withWaiting (waitingOf (waitingNumbers xs) (waitingBytes bs)) (restOf (drop numbersInUse xs) l))) (b .bytes)
 
 module _ (c : Call) (it : LogItem) (last : Bool) (rows key value : List ℕ) (d : deed.Deed) (xs bs : List ℕ) (w : Formed xs bs) (u : Undoable xs bs)
     (says : DeedSays d c (it .content) rows key value) where

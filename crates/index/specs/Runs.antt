@@ -1,5 +1,5 @@
 -- A batch on an area, item by item: what one item does, and the context that a refused batch goes back to.
-use mathlib.Core.Bool.{Bool, false}
+use mathlib.Core.Bool.{Bool, true, false}
 use mathlib.Core.List.{List}
 use mathlib.Core.Option.{Option}
 use mathlib.Core.Path.{_≡_}
@@ -7,8 +7,10 @@ use Prim.Native.Nat.{ℕ, _≤_}
 use lib.ListN.{drop, getD, length}
 use Rattle.maps.specs.Cells.{mapOf}
 use Rattle.rules.specs.Causes.{Result, ok, refused}
-use Rattle.rules.specs.Items.{LogItem, Call, isReserved}
-use Rattle.rules.specs.Context.{Context, withGroups, withWaiting, limited, step}
+use Rattle.rules.specs.Items.{Rewrite, LogItem, Call, isReserved}
+use Rattle.rules.specs.Checks.{isRewriteReplay}
+use Rattle.rules.specs.Context.{context, Context, withGroups, withWaiting, limited, step}
+use Rattle.rules_by_group.specs.RunLaws.{KeptAt}
 use Rattle.log_batch.specs.declared.item.LogItem as lent
 use Rattle.log_batch.specs.Lent.{itemOf}
 use Rattle.log_batch.specs.OpenLaws.{Bare}
@@ -30,6 +32,10 @@ pub record ItemReady (c : Call) (it : lent.LogItem) (es bs : List ℕ) : Type 0 
   pub lent-is : Lent it (length es) (length bs)
   pub bare : Bare (it .content)
   pub clear : isReserved (itemOf it es bs .content) ≡ false → Clear c (itemOf it es bs .content)
+
+-- in a Rewrite replay the context keeps what a Rewrite context keeps
+pub record Keeping (c : Call) (x : Context) : Type 0 where
+  pub own : isRewriteReplay c ≡ true → KeptAt (context Rewrite) x
 
 -- the result of an item at its place
 abbrev pub outcomeAt : Option ℕ → Outcome → Context → Result Context

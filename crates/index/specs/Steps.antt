@@ -140,11 +140,19 @@ fits-grown call it m c h =
     )
     (and-true (a && d && e) ∙ and-assoc a d e)
 
-groups-fit : (c : Context) → fits c ≡ true → groupsFit (c .groups) ≡ true
+-- groups m in c pass no limit if they do not
+pub fits-groups : (m : Map ℕ Table) (c : Context) → fits c ≡ true → fits (withGroups m c) ≡ groupsFit m
+unfolding fits withGroups groupsFit
+fits-groups m c h =
+    let w = within c h in
+    let a = leb (length m) maxGroups && every (λ (p : Pair ℕ Table). tableFits (p .val)) m in
+    rw (w .few-tombstones, w .few-cleaned, w .few-waiting) (and-true (a && true && true) ∙ and-true (a && true) ∙ and-true a)
+
+pub groups-fit : (c : Context) → fits c ≡ true → groupsFit (c .groups) ≡ true
 unfolding groupsFit
 groups-fit c h = both (within c h .few-groups) (within c h .small-tables)
 
-fits-inserted : (g : ℕ) (t : Table) (m : Map ℕ Table) → groupsFit m ≡ true → groupsFit (insert numbers g t m) ≡ (tableFits t && leb (length (insert numbers g t m)) maxGroups)
+pub fits-inserted : (g : ℕ) (t : Table) (m : Map ℕ Table) → groupsFit m ≡ true → groupsFit (insert numbers g t m) ≡ (tableFits t && leb (length (insert numbers g t m)) maxGroups)
 unfolding groupsFit
 fits-inserted g t m h =
     let P : Pair ℕ Table → Bool = λ p. tableFits (p .val) in
@@ -166,7 +174,7 @@ fits-removed g m h =
 
 -- ---- the steps
 
-limited-by : (p : Option ℕ) (c : Context) (b : Bool) → fits c ≡ b → limited p c ≡ cond b (ok c) (refuseAt limitPassed p)
+pub limited-by : (p : Option ℕ) (c : Context) (b : Bool) → fits c ≡ b → limited p c ≡ cond b (ok c) (refuseAt limitPassed p)
 unfolding limited
 limited-by p c b e = rw e
 

@@ -54,7 +54,7 @@ fn clean(xs: &mut [u64], bs: &mut [u8], group: u64, last: bool) -> Outcome
 }
 
 // Changes a group, which is made if it is absent.
-fn change_group(
+pub fn change_group(
     xs: &mut [u64],
     bs: &mut [u8],
     group: u64,

@@ -1,11 +1,10 @@
 // A batch on an area: its items in order, and back to where it began if one is refused.
-ghost use mathlib.Core.Bool.{false};
 ghost use mathlib.Core.Option.{none};
 ghost use mathlib.Core.Path.{_≡_};
 ghost use Prim.Native.Nat.{_<_, _≤_, _*_};
 ghost use lib.ListN.{length, getD, drop};
 ghost use Rattle.rules.specs.Items.{FileId, placedFrom};
-ghost use Rattle.rules.specs.Checks.{checks, isRewriteReplay};
+ghost use Rattle.rules.specs.Checks.{checks};
 ghost use Rattle.rules.specs.Context.{limited, run};
 ghost use Rattle.rules.specs.Calls.{checked, runBatch};
 ghost use Rattle.log_batch.specs.Lent.{rowCount, itemAt, itemsOf, batchOf};
@@ -13,8 +12,8 @@ ghost use Rattle.log_batch.specs.Judged.{callOf};
 ghost use Rattle.groups.specs.Undo.{Undoable};
 ghost use Rattle.lists.specs.Rest.{cutTo};
 ghost use Rattle.lists.specs.Rest as lists·rest;
-ghost use Rattle.contexts.specs.Contexts.{Formed, Answered};
-ghost use Rattle.index.specs.Runs.{Stepped, WentBack};
+ghost use Rattle.contexts.specs.Contexts.{contextOf, Formed, Answered};
+ghost use Rattle.index.specs.Runs.{Keeping, Stepped, WentBack};
 use crate::items::carry_out;
 use contexts::Answer;
 use contexts::Position;
@@ -28,7 +27,7 @@ use log_batch::open::row_count;
 use stretch::Outcome;
 
 // Carries out item i of a batch that passed the checks.
-fn turn(
+pub fn turn(
     xs: &mut [u64],
     bs: &mut [u8],
     call: Call,
@@ -42,7 +41,7 @@ fn turn(
     requires { ⌜ Undoable (now xs) (now bs) ⌝ }
     requires { ⌜ i < rowCount (now items) ⌝ }
     requires { ⌜ checks (callOf call) (itemsOf (now items) (now entries) (now bytes)) ≡ none ⌝ }
-    requires { ⌜ isRewriteReplay (callOf call) ≡ false ⌝ }
+    requires { ⌜ Keeping (callOf call) (contextOf (now xs) (now bs)) ⌝ }
     ensures { λ r. ⌜ Stepped (callOf call) (itemAt (now (entries .entry)) (now (bytes .entry)) (drop (i * 9) (now (items .entry)))) last (now (xs .entry)) (now (bs .entry)) r (now (xs .exit)) (now (bs .exit)) ⌝ }
 {
     let opened = open_item(items, entries, bytes, i);
@@ -53,7 +52,7 @@ fn turn(
 }
 
 // Takes an area back to where a batch began, which had so many tombstones and cleaned numbers.
-fn go_back(xs: &mut [u64], bs: &mut [u8], counts: Counts)
+pub fn go_back(xs: &mut [u64], bs: &mut [u8], counts: Counts)
     requires { ⌜ Formed (now xs) (now bs) ⌝ }
     requires { ⌜ Undoable (now xs) (now bs) ⌝ }
     requires { ⌜ lists·rest.Wf (cutTo (counts .tombstones) (counts .cleaned) (drop 9376 (now xs))) (drop 16384 (now bs)) ⌝ }
@@ -65,7 +64,7 @@ fn go_back(xs: &mut [u64], bs: &mut [u8], counts: Counts)
 }
 
 // Carries out the items of a batch that passed the checks, in order.
-fn run_items(
+pub fn run_items(
     xs: &mut [u64],
     bs: &mut [u8],
     call: Call,
@@ -75,7 +74,7 @@ fn run_items(
 ) -> Answer
     requires { ⌜ Formed (now xs) (now bs) ⌝ }
     requires { ⌜ checks (callOf call) (itemsOf (now items) (now entries) (now bytes)) ≡ none ⌝ }
-    requires { ⌜ isRewriteReplay (callOf call) ≡ false ⌝ }
+    requires { ⌜ Keeping (callOf call) (contextOf (now xs) (now bs)) ⌝ }
     ensures { λ r. ⌜ Answered (run limited (callOf call) (placedFrom 0 (itemsOf (now (items .entry)) (now (entries .entry)) (now (bytes .entry))))) (now (xs .entry)) (now (bs .entry)) r (now (xs .exit)) (now (bs .exit)) ⌝ }
 {
     let a = groups::NUMBERS;
@@ -107,7 +106,7 @@ pub fn write(
     bytes: &[u8],
 ) -> Answer
     requires { ⌜ Formed (now xs) (now bs) ⌝ }
-    requires { ⌜ isRewriteReplay (callOf call) ≡ false ⌝ }
+    requires { ⌜ Keeping (callOf call) (contextOf (now xs) (now bs)) ⌝ }
     ensures { λ r. ⌜ ((file : FileId) → Answered (λ c. checked (callOf call) (batchOf file (now (items .entry)) (now (entries .entry)) (now (bytes .entry))) (runBatch (callOf call) (batchOf file (now (items .entry)) (now (entries .entry)) (now (bytes .entry))) c)) (now (xs .entry)) (now (bs .entry)) r (now (xs .exit)) (now (bs .exit))) ⌝ }
 {
     let answer = check(call, items, entries, bytes);

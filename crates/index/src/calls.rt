@@ -1,9 +1,7 @@
-// The calls of a batch: replay into an Append context, live append and live rewrite on the index.
+// The live calls of a batch: append and rewrite on the index.
 ghost use mathlib.Core.Path.{_≡_};
-ghost use Prim.Native.Nat.{ℕ};
-ghost use lib.ListN.{length};
 ghost use mathlib.Core.Bool.{_&&_};
-ghost use Rattle.rules.specs.Items.{Append, sameQueue};
+ghost use Rattle.rules.specs.Items.{sameQueue};
 ghost use Rattle.rules.specs.Context as rules;
 ghost use Rattle.rules.specs.Calls as rules·calls;
 ghost use Rattle.pipe_log.specs.Numbers.{gateOf};
@@ -23,19 +21,6 @@ use pipe_log::LogQueue;
 // Document 01's number of a call on the wrong kind.
 pub const WRONG_KIND: u64 = 1;
 
-// Whether an area is an Append context.
-fn is_append_context(kind: Kind) -> bool
-    ensures { λ r. ⌜ r ≡ rules.isContext Append (kindAs kind) ⌝ }
-{
-    match kind {
-        Kind::Context(queue) => match queue {
-            LogQueue::Append => true,
-            LogQueue::Rewrite => false,
-        },
-        Kind::Index => false,
-    }
-}
-
 // Whether an area is the index.
 fn is_index(kind: Kind) -> bool
     ensures { λ r. ⌜ r ≡ rules.isIndex (kindAs kind) ⌝ }
@@ -47,32 +32,13 @@ fn is_index(kind: Kind) -> bool
 }
 
 // The answer to a call on the wrong kind.
-fn wrong_kind() -> Answer
+pub fn wrong_kind() -> Answer
     ensures { λ r. ⌜ r ≡ Answer.Refused 1 Position.None ⌝ }
 {
     Answer::Refused {
         number: WRONG_KIND,
         place: Position::None,
     }
-}
-
-// Replays a batch of the Append queue, whatever its file's number, into an Append context.
-pub fn replay_append(
-    xs: &mut [u64],
-    bs: &mut [u8],
-    items: &[u64],
-    entries: &[u64],
-    bytes: &[u8],
-) -> Answer
-    requires { ⌜ Wf (now xs) (now bs) ⌝ }
-    ensures { λ r. ⌜ ((seq : ℕ) → Called (rules·calls.replay (batchOf (record { queue = Append; seq = seq }) (now (items .entry)) (now (entries .entry)) (now (bytes .entry)))) (now (xs .entry)) (now (bs .entry)) r (now (xs .exit)) (now (bs .exit))) ⌝ }
-{
-    let a = groups::NUMBERS;
-    let kind = lists::kind_in(&xs[a..]);
-    if !is_append_context(kind) {
-        return wrong_kind();
-    }
-    write(xs, bs, Call::ReplayAppend, items, entries, bytes)
 }
 
 // Whether an area is the index and a batch's file is of the queue that the call writes.

@@ -1,16 +1,14 @@
 // One item of a batch on an area: its deed on the groups, and what it adds to the lists.
-ghost use mathlib.Core.Bool.{false};
 ghost use mathlib.Core.Path.{_≡_};
 ghost use lib.ListN.{length};
-ghost use Rattle.rules.specs.Checks.{isRewriteReplay};
 ghost use Rattle.log_batch.specs.Lent.{itemOf};
 ghost use Rattle.log_batch.specs.Judged.{callOf};
 ghost use Rattle.groups.specs.Area as groups·area;
 ghost use Rattle.groups.specs.Undo.{Undoable};
 ghost use Rattle.index.specs.Acts.{Acted, deedOn};
 ghost use Rattle.deeds.specs.Deeds.{deedOf, rowsIn, keyIn, valueIn};
-ghost use Rattle.contexts.specs.Contexts.{Formed};
-ghost use Rattle.index.specs.Runs.{ItemReady, Stepped};
+ghost use Rattle.contexts.specs.Contexts.{contextOf, Formed};
+ghost use Rattle.index.specs.Runs.{ItemReady, Keeping, Stepped};
 use crate::acts::act;
 use crate::growth::adds_cleaned;
 use crate::growth::adds_tombstone;
@@ -38,7 +36,7 @@ fn act_item(
     requires { ⌜ groups·area.Wf (now xs) (now bs) ⌝ }
     requires { ⌜ Undoable (now xs) (now bs) ⌝ }
     requires { ⌜ ItemReady (callOf call) item (now entries) (now bytes) ⌝ }
-    requires { ⌜ isRewriteReplay (callOf call) ≡ false ⌝ }
+    requires { ⌜ Keeping (callOf call) (contextOf (now xs) (now bs)) ⌝ }
     ensures { λ r. ⌜ Acted (deedOn (deedOf call (item .content) (now (entries .entry)) (now (bytes .entry))) (item .«raft_group_id») (rowsIn (item .content) (now (entries .entry))) (keyIn (item .content) (now (bytes .entry))) (valueIn (item .content) (now (bytes .entry)))) last (now (xs .entry)) (now (bs .entry)) r (now (xs .exit)) (now (bs .exit)) ⌝ }
 {
     let group = item.raft_group_id;
@@ -63,7 +61,7 @@ pub fn carry_out(
     requires { ⌜ Formed (now xs) (now bs) ⌝ }
     requires { ⌜ Undoable (now xs) (now bs) ⌝ }
     requires { ⌜ ItemReady (callOf call) item (now entries) (now bytes) ⌝ }
-    requires { ⌜ isRewriteReplay (callOf call) ≡ false ⌝ }
+    requires { ⌜ Keeping (callOf call) (contextOf (now xs) (now bs)) ⌝ }
     ensures { λ r. ⌜ Stepped (callOf call) (itemOf item (now (entries .entry)) (now (bytes .entry))) last (now (xs .entry)) (now (bs .entry)) r (now (xs .exit)) (now (bs .exit)) ⌝ }
 {
     let tombstone = adds_tombstone(call, item);

@@ -2,11 +2,14 @@
 mod acts;
 mod batches;
 mod calls;
+mod finish;
 mod growth;
 mod items;
+mod replays;
+mod spans;
+mod stored;
 
 pub use calls::append;
-pub use calls::replay_append;
 pub use calls::rewrite;
 pub use contexts::Answer;
 pub use contexts::BYTES;
@@ -42,3 +45,9 @@ pub use records::Fetch;
 pub use records::Listed;
 pub use records::fetch_listed;
 pub use records::fetch_records;
+pub use replays::replay;
+
+// Where the room of the waiting parts begins in an area's numbers and in its bytes.
+pub const WAITING_AT: usize = 10019;
+
+pub const WAITING_BYTES_AT: usize = 20480;

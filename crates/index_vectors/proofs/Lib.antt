@@ -1,3 +1,4 @@
 -- The laws that the functions' proofs cite.
 pub mod Moves
-pub mod Areas
+pub mod AreaLaws
+pub mod Agreeing

@@ -1,15 +1,12 @@
-// A call of the file: a line that names it, a line of twelve numbers, and the numbers of the three slices.
+// A call of a file: a line that names it, a line of fourteen numbers, and the numbers of four lists.
+ghost use mathlib.Core.Path.{_≡_};
 ghost use Prim.Native.Nat.{_≤_, _<_};
-ghost use lib.ListN.{length};
-ghost use Rattle.contexts.specs.Contexts.{Wf};
+ghost use lib.ListN.{length, take};
+ghost use Rattle.index_vectors.specs.Areas.{Areas};
 ghost use Rattle.index_vectors.specs.Reading.{movesOn, movesTo, outcomeMovesOn, outcomeMovesTo};
-use crate::fetches::all_fetched;
-use crate::fetches::plus;
-use groups::SLOTS;
-use index::Answer;
-use index::Position;
-use pipe_log::LogQueue;
-use stretch::STRETCH;
+use crate::row::Row;
+use crate::row::row_of;
+use crate::store::run;
 use text::Number;
 use text::number_at;
 
@@ -90,21 +87,23 @@ fn read_bytes(text: &[u8], at: usize, count: usize, out: &mut [u8]) -> Read
     Read::UpTo(next)
 }
 
-// Reads the three slices of a call with the given first line.
-fn read_slices(
+// Reads the four lists of a call with the given first line.
+fn read_lists(
     text: &[u8],
     at: usize,
-    head: [u64; 12],
+    row: Row,
     items: &mut [u64],
     entries: &mut [u64],
     bytes: &mut [u8],
+    want: &mut [u64],
 ) -> Read
     requires { ⌜ at ≤ length (now text) ⌝ }
     ensures { λ r. ⌜ movesTo r at (length (now (text .entry))) ⌝ }
 {
-    let items_len = head[3] as usize;
-    let entries_len = head[4] as usize;
-    let bytes_len = head[5] as usize;
+    let items_len = row.items as usize;
+    let entries_len = row.entries as usize;
+    let bytes_len = row.bytes as usize;
+    let want_len = row.want as usize;
     if items.len() < items_len {
         return Read::Malformed;
     }
@@ -114,50 +113,19 @@ fn read_slices(
     if bytes.len() < bytes_len {
         return Read::Malformed;
     }
+    if want.len() < want_len {
+        return Read::Malformed;
+    }
     let Read::UpTo(after_items) = read_numbers(text, at, items_len, 9, items) else {
         return Read::Malformed;
     };
     let Read::UpTo(after_entries) = read_numbers(text, after_items, entries_len, 8, entries) else {
         return Read::Malformed;
     };
-    read_bytes(text, after_entries, bytes_len, bytes)
-}
-
-// Whether a position is the one that the file has: 0 for none, otherwise one more.
-fn is_position(place: Position, at: u64) -> bool {
-    match place {
-        Position::None => at == 0,
-        Position::At(i) => {
-            if at == 0 {
-                return false;
-            }
-            i as u64 == at - 1
-        }
-    }
-}
-
-// Whether an answer is the number and position that are expected; an accepted call has number 0.
-fn is_expected(answer: Answer, expected: u64, at: u64) -> bool {
-    match answer {
-        Answer::Accepted => expected == 0,
-        Answer::Refused { number, place } => {
-            if number != expected {
-                return false;
-            }
-            is_position(place, at)
-        }
-    }
-}
-
-// Makes a fresh Append context where a call asks for one.
-fn fresh_if(asked: bool, xs: &mut [u64], bs: &mut [u8])
-    requires { ⌜ Wf (now xs) (now bs) ⌝ }
-    ensures { λ _. ⌜ Wf (now (xs .exit)) (now (bs .exit)) ⌝ }
-{
-    if !asked {
-        return;
-    }
-    index::fresh(xs, bs, LogQueue::Append);
+    let Read::UpTo(after_bytes) = read_bytes(text, after_entries, bytes_len, bytes) else {
+        return Read::Malformed;
+    };
+    read_numbers(text, after_bytes, want_len, 32, want)
 }
 
 // The first n numbers, or all if there are fewer.
@@ -168,142 +136,75 @@ fn front(numbers: &[u64], n: usize) -> &[u64] {
     &numbers[..n]
 }
 
-fn front_bytes(bytes: &[u8], n: usize) -> &[u8] {
+// The first n bytes, or all if there are fewer.
+pub fn front_bytes(bytes: &[u8], n: usize) -> &[u8] {
     if bytes.len() < n {
         return bytes;
     }
     &bytes[..n]
 }
 
-// A number of an area.
-fn number_in(xs: &[u64], at: usize) -> u64 {
-    if xs.len() <= at {
-        return 0;
-    }
-    xs[at]
-}
-
-// The sum of the numbers at place j of the headers of all groups (stretch/specs/Stretch.antt).
-fn total(xs: &[u64], j: usize) -> u64
-    requires { ⌜ j < 10 ⌝ }
-{
-    let mut sum = 0;
-    let mut k = 0;
-    while k < SLOTS {
-        if number_in(xs, k * STRETCH) == 1 {
-            sum = plus(sum, number_in(xs, k * STRETCH + j));
-        }
-        k += 1;
-    }
-    sum
-}
-
-// Whether an area has so many groups, entries and keys.
-fn groups_hold(xs: &[u64], groups: u64, entries: u64, keys: u64) -> bool {
-    if total(xs, 0) != groups {
-        return false;
-    }
-    if total(xs, 3) != entries {
-        return false;
-    }
-    total(xs, 8) == keys
-}
-
-// Whether an area has so many tombstones and cleaned numbers (lists/specs/Rest.antt).
-fn lists_hold(xs: &[u64], tombstones: u64, cleaned: u64) -> bool {
-    let a = groups::NUMBERS;
-    if number_in(xs, a + 1) != tombstones {
-        return false;
-    }
-    number_in(xs, a + 2) == cleaned
-}
-
-// Whether an area holds as much as the first line of a call says, if it says so.
-fn holds_as(head: [u64; 12], xs: &[u64], bs: &[u8]) -> bool
-    requires { ⌜ Wf (now xs) (now bs) ⌝ }
-{
-    if head[6] == 0 {
-        return true;
-    }
-    if !groups_hold(xs, head[7], head[8], head[9]) {
-        return false;
-    }
-    if all_fetched(xs, bs) != head[8] {
-        return false;
-    }
-    lists_hold(xs, head[10], head[11])
-}
-
-// Makes a call with the given first line, and compares the answer and what the context then holds.
-fn answers_as(
-    head: [u64; 12],
+// Makes the call of a row with the first numbers of the four lists.
+fn run_fronts(
+    row: Row,
     xs: &mut [u64],
     bs: &mut [u8],
     items: &[u64],
     entries: &[u64],
     bytes: &[u8],
+    want: &[u64],
 ) -> bool
-    requires { ⌜ Wf (now xs) (now bs) ⌝ }
-    ensures { λ _. ⌜ Wf (now (xs .exit)) (now (bs .exit)) ⌝ }
+    requires { ⌜ Areas 8 (now xs) (now bs) ⌝ }
+    ensures { λ _. ⌜ Areas 8 (now (xs .exit)) (now (bs .exit)) ⌝ }
 {
-    fresh_if(head[0] == 1, xs, bs);
-    let answer = index::replay_append(xs, bs, items, entries, bytes);
-    if !is_expected(answer, head[1], head[2]) {
-        return false;
-    }
-    holds_as(head, xs, bs)
+    let lent_items = front(items, row.items as usize);
+    let lent_entries = front(entries, row.entries as usize);
+    let lent_bytes = front_bytes(bytes, row.bytes as usize);
+    let stored = front(want, row.want as usize);
+    run(row, xs, bs, lent_items, lent_entries, lent_bytes, stored)
 }
 
-// The same with the first numbers of the three slices.
-fn run(
-    head: [u64; 12],
-    xs: &mut [u64],
-    bs: &mut [u8],
-    items: &[u64],
-    entries: &[u64],
-    bytes: &[u8],
-) -> bool
-    requires { ⌜ Wf (now xs) (now bs) ⌝ }
-    ensures { λ _. ⌜ Wf (now (xs .exit)) (now (bs .exit)) ⌝ }
-{
-    let lent_items = front(items, head[3] as usize);
-    let lent_entries = front(entries, head[4] as usize);
-    let lent_bytes = front_bytes(bytes, head[5] as usize);
-    answers_as(head, xs, bs, lent_items, lent_entries, lent_bytes)
-}
-
-// Runs the call of a given first line whose slices are at a place.
-fn run_from(text: &[u8], at: usize, head: [u64; 12], xs: &mut [u64], bs: &mut [u8]) -> Outcome
+// Runs the call of a given first line whose lists are at a place.
+fn run_from(text: &[u8], at: usize, row: Row, xs: &mut [u64], bs: &mut [u8]) -> Outcome
     requires { ⌜ at ≤ length (now text) ⌝ }
-    requires { ⌜ Wf (now xs) (now bs) ⌝ }
+    requires { ⌜ Areas 8 (now xs) (now bs) ⌝ }
     ensures { λ r. ⌜ outcomeMovesTo r at (length (now (text .entry))) ⌝ }
-    ensures { λ _. ⌜ Wf (now (xs .exit)) (now (bs .exit)) ⌝ }
+    ensures { λ _. ⌜ Areas 8 (now (xs .exit)) (now (bs .exit)) ⌝ }
 {
     let mut items = [0u64; 512];
     let mut entries = [0u64; 4096];
-    let mut bytes = [0u8; 1024];
-    let Read::UpTo(end) = read_slices(text, at, head, &mut items, &mut entries, &mut bytes) else {
+    let mut bytes = [0u8; 2048];
+    let mut want = [0u64; 2048];
+    let Read::UpTo(end) = read_lists(
+        text,
+        at,
+        row,
+        &mut items,
+        &mut entries,
+        &mut bytes,
+        &mut want,
+    ) else {
         return Outcome::Malformed;
     };
-    if run(head, xs, bs, &items, &entries, &bytes) {
+    if run_fronts(row, xs, bs, &items, &entries, &bytes, &want) {
         return Outcome::Same(end);
     }
     Outcome::Differs(end)
 }
 
-// Runs the call at a place on the context of an area.
+// Runs the call at a place.
 pub fn run_at(text: &[u8], at: usize, xs: &mut [u64], bs: &mut [u8]) -> Outcome
     requires { ⌜ at ≤ length (now text) ⌝ }
-    requires { ⌜ Wf (now xs) (now bs) ⌝ }
+    requires { ⌜ Areas 8 (now xs) (now bs) ⌝ }
     ensures { λ r. ⌜ outcomeMovesOn r at (length (now (text .entry))) ⌝ }
-    ensures { λ _. ⌜ Wf (now (xs .exit)) (now (bs .exit)) ⌝ }
+    ensures { λ _. ⌜ Areas 8 (now (xs .exit)) (now (bs .exit)) ⌝ }
 {
     let Read::UpTo(named) = skip_line(text, at) else {
         return Outcome::Malformed;
     };
-    let mut head = [0u64; 12];
-    let Read::UpTo(headed) = read_numbers(text, named, 12, 12, &mut head) else {
+    let mut head = [0u64; 14];
+    let Read::UpTo(headed) = read_numbers(text, named, 14, 14, &mut head) else {
         return Outcome::Malformed;
     };
-    run_from(text, headed, head, xs, bs)
+    run_from(text, headed, row_of(head), xs, bs)
 }

@@ -1,17 +1,36 @@
-// How many entries the fetches give of all groups, into parallel slices and into records.
+// The fetches of entry records, in both forms: into parallel slices, and into a list of records.
+ghost use mathlib.Core.Path.{_≡_};
+ghost use Prim.Native.Nat.{_<_};
 ghost use Rattle.contexts.specs.Contexts.{Wf};
+ghost use Rattle.index_vectors.specs.Arguments.{boundAs, fetchAs, rowsOf};
+use crate::compare::column_is;
+use crate::compare::is_told;
+use crate::compare::record_is;
+use crate::row::Row;
+use crate::told::told_fetched;
 use index::Fetch;
 use index::Fetched;
-use index::FoundNumber;
 use pipe_log::Bound;
 use pipe_log::CompressionType;
 use pipe_log::EntryBlock;
 use pipe_log::EntryIndex;
 
+// The bound of a fetch: none, or a size.
+fn bound_of(bounded: u64, size: u64) -> Bound
+    ensures { λ r. ⌜ r ≡ boundAs bounded size ⌝ }
+{
+    if bounded == 0 {
+        return Bound::None;
+    }
+    Bound::At(size)
+}
+
 // The number of rows that a fetch filled; a refused one filled none.
-fn rows_of(answer: Fetched) -> u64 {
+pub fn rows_of(answer: Fetched) -> usize
+    ensures { λ r. ⌜ r ≡ rowsOf answer ⌝ }
+{
     match answer {
-        Fetched::Done(n) => n as u64,
+        Fetched::Done(n) => n,
         Fetched::GroupAbsent => 0,
         Fetched::BadRange => 0,
         Fetched::EntryCompacted => 0,
@@ -20,38 +39,215 @@ fn rows_of(answer: Fetched) -> u64 {
     }
 }
 
-// Of the entries in [begin, end), into parallel slices.
-fn in_slices(xs: &[u64], bs: &[u8], group: u64, begin: u64, end: u64) -> u64
-    requires { ⌜ Wf (now xs) (now bs) ⌝ }
+// Whether the first `n` numbers of four slices are those of the stored rows from place `j` of a row on.
+fn four_are(n: usize, want: &[u64], j: usize, a: &[u64], b: &[u64], c: &[u64], d: &[u64]) -> bool
+    requires { ⌜ j < 5 ⌝ }
 {
-    let mut indexes = [0u64; 64];
-    let mut queues = [0u64; 64];
-    let mut seqs = [0u64; 64];
-    let mut offsets = [0u64; 64];
-    let mut lens = [0u64; 64];
-    let mut compressions = [0u64; 64];
-    let mut entry_offsets = [0u64; 64];
-    let mut entry_lens = [0u64; 64];
-    rows_of(index::fetch_entries_to(
-        xs,
-        bs,
-        group,
-        begin,
-        end,
-        Bound::None,
-        &mut indexes,
-        &mut queues,
-        &mut seqs,
-        &mut offsets,
-        &mut lens,
-        &mut compressions,
-        &mut entry_offsets,
-        &mut entry_lens,
-    ))
+    if !column_is(a, n, want, j) {
+        return false;
+    }
+    if !column_is(b, n, want, j + 1) {
+        return false;
+    }
+    if !column_is(c, n, want, j + 2) {
+        return false;
+    }
+    column_is(d, n, want, j + 3)
 }
 
-// The same into a list of records.
-fn in_records(xs: &[u64], bs: &[u8], group: u64, begin: u64, end: u64) -> u64
+// Whether a fetch filled the slices as stored.
+fn columns_are(
+    answer: Fetched,
+    want: &[u64],
+    index: &[u64],
+    queue: &[u64],
+    seq: &[u64],
+    offset: &[u64],
+    len: &[u64],
+    compression: &[u64],
+    entry_offset: &[u64],
+    entry_len: &[u64],
+) -> bool {
+    if !is_told(told_fetched(answer), want) {
+        return false;
+    }
+    let n = rows_of(answer);
+    if !four_are(n, want, 0, index, queue, seq, offset) {
+        return false;
+    }
+    four_are(n, want, 4, len, compression, entry_offset, entry_len)
+}
+
+// Whether `fetch_entries_to` into slices is answered as stored.
+fn entries_to(row: Row, xs: &[u64], bs: &[u8], want: &[u64]) -> bool
+    requires { ⌜ Wf (now xs) (now bs) ⌝ }
+{
+    let mut index = [0u64; 64];
+    let mut queue = [0u64; 64];
+    let mut seq = [0u64; 64];
+    let mut offset = [0u64; 64];
+    let mut len = [0u64; 64];
+    let mut compression = [0u64; 64];
+    let mut entry_offset = [0u64; 64];
+    let mut entry_len = [0u64; 64];
+    let answer = index::fetch_entries_to(
+        xs,
+        bs,
+        row.group,
+        row.a,
+        row.b,
+        bound_of(row.c, row.d),
+        &mut index,
+        &mut queue,
+        &mut seq,
+        &mut offset,
+        &mut len,
+        &mut compression,
+        &mut entry_offset,
+        &mut entry_len,
+    );
+    columns_are(
+        answer,
+        want,
+        &index,
+        &queue,
+        &seq,
+        &offset,
+        &len,
+        &compression,
+        &entry_offset,
+        &entry_len,
+    )
+}
+
+// Whether `fetch_entry_indexes_before` into slices is answered as stored.
+fn indexes_before(row: Row, xs: &[u64], bs: &[u8], want: &[u64]) -> bool
+    requires { ⌜ Wf (now xs) (now bs) ⌝ }
+{
+    let mut index = [0u64; 64];
+    let mut queue = [0u64; 64];
+    let mut seq = [0u64; 64];
+    let mut offset = [0u64; 64];
+    let mut len = [0u64; 64];
+    let mut compression = [0u64; 64];
+    let mut entry_offset = [0u64; 64];
+    let mut entry_len = [0u64; 64];
+    let answer = index::fetch_entry_indexes_before(
+        xs,
+        bs,
+        row.group,
+        row.a,
+        &mut index,
+        &mut queue,
+        &mut seq,
+        &mut offset,
+        &mut len,
+        &mut compression,
+        &mut entry_offset,
+        &mut entry_len,
+    );
+    columns_are(
+        answer,
+        want,
+        &index,
+        &queue,
+        &seq,
+        &offset,
+        &len,
+        &compression,
+        &entry_offset,
+        &entry_len,
+    )
+}
+
+// Whether `fetch_rewritten_entry_indexes` into slices is answered as stored.
+fn rewritten(row: Row, xs: &[u64], bs: &[u8], want: &[u64]) -> bool
+    requires { ⌜ Wf (now xs) (now bs) ⌝ }
+{
+    let mut index = [0u64; 64];
+    let mut queue = [0u64; 64];
+    let mut seq = [0u64; 64];
+    let mut offset = [0u64; 64];
+    let mut len = [0u64; 64];
+    let mut compression = [0u64; 64];
+    let mut entry_offset = [0u64; 64];
+    let mut entry_len = [0u64; 64];
+    let answer = index::fetch_rewritten_entry_indexes(
+        xs,
+        bs,
+        row.group,
+        &mut index,
+        &mut queue,
+        &mut seq,
+        &mut offset,
+        &mut len,
+        &mut compression,
+        &mut entry_offset,
+        &mut entry_len,
+    );
+    columns_are(
+        answer,
+        want,
+        &index,
+        &queue,
+        &seq,
+        &offset,
+        &len,
+        &compression,
+        &entry_offset,
+        &entry_len,
+    )
+}
+
+// Whether a fetch into slices is answered as stored: 50 fetch_entries_to, 51 fetch_entry_indexes_before, otherwise
+// fetch_rewritten_entry_indexes.
+fn in_slices(row: Row, xs: &[u64], bs: &[u8], want: &[u64]) -> bool
+    requires { ⌜ Wf (now xs) (now bs) ⌝ }
+{
+    if row.what == 50 {
+        return entries_to(row, xs, bs, want);
+    }
+    if row.what == 51 {
+        return indexes_before(row, xs, bs, want);
+    }
+    rewritten(row, xs, bs, want)
+}
+
+// The fetch that a row names.
+fn fetch_of(row: Row) -> Fetch
+    ensures { λ r. ⌜ r ≡ fetchAs row ⌝ }
+{
+    if row.what == 50 {
+        return Fetch::EntriesTo {
+            begin: row.a,
+            end: row.b,
+            max_size: bound_of(row.c, row.d),
+        };
+    }
+    if row.what == 51 {
+        return Fetch::EntryIndexesBefore { gate: row.a };
+    }
+    Fetch::RewrittenEntryIndexes
+}
+
+// Whether the first `n` records of a list are the stored rows.
+fn records_are(list: [EntryIndex; 64], n: usize, want: &[u64]) -> bool {
+    if 64 < n {
+        return false;
+    }
+    let mut i = 0;
+    while i < n {
+        let e = list[i];
+        if !record_is(e, want, i) {
+            return false;
+        }
+        i += 1;
+    }
+    true
+}
+
+// Whether a fetch into a list of records is answered as stored.
+fn in_records(row: Row, xs: &[u64], bs: &[u8], want: &[u64]) -> bool
     requires { ⌜ Wf (now xs) (now bs) ⌝ }
 {
     let empty = EntryIndex {
@@ -62,57 +258,21 @@ fn in_records(xs: &[u64], bs: &[u8], group: u64, begin: u64, end: u64) -> u64
         entry_len: 0,
     };
     let list = [empty; 64];
-    let fetch = Fetch::EntriesTo {
-        begin,
-        end,
-        max_size: Bound::None,
-    };
-    let listed = index::fetch_listed(xs, bs, group, fetch, list);
+    let listed = index::fetch_listed(xs, bs, row.group, fetch_of(row), list);
     let answer = listed.answer;
-    rows_of(answer)
+    if !is_told(told_fetched(answer), want) {
+        return false;
+    }
+    let records = listed.list;
+    records_are(records, rows_of(answer), want)
 }
 
-// All entries of a group, by both fetches; where they differ, more than there can be.
-fn fetched(xs: &[u64], bs: &[u8], group: u64) -> u64
+// Whether both forms of a fetch are answered as stored.
+pub fn entries(row: Row, xs: &[u64], bs: &[u8], want: &[u64]) -> bool
     requires { ⌜ Wf (now xs) (now bs) ⌝ }
 {
-    let FoundNumber::At(first) = index::first_index(xs, bs, group) else {
-        return 0;
-    };
-    let FoundNumber::At(last) = index::last_index(xs, bs, group) else {
-        return 0;
-    };
-    if last == u64::MAX {
-        return 0;
+    if !in_slices(row, xs, bs, want) {
+        return false;
     }
-    let n = in_slices(xs, bs, group, first, last + 1);
-    if in_records(xs, bs, group, first, last + 1) != n {
-        return u64::MAX;
-    }
-    n
-}
-
-// The sum, or the largest number.
-pub fn plus(a: u64, b: u64) -> u64 {
-    if u64::MAX - a < b {
-        return u64::MAX;
-    }
-    a + b
-}
-
-// The entries of all groups.
-pub fn all_fetched(xs: &[u64], bs: &[u8]) -> u64
-    requires { ⌜ Wf (now xs) (now bs) ⌝ }
-{
-    let mut numbers = [0u64; 8];
-    let count = rows_of(index::group_numbers(xs, bs, &mut numbers));
-    let mut sum: u64 = 0;
-    let mut i: usize = 0;
-    while i < 8 {
-        if (i as u64) < count {
-            sum = plus(sum, fetched(xs, bs, numbers[i]));
-        }
-        i += 1;
-    }
-    sum
+    in_records(row, xs, bs, want)
 }

@@ -8,7 +8,7 @@ use libc::STDOUT_FILENO;
 use pipe_log::LogQueue;
 use takes_runs::bytes::Known;
 
-// The blocks that are read at most: 2^50, of 2^12 bytes each. A proved loop has to end, and nothing says that the input does.
+// The reads at most: 2^50, of up to 2^12 bytes each. A proved loop has to end, and nothing says that the input does.
 const MOST_BLOCKS: u64 = 1125899906842624;
 
 // What follows a block: the next one, the end of the input, or nothing, where a read or a write failed.

@@ -5,8 +5,7 @@ use mathlib.Core.Path.{_≡_, refl, sym, ap, _∙_}
 use Prim.Native.Nat.{ℕ}
 use lib.ListN.{length}
 use Rattle.maps.specs.Lists.{orElse}
-use Rattle.pipe_log.specs.declared.FileId.{FileId}
-use Rattle.rules.specs.Causes.{Refusal, Result, ok, refused, refuse, left, wrongKind}
+use Rattle.rules.specs.Causes.{Result, ok, refused, refuse, left, wrongKind}
 use Rattle.rules.specs.Items.{LogQueue, Append, Rewrite, sameQueue, LogItem, Batch, placedFrom, writes, replayAppend}
 use Rattle.rules.specs.Checks.{checks}
 use Rattle.rules.specs.Context.{context, isContext, Context, withGroups, fresh}
@@ -18,11 +17,8 @@ use Rattle.rules_by_group.specs.RunLaws.{append-keeps, run-keeps, batch-queue, 
 use Rattle.rules_by_group.specs.MergeLaws.{merged-deeds}
 use Rattle.rules_by_group.specs.ItemLaws.{limited-ok}
 use Rattle.rules_by_group.specs.ByGroupLaws.{kept-accepts, merge-is}
-use Rattle.log_batch.specs.Lent.{batchOf}
 use Rattle.contexts.specs.declared.Answer.{Answer}
-use Rattle.contexts.specs.declared.Answer.the-variants.{Accepted, Refused}
-use Rattle.contexts.specs.declared.Position.the-variants.{None}
-use Rattle.contexts.specs.Contexts.{contextOf, Wf, answerAs, positionOf, Called, FreshArea}
+use Rattle.contexts.specs.Contexts.{contextOf, Called, FreshArea}
 use Rattle.contexts.specs.AreaLaws.{formed-of, area-length, area-bytes}
 use Rattle.takes_runs.specs.Steps.{AppendArea}
 
@@ -93,23 +89,3 @@ fresh-area xs bs f = record { wf = f .wf; kind = ap (λ (x : Context). x .kind) 
 pub same-areas : (xs bs xs′ bs′ : List ℕ) → AppendArea xs bs → AppendArea xs′ bs′ → (length xs′ ≡ length xs) × (length bs′ ≡ length bs)
 same-areas xs bs xs′ bs′ a b =
     (area-length xs′ bs′ (formed-of xs′ bs′ (b .wf)) ∙ sym (area-length xs bs (formed-of xs bs (a .wf))), area-bytes xs′ bs′ (formed-of xs′ bs′ (b .wf)) ∙ sym (area-bytes xs bs (formed-of xs bs (a .wf))))
-
--- ---- replay
-
--- a file of the Append queue is one of the files for which a replay of the Append queue answers
-pub replay-append : (file : FileId) (items rows bytes ys cs : List ℕ) (a : Answer) (ys′ cs′ : List ℕ) → file .queue ≡ Append → ((seq : ℕ) → Called (replay (batchOf (record { queue = Append; seq = seq }) items rows bytes)) ys cs a ys′ cs′) → Called (replay (batchOf file items rows bytes)) ys cs a ys′ cs′
-replay-append file items rows bytes ys cs a ys′ cs′ e h =
-    let same : record { queue = Append; seq = file .seq } ≡ file = λ i. record { queue = sym e i; seq = file .seq } in
-    rw same at (h (file .seq))
-
-refused-left : (c : Context) (r : Result Context) (x : Refusal) → r ≡ refused x → c ≡ left c r
-unfolding left
-refused-left c r x e = rw e
-
--- one of the Rewrite queue is refused
-pub replay-rewrite : (file : FileId) (items rows bytes ys cs : List ℕ) → file .queue ≡ Rewrite → AppendArea ys cs → Called (replay (batchOf file items rows bytes)) ys cs (Refused 1 None) ys cs
-replay-rewrite file items rows bytes ys cs e k =
-    let b = batchOf file items rows bytes in
-    let is : replay b (contextOf ys cs) ≡ refuse wrongKind = other-queue b (contextOf ys cs) (k .kind) (unfold batchOf in e) in
-    let same : answerAs (Refused 1 None) (contextOf ys cs) ≡ refuse wrongKind = unfold answerAs positionOf in refl in
-    record { answers = same ∙ sym is; leaves = refused-left (contextOf ys cs) (replay b (contextOf ys cs)) _ is; wf = k .wf }

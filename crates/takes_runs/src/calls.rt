@@ -4,14 +4,9 @@ ghost use Rattle.log_batch.specs.Lent.{batchOf};
 ghost use Rattle.contexts.specs.Contexts.{contextOf, Called};
 ghost use Rattle.takes_runs.specs.Steps.{AppendArea};
 use index::Answer;
-use index::Position;
 use pipe_log::FileId;
-use pipe_log::LogQueue;
 
-// Document 01's number of a call on the wrong kind.
-const WRONG_KIND: u64 = 1;
-
-// Replays a batch into an Append context; a batch whose file is of the other queue is refused.
+// Replays a batch into an Append context.
 pub fn replay(
     ys: &mut [u64],
     cs: &mut [u8],
@@ -23,14 +18,7 @@ pub fn replay(
     requires { ⌜ AppendArea (now ys) (now cs) ⌝ }
     ensures { λ r. ⌜ Called (rules·calls.replay (batchOf file (now (items .entry)) (now (rows .entry)) (now (bytes .entry)))) (now (ys .entry)) (now (cs .entry)) r (now (ys .exit)) (now (cs .exit)) ⌝ }
 {
-    let queue = file.queue;
-    match queue {
-        LogQueue::Append => index::replay_append(ys, cs, items, rows, bytes),
-        LogQueue::Rewrite => Answer::Refused {
-            number: WRONG_KIND,
-            place: Position::None,
-        },
-    }
+    index::replay(ys, cs, file, items, rows, bytes)
 }
 
 // Merges a newer Append context into an older one.

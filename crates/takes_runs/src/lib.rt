@@ -3,5 +3,5 @@ pub mod blocks;
 pub mod bytes;
 mod calls;
 pub mod end;
-pub mod runs;
-pub mod totals;
+mod runs;
+mod totals;

@@ -34,7 +34,7 @@ use Rattle.waiting.specs.FormLaws.{others, cell-here, parts-here, accept
 use Rattle.waiting.specs.JudgeLaws.{judged, all-used}
 use Rattle.waiting.proofs.Forming.{form-in, part-is}
 
-some-parts : (f : form.Form) (ps : List Part) (new : Part) → someParts (formParts f ps new) ≡ some (formParts f ps new)
+pub some-parts : (f : form.Form) (ps : List Part) (new : Part) → someParts (formParts f ps new) ≡ some (formParts f ps new)
 unfolding formParts someParts
 some-parts form.the-variants.First ps new = refl
 some-parts form.the-variants.Front ps new = refl

@@ -11,3 +11,6 @@ pub mod Accepting
 pub mod Copying
 pub mod Forming
 pub mod Limiting
+pub mod Moving
+pub mod Merging
+pub mod Seeking

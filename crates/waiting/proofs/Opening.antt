@@ -16,7 +16,7 @@ module _ (n : ℕ) (ws vs : List ℕ) (e : length ws ≡ numbersOf n) (f : lengt
   unfolding roomOf
   lent-items = lent-is (2 + n * 18) (n * 72) ws (omega arith)
 
-  lent-entries : take (2 + n * 90 + n * 128 - (2 + n * 90)) (drop (2 + n * 90) ws) ≡ roomOf n ws vs .entries
+  pub lent-entries : take (2 + n * 90 + n * 128 - (2 + n * 90)) (drop (2 + n * 90) ws) ≡ roomOf n ws vs .entries
   unfolding roomOf
   lent-entries = lent-is (2 + n * 90) (n * 128) ws (omega arith)
 

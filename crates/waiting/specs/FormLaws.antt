@@ -136,6 +136,9 @@ module _ (s : Store) (r : Room) (w : Wf s r) (g k : ℕ) (l : k < cellCount (r .
     unfolding isOf
     used-here = not-true (eqb (countIn h) 0) (both-left (not (eqb (countIn h) 0)) (eqb (groupIn h) g) here)
 
+    pub used-count : 0 < countIn h
+    used-count = let d = eqb-false (countIn h) 0 used-here in omega (arith, d)
+
     pub cell-here : cellOf h xs ≡ some (pair g (newest h xs ∷ others))
     unfolding cellOf partsOf
     cell-here = rw (used-here, group-here)

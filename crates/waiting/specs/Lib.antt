@@ -8,6 +8,8 @@ pub mod Changes
 pub mod Parts
 pub mod Accepts
 pub mod Forms
+pub mod Merges
+pub mod Next
 pub mod RoomLaws
 pub mod LayoutLaws
 pub mod PlaceLaws
@@ -21,3 +23,4 @@ pub mod LimitLaws
 pub mod FormLaws
 pub mod JudgeLaws
 pub mod FinishLaws
+pub mod NextLaws

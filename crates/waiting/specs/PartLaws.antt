@@ -32,7 +32,7 @@ use Rattle.waiting.specs.Parts.{firstHead, frontHead, renewedHead, leftH
 
 -- ---- items of a tag behind others
 
-with-append : (t : ℕ) (xs ys : List Tagged) → itemsWith t (xs ++ ys) ≡ itemsWith t xs ++ itemsWith t ys
+pub with-append : (t : ℕ) (xs ys : List Tagged) → itemsWith t (xs ++ ys) ≡ itemsWith t xs ++ itemsWith t ys
 unfolding itemsWith
 with-append t xs ys = rw (select-append (hasTag t) xs ys) (map-append (λ (x : Tagged). x .item) (select (hasTag t) xs) (select (hasTag t) ys))
 

@@ -9,18 +9,21 @@ ghost use Rattle.rules.specs.Items.{replayRewrite};
 ghost use Rattle.rules.specs.Checks.{checks};
 ghost use Rattle.log_batch.specs.Lent.{itemsOf};
 ghost use Rattle.waiting.specs.Rooms.{headAt, newestTag, waitingIn, waitingItems, waitingEntries, otherTag};
-ghost use Rattle.waiting.specs.Layout.{storeOf, roomOf, RoomWf};
+ghost use Rattle.waiting.specs.Layout.{storeOf, roomOf, contextCells, RoomWf};
 ghost use Rattle.waiting.specs.Batches.{unmarked};
 ghost use Rattle.waiting.specs.Changes.{Became};
 ghost use Rattle.waiting.specs.Parts.{frontHead, renewedHead, partFor};
 ghost use Rattle.waiting.specs.Accepts.{partsAt};
-ghost use Rattle.waiting.specs.Forms.{FormAt, formParts, withPart, formTag, Tagging, joinedNumber, formHead, Freed};
+ghost use Rattle.waiting.specs.Forms.{FormAt, formParts, withPart, formTag, Tagging, joinedNumber, formHead, partWith, Freed};
+ghost use Rattle.waiting.specs.Merges.{itemsFrom};
+use crate::CELLS;
 use crate::Form;
 use crate::HEAD_WIDTH;
 use crate::HEADS_AT;
 use crate::heads::counts_in;
 use crate::heads::write_part;
 use crate::items::take_out;
+use crate::moves::move_part;
 use stores::Store;
 
 // The tag that the part gets.
@@ -169,4 +172,30 @@ pub fn write_form(
     let head = form_head(ws, cells, k, form, tag, group, status, seq, seq);
     let left = free_items(ws, vs, cells, form, tag);
     write_part(ws, vs, cells, k, &head, left, tag, items, entries, bytes);
+}
+
+// Puts a part of another room, its items those with the tag `its`, into cell `k` of a context's room, where there are rows for it.
+pub fn move_form(
+    ws: &mut [u64],
+    vs: &mut [u8],
+    k: usize,
+    form: Form,
+    group: u64,
+    status: u64,
+    start: u64,
+    end: u64,
+    us: &[u64],
+    ds: &[u8],
+    its: u64,
+)
+    requires { ⌜ RoomWf contextCells (now ws) (now vs) ⌝ }
+    requires { ⌜ FormAt form group contextCells (part 2 (contextCells * 10) (now ws)) k status start ⌝ }
+    requires { ⌜ RoomWf contextCells (now us) (now ds) ⌝ }
+    requires { ⌜ (waitingItems (withPart form group (partWith status (itemsFrom (now us) (now ds) its) start end) (waitingIn (storeOf (now ws)) (roomOf contextCells (now ws) (now vs)))) ≤ contextCells * 8) × (waitingEntries (withPart form group (partWith status (itemsFrom (now us) (now ds) its) start end) (waitingIn (storeOf (now ws)) (roomOf contextCells (now ws) (now vs)))) ≤ contextCells * 16) ⌝ }
+    ensures { λ _. ⌜ Became group (some (formParts form (partsAt group (waitingIn (storeOf (now (ws .entry))) (roomOf contextCells (now (ws .entry)) (now (vs .entry))))) (partWith status (itemsFrom (now (us .entry)) (now (ds .entry)) its) start end))) (storeOf (now (ws .entry))) (roomOf contextCells (now (ws .entry)) (now (vs .entry))) (storeOf (now (ws .exit))) (roomOf contextCells (now (ws .exit)) (now (vs .exit))) ⌝ }
+{
+    let tag = form_tag(ws, CELLS, k, form);
+    let head = form_head(ws, CELLS, k, form, tag, group, status, start, end);
+    let left = free_items(ws, vs, CELLS, form, tag);
+    move_part(ws, vs, k, &head, left, tag, us, ds, its);
 }

@@ -8,15 +8,21 @@ mod forms;
 mod heads;
 mod items;
 mod limits;
+mod merge;
+mod moves;
+mod next;
 mod places;
 mod rooms;
 
 pub use accept::accept_batch;
 pub use accept::take_finished;
+pub use batches::count_batch;
 pub use copies::copy_item;
 pub use copies::tag_at;
 pub use heads::take_part;
 use log_batch::item::LogItem;
+pub use merge::accept_part;
+pub use next::next_cell;
 pub use rooms::clear;
 
 // How many cells the room of a context has: 01's 8 groups twice, since a merge may have the parts of both contexts on the way.

@@ -3,25 +3,24 @@ use mathlib.Core.Path.{_≡_, sym, _∙_}
 use Prim.Native.Nat.{_-_, _≤_}
 use native.Mathlib.Omega.{arith}
 use lib.ListN.{length}
-use Rattle.contexts.specs.Contexts.{Wf}
-use Rattle.index_vectors.proofs.Areas.{lengths-are}
+use Rattle.index_vectors.specs.Areas.{Areas}
 use borrow.Author.Needs.{needs}
 use Rattle.index_vectors.proofs.compare_all.Statement.{statement}
 use Rattle.index_vectors.proofs.compare_all.Tie as tie
 
 abbrev Inv-loop : tie.InvT-loop
-Inv-loop text xs₀ bs₀ at₀ calls₀ differ₀ t10 t11 xs bs at calls differ = (Wf xs bs) × (at ≤ length text) × (calls ≤ at) × (differ ≤ calls) × (length t10 ≡ 28) × (length t11 ≡ 22)
+Inv-loop name text xs₀ bs₀ at₀ calls₀ differ₀ other malformed xs bs at calls differ = (Areas 8 xs bs) × (at ≤ length text) × (calls ≤ at) × (differ ≤ calls) × (length other ≡ 23) × (length malformed ≡ 17)
 
 abbrev μ-loop : tie.MeasureT-loop
-μ-loop text xs₀ bs₀ at₀ calls₀ differ₀ t10 t11 xs bs at calls differ = length text - at
+μ-loop name text xs₀ bs₀ at₀ calls₀ differ₀ other malformed xs bs at calls differ = length text - at
 
-fresh-requires : tie.Need-fresh-requires Inv-loop μ-loop
-fresh-requires c κs = search needs
+fresh-all-requires : tie.Need-fresh-all-requires Inv-loop μ-loop
+fresh-all-requires c κs = search needs
 
 loop-holds : tie.Need-loop-holds Inv-loop μ-loop
 loop-holds c =
-    let fresh = c .before .before .before .before .fresh in
-    let w = fresh .ensures .wf in search needs
+    let fresh-all = c .before .before .before .before .fresh-all in
+    let w = fresh-all .ensures in search needs
 
 add-calls : tie.Need-add-calls Inv-loop μ-loop
 add-calls c = search needs
@@ -81,15 +80,15 @@ say-call-requires-2 c κs = search needs
 
 same-length : tie.Need-same-length Inv-loop μ-loop
 same-length c =
-    let start = c .before .before .before .before .before .before .before .before .before .before .before .before .before .before .before .before .before .before .before .before .before .before .before in
+    let start = c .before .before .before .before .before .before .before .before .before .before .before .before .before .before .before .before .before .before .before .before .before .before .before .before in
     let run-at = c .before .before .before .before .before .before .before .before .run-at in
-    lengths-are _ _ (run-at .ensures .1) .0 ∙ sym (start .pre .0)
+    run-at .ensures .1 .numbers-are ∙ sym (start .pre .0)
 
 same-length-2 : tie.Need-same-length-2 Inv-loop μ-loop
 same-length-2 c =
-    let start = c .before .before .before .before .before .before .before .before .before .before .before .before .before .before .before .before .before .before .before .before .before .before .before in
+    let start = c .before .before .before .before .before .before .before .before .before .before .before .before .before .before .before .before .before .before .before .before .before .before .before .before in
     let run-at = c .before .before .before .before .before .before .before .before .run-at in
-    lengths-are _ _ (run-at .ensures .1) .1 ∙ sym (start .pre .1)
+    run-at .ensures .1 .bytes-are ∙ sym (start .pre .1)
 
 returns : tie.Need-returns Inv-loop μ-loop
 returns c = tt
@@ -99,15 +98,15 @@ say-counts-requires c κs = search needs
 
 same-length-3 : tie.Need-same-length-3 Inv-loop μ-loop
 same-length-3 c =
-    let start = c .before .before .before .before .before .before .before .before .before .before .before .before .before in
+    let start = c .before .before .before .before .before .before .before .before .before .before .before .before .before .before in
     let loop = c .before .before .loop in
-    lengths-are _ _ (loop .inv .0) .0 ∙ sym (start .pre .0)
+    loop .inv .0 .numbers-are ∙ sym (start .pre .0)
 
 same-length-4 : tie.Need-same-length-4 Inv-loop μ-loop
 same-length-4 c =
-    let start = c .before .before .before .before .before .before .before .before .before .before .before .before .before in
+    let start = c .before .before .before .before .before .before .before .before .before .before .before .before .before .before in
     let loop = c .before .before .loop in
-    lengths-are _ _ (loop .inv .0) .1 ∙ sym (start .pre .1)
+    loop .inv .0 .bytes-are ∙ sym (start .pre .1)
 
 returns-2 : tie.Need-returns-2 Inv-loop μ-loop
 returns-2 c = tt
@@ -118,7 +117,7 @@ compare-all-spec =
     (tie.spec
     Inv-loop
     μ-loop
-    fresh-requires
+    fresh-all-requires
     loop-holds
     add-calls
     run-at-requires

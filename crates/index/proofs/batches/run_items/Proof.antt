@@ -44,7 +44,7 @@ loop-holds c =
     let start = c .before .before .before .before .before .before .before .before .before .before .before .before .before in
     let counts-in = c .before .before .before .before .before .counts-in in
     let begin = c .before .before .before .begin in
-    under-start _ _ _ _ _ (start .args .xs .now) (start .args .bs .now) _ _ _ (start .pre .0) (begin .ensures _ (start .pre .0 .groups)) (counts-in .ensures .0) (counts-in .ensures .1)
+    under-start _ _ _ _ _ (start .args .xs .now) (start .args .bs .now) _ _ _ (start .pre .0) (begin .ensures _ (start .pre .0 .groups)) (counts-in .ensures .0) (counts-in .ensures .1) (start .pre .1 .1)
 
 add-turn : tie.Need-add-turn Inv-loop μ-loop
 add-turn c = search needs
@@ -55,7 +55,7 @@ turn-requires c κs =
     let row-count = c .before .before .before .before .row-count in
     let loop = c .before .before .before .loop in
     let loop-test = c .before .before .loop-test in
-    (loop .inv .formed, (loop .inv .going (loop-test .taken) .undoable, (rw (row-count .ensures) at (loop-test .taken), start .pre .1)))
+    (loop .inv .formed, (loop .inv .going (loop-test .taken) .undoable, (rw (row-count .ensures) at (loop-test .taken), (start .pre .1 .0, loop .inv .own))))
 
 enum-known-answer : tie.Need-enum-known-answer Inv-loop μ-loop
 enum-known-answer c = search needs
@@ -103,11 +103,13 @@ loop-less c = search needs
 
 loop-again : tie.Need-loop-again Inv-loop μ-loop
 loop-again c =
+    let start = c .before .before .before .before .before .before .before .before .before .before .before .before .before .before .before .before .before .before .before .before .before .before .before .before in
+    let row-count = c .before .before .before .before .before .before .before .before .before .before .before .row-count in
     let loop = c .before .before .before .before .before .before .before .before .before .before .loop in
     let loop-test = c .before .before .before .before .before .before .before .before .before .loop-test in
     let turn = c .before .before .before .before .before .before .turn in
     let enum-told = c .enum-told in
-    under-more _ _ _ _ _ _ _ _ _ _ _ _ (loop .inv) (loop-test .taken) _ _ (rw (enum-told .given .1) at (turn .ensures))
+    under-more _ _ _ _ _ _ _ _ _ _ _ _ (loop .inv) (loop-test .taken) (row-count .ensures) (start .pre .1 .0) _ _ (rw (enum-told .given .1) at (turn .ensures))
 
 same-length-3 : tie.Need-same-length-3 Inv-loop μ-loop
 same-length-3 c =

@@ -6,6 +6,7 @@ use borrow.Rule.Slice.PartAt.{part-to-end}
 use Rattle.rules.specs.Checks.{isRewriteReplay}
 use Rattle.log_batch.specs.Judged.{callOf}
 use Rattle.contexts.specs.AreaLaws.{formed-of}
+use Rattle.index.specs.OwnLaws.{keeping-other}
 use Rattle.index.proofs.CallLaws.{zero-below, append-wrong, append-right}
 use borrow.Author.Needs.{needs}
 use Rattle.index.proofs.calls.append.Statement.{statement}
@@ -50,7 +51,7 @@ write-requires : tie.Need-write-requires
 unfolding isRewriteReplay callOf
 write-requires c κs =
     let start = c .before .before .before .before .before .before .before .before .before .before .before .before in
-    (formed-of _ _ (start .pre), refl)
+    (formed-of _ _ (start .pre), keeping-other _ _ refl)
 
 same-length-2 : tie.Need-same-length-2
 same-length-2 c = search needs

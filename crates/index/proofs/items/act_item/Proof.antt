@@ -1,4 +1,6 @@
 -- `index::items::act_item` meets its contract. Assumes nothing.
+use Rattle.log_batch.specs.Judged.{callOf}
+use Rattle.index.specs.OwnLaws.{keeping-table}
 use Rattle.index.specs.CarryLaws.{does-ready}
 use borrow.Author.Needs.{needs}
 use Rattle.index.proofs.items.act_item.Statement.{statement}
@@ -23,7 +25,7 @@ act-requires c κs =
     let rows-in = c .before .before .before .before .rows-in in
     let key-in = c .before .before .before .key-in in
     let value-in = c .before .before .value-in in
-    (start .pre .0, (start .pre .1 .0, rw (deed-of .ensures, rows-in .ensures, key-in .ensures, value-in .ensures) (does-ready (start .args .call) (start .args .item) (start .args .entries .now) (start .args .bytes .now) (start .pre .1 .1 .0) (start .pre .1 .1 .1) _)))
+    (start .pre .0, (start .pre .1 .0, rw (deed-of .ensures, rows-in .ensures, key-in .ensures, value-in .ensures) (does-ready (start .args .call) (start .args .item) (start .args .entries .now) (start .args .bytes .now) (start .pre .1 .1 .0) _ (keeping-table (callOf (start .args .call)) (start .args .xs .now) (start .args .bs .now) (start .pre .1 .1 .1) (start .args .item .«raft_group_id»)))))
 
 same-length : tie.Need-same-length
 same-length c = search needs

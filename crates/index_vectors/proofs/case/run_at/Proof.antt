@@ -36,11 +36,14 @@ enum-told-2 c = search needs
 returns-2 : tie.Need-returns-2
 returns-2 c = search needs
 
+row-of-requires : tie.Need-row-of-requires
+row-of-requires c κs = search needs
+
 run-from-requires : tie.Need-run-from-requires
 run-from-requires c κs =
-    let start = c .before .before .before .before .before .before .before .before .before .before .before .before .before .before .before in
-    let read-numbers = c .before .before .before .before .before .before .read-numbers in
-    let headed = c .before .before .before .headed in
+    let start = c .before .before .before .before .before .before .before .before .before .before .before .before .before .before .before .before in
+    let read-numbers = c .before .before .before .before .before .before .before .read-numbers in
+    let headed = c .before .before .before .before .headed in
     let a = (rw (headed .given .1) at (read-numbers .ensures)) in (omega arith, start .pre .1)
 
 same-length : tie.Need-same-length
@@ -51,11 +54,11 @@ same-length-2 c = search needs
 
 returns-3 : tie.Need-returns-3
 returns-3 c =
-    let start = c .before .before .before .before .before .before .before .before .before .before .before .before .before .before .before .before .before .before .before .before in
-    let skip-line = c .before .before .before .before .before .before .before .before .before .before .before .before .before .before .before .before .skip-line in
-    let named = c .before .before .before .before .before .before .before .before .before .before .before .before .before .before .named in
-    let read-numbers = c .before .before .before .before .before .before .before .before .before .before .before .read-numbers in
-    let headed = c .before .before .before .before .before .before .before .before .headed in
+    let start = c .before .before .before .before .before .before .before .before .before .before .before .before .before .before .before .before .before .before .before .before .before in
+    let skip-line = c .before .before .before .before .before .before .before .before .before .before .before .before .before .before .before .before .before .skip-line in
+    let named = c .before .before .before .before .before .before .before .before .before .before .before .before .before .before .before .named in
+    let read-numbers = c .before .before .before .before .before .before .before .before .before .before .before .before .read-numbers in
+    let headed = c .before .before .before .before .before .before .before .before .before .headed in
     let run-from = c .before .before .before .before .run-from in
     let a = (rw (named .given .1) at (skip-line .ensures)) in let b = (rw (headed .given .1) at (read-numbers .ensures)) in (moves-on (start .args .at) (headed .given .0 .0) (length (start .args .text .now)) (run-from .result) (omega arith) (run-from .ensures .0), run-from .ensures .1)
 
@@ -72,6 +75,7 @@ run-at-spec =
     enum-known-headed
     enum-told-2
     returns-2
+    row-of-requires
     run-from-requires
     same-length
     same-length-2

@@ -1,0 +1,95 @@
+// The queries of keys into lent lists: two numbers a row for the lengths, and 64 bytes a row.
+ghost use Rattle.contexts.specs.Contexts.{Wf};
+use crate::compare::bytes_are;
+use crate::compare::is_told;
+use crate::compare::numbers_are;
+use crate::fetches::rows_of;
+use crate::row::Row;
+use crate::told::told_fetched;
+use index::Fetched;
+
+// A scan whose start is the first bytes of a list, and whose end the rest.
+fn scan(row: Row, xs: &[u64], bs: &[u8], bytes: &[u8], lens: &mut [u64], out: &mut [u8]) -> Fetched
+    requires { ⌜ Wf (now xs) (now bs) ⌝ }
+{
+    let m = row.b as usize;
+    if bytes.len() < m {
+        return Fetched::BadRange;
+    }
+    index::scan(
+        xs,
+        bs,
+        row.group,
+        row.a == 1,
+        &bytes[..m],
+        row.c == 1,
+        &bytes[m..],
+        row.d == 1,
+        row.e as usize,
+        lens,
+        out,
+    )
+}
+
+// 40 scan, 41 fetch_kvs_before, otherwise fetch_rewritten_kvs.
+fn fetch(row: Row, xs: &[u64], bs: &[u8], bytes: &[u8], lens: &mut [u64], out: &mut [u8]) -> Fetched
+    requires { ⌜ Wf (now xs) (now bs) ⌝ }
+{
+    if row.what == 40 {
+        return scan(row, xs, bs, bytes, lens, out);
+    }
+    if row.what == 41 {
+        return index::fetch_kvs_before(xs, bs, row.group, row.a, lens, out);
+    }
+    index::fetch_rewritten_kvs(xs, bs, row.group, lens, out)
+}
+
+// A query of keys into the first `room` rows of lists.
+fn fetch_to(
+    row: Row,
+    xs: &[u64],
+    bs: &[u8],
+    bytes: &[u8],
+    room: usize,
+    lens: &mut [u64],
+    out: &mut [u8],
+) -> Fetched
+    requires { ⌜ Wf (now xs) (now bs) ⌝ }
+{
+    if 16 < room {
+        return Fetched::ListTooShort;
+    }
+    let l = room * 2;
+    let o = room * 64;
+    if lens.len() < l {
+        return Fetched::ListTooShort;
+    }
+    if out.len() < o {
+        return Fetched::ListTooShort;
+    }
+    fetch(row, xs, bs, bytes, &mut lens[..l], &mut out[..o])
+}
+
+// Whether the rows of keys that a query filled are the stored ones: their lengths, and then their bytes.
+fn rows_are(n: usize, lens: &[u64], out: &[u8], want: &[u64]) -> bool {
+    if 16 < n {
+        return false;
+    }
+    if !numbers_are(lens, n * 2, want, 3) {
+        return false;
+    }
+    bytes_are(out, n * 64, want, 3 + n * 2)
+}
+
+// Whether a query of keys is answered as stored, with room for so many rows.
+pub fn keys(row: Row, xs: &[u64], bs: &[u8], bytes: &[u8], want: &[u64]) -> bool
+    requires { ⌜ Wf (now xs) (now bs) ⌝ }
+{
+    let mut lens = [0u64; 32];
+    let mut out = [0u8; 1024];
+    let answer = fetch_to(row, xs, bs, bytes, row.room as usize, &mut lens, &mut out);
+    if !is_told(told_fetched(answer), want) {
+        return false;
+    }
+    rows_are(rows_of(answer), &lens, &out, want)
+}

@@ -1,0 +1,119 @@
+// The areas of a script's contexts, one behind another.
+ghost use mathlib.Core.Path.{_≡_};
+ghost use Prim.Native.Nat.{_+_, _*_, _<_};
+ghost use lib.ListN.{length};
+ghost use Rattle.contexts.specs.Contexts.{areaNumbers, areaBytes, Wf};
+ghost use Rattle.index_vectors.specs.Areas.{Areas};
+use crate::calls::call;
+use crate::row::Row;
+use index::BYTES;
+use index::NUMBERS;
+use pipe_log::LogQueue;
+
+// How many areas there are, and how many numbers and bytes they have in all.
+pub const AREAS: usize = 8;
+
+pub const ALL_NUMBERS: usize = AREAS * NUMBERS;
+
+pub const ALL_BYTES: usize = AREAS * BYTES;
+
+// Makes area k a fresh context.
+fn fresh_at(xs: &mut [u64], bs: &mut [u8], k: usize)
+    requires { ⌜ k < 8 ⌝ }
+    requires { ⌜ Areas k (now xs) (now bs) ⌝ }
+    ensures { λ _. ⌜ Areas (k + 1) (now (xs .exit)) (now (bs .exit)) ⌝ }
+{
+    let a = k * NUMBERS;
+    let e = a + NUMBERS;
+    let c = k * BYTES;
+    let d = c + BYTES;
+    index::fresh(&mut xs[a..e], &mut bs[c..d], LogQueue::Append);
+}
+
+// Makes every area a fresh context.
+pub fn fresh_all(xs: &mut [u64], bs: &mut [u8])
+    requires { ⌜ (length (now xs) ≡ 8 * areaNumbers) × (length (now bs) ≡ 8 * areaBytes) ⌝ }
+    ensures { λ _. ⌜ Areas 8 (now (xs .exit)) (now (bs .exit)) ⌝ }
+{
+    let mut k = 0;
+    while k < AREAS {
+        fresh_at(xs, bs, k);
+        k += 1;
+    }
+}
+
+// Copies area k.
+fn copy_area(xs: &[u64], bs: &[u8], k: usize, ys: &mut [u64], cs: &mut [u8])
+    requires { ⌜ k < 8 ⌝ }
+    requires { ⌜ Areas 8 (now xs) (now bs) ⌝ }
+    requires { ⌜ (length (now ys) ≡ areaNumbers) × (length (now cs) ≡ areaBytes) ⌝ }
+    ensures { λ _. ⌜ Wf (now (ys .exit)) (now (cs .exit)) ⌝ }
+{
+    let a = k * NUMBERS;
+    let e = a + NUMBERS;
+    let c = k * BYTES;
+    let d = c + BYTES;
+    cells::copy_in_u64(ys, 0, &xs[a..e]);
+    cells::copy_in_u8(cs, 0, &bs[c..d]);
+}
+
+// Makes the call of a row on area k, beside another context.
+fn call_at(
+    k: usize,
+    row: Row,
+    xs: &mut [u64],
+    bs: &mut [u8],
+    ys: &[u64],
+    cs: &[u8],
+    items: &[u64],
+    entries: &[u64],
+    bytes: &[u8],
+    want: &[u64],
+) -> bool
+    requires { ⌜ k < 8 ⌝ }
+    requires { ⌜ Areas 8 (now xs) (now bs) × Wf (now ys) (now cs) ⌝ }
+    ensures { λ _. ⌜ Areas 8 (now (xs .exit)) (now (bs .exit)) ⌝ }
+{
+    let a = k * NUMBERS;
+    let e = a + NUMBERS;
+    let c = k * BYTES;
+    let d = c + BYTES;
+    call(
+        row,
+        &mut xs[a..e],
+        &mut bs[c..d],
+        ys,
+        cs,
+        items,
+        entries,
+        bytes,
+        want,
+    )
+}
+
+// Makes the call of a row on the area that it names, and says whether the answer is as stored.
+pub fn run(
+    row: Row,
+    xs: &mut [u64],
+    bs: &mut [u8],
+    items: &[u64],
+    entries: &[u64],
+    bytes: &[u8],
+    want: &[u64],
+) -> bool
+    requires { ⌜ Areas 8 (now xs) (now bs) ⌝ }
+    ensures { λ _. ⌜ Areas 8 (now (xs .exit)) (now (bs .exit)) ⌝ }
+{
+    let k = row.area as usize;
+    let other = row.other as usize;
+    if AREAS <= k {
+        return false;
+    }
+    if AREAS <= other {
+        return false;
+    }
+    let mut ys = [0u64; NUMBERS];
+    let mut cs = [0u8; BYTES];
+    copy_area(xs, bs, other, &mut ys, &mut cs);
+    call_at(k, row, xs, bs, &ys, &cs, items, entries, bytes, want)
+}

@@ -1,0 +1,2 @@
+-- The whole program `takes` over areas.
+pub mod Whole
