@@ -51,7 +51,7 @@ fn over_groups(n: u64, batch: impl Fn(u64, u64) -> Batch) -> Work {
 }
 
 /// Eight groups with 32 entries each.
-fn entries_32() -> Work {
+pub fn entries_32() -> Work {
     over_groups(1, |_, g| vec![Item::Entries(g, 1, 32, 1)])
 }
 
@@ -127,16 +127,6 @@ pub fn live() -> Vec<(&'static str, Work, Work, Live)> {
             Live::Rewrite,
         ),
     ]
-}
-
-/// Two runs of eight groups with 32 entries each, the second behind the first.
-pub fn two_runs() -> (Work, Work) {
-    (entries_32(), over_groups(1, |_, g| vec![Item::Entries(g, 33, 32, 2)]))
-}
-
-/// 10,000 batches of one entry over eight groups, which go over 64 indexes again and again.
-pub fn recovery() -> Work {
-    over_groups(1250, |i, g| vec![Item::Entries(g, i % 64 + 1, 1, i / 100 + 1)])
 }
 
 pub fn queries() -> Vec<(&'static str, Query)> {

@@ -16,7 +16,7 @@ const LISTS: usize = 9376;
 const LISTS_BYTES: usize = 16384;
 const WAITING: usize = 10019;
 const WAITING_BYTES: usize = 20480;
-const CELLS: usize = 8;
+const CELLS: usize = 16;
 
 pub fn dump(area: &Area) -> Vec<String> {
     let (xs, bs) = (area.numbers(), area.bytes());
@@ -105,7 +105,7 @@ fn item(row: &[u64], entries: &[u64], bytes: &[u8]) -> LogItem {
     LogItem { raft_group_id: row[0], content }
 }
 
-/// The room of waiting parts: two counts, 8 cells, 64 tags, 64 rows of items, 128 rows of entries. A cell has the number of its
+/// The room of waiting parts: two counts, 16 cells, 128 tags, 128 rows of items, 256 rows of entries. A cell has the number of its
 /// parts, the group, and tag, status, start and end of the newest part and of the older one.
 fn waiting(ws: &[u64], vs: &[u8], out: &mut Vec<String>) {
     let (tags, rows, entries) = (2 + CELLS * 10, 2 + CELLS * 18, 2 + CELLS * 90);
