@@ -9,6 +9,17 @@ const PUT: u64 = 3;
 const DEL: u64 = 4;
 const NO_FILE: u64 = 2;
 
+/// The reserved key: a Put of it with one byte of value is a mark.
+const RESERVED_KEY: &[u8] = b"__\x01";
+
+/// What a marked batch is of its atomic group.
+#[derive(Clone, Copy, Debug, PartialEq, Eq)]
+pub enum Mark {
+    Begin = 0,
+    Middle = 1,
+    End = 2,
+}
+
 /// The three slices of a lent batch, in the layout of include/galdnyrr.h. Any content stands for some batch.
 #[derive(Clone, Copy, Debug)]
 pub struct Rows<'a> {
@@ -101,6 +112,11 @@ impl Batch {
             None => (NO_FILE, 0),
         };
         self.item([group, PUT, at, len, c, d, e, f, g])
+    }
+
+    /// Adds a mark: in a replay into a Rewrite context the batch is a part of an atomic group, which is carried out as a whole.
+    pub fn mark(&mut self, group: u64, mark: Mark) -> &mut Batch {
+        self.put(group, RESERVED_KEY, &[mark as u8])
     }
 
     /// Adds a Del of a key.

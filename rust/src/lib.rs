@@ -30,7 +30,7 @@ mod lists;
 mod refusal;
 
 pub use area::{Area, BYTES, NUMBERS};
-pub use batch::{Batch, Rows};
+pub use batch::{Batch, Mark, Rows};
 pub use context::{Context, Index};
 pub use entry::{Compression, Entry, FileId, Queue};
 pub use lists::{Pairs, Records};

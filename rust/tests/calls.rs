@@ -1,6 +1,6 @@
-//! The crate's calls, with 01's bench cases that an Append context can show.
+//! The crate's calls, with some of 01's bench cases.
 
-use galdnyrr::{Area, Batch, Cause, Context, Entry, FileId, Pairs, Queue, Records, Rows};
+use galdnyrr::{Area, Batch, Cause, Context, Entry, FileId, Index, Mark, Pairs, Queue, Records, Rows};
 
 fn file(seq: u64) -> FileId {
     FileId { queue: Queue::Append, seq }
@@ -107,4 +107,51 @@ fn groups_and_live_counts() {
     assert_eq!(run.area().live_entries(Queue::Append), 4);
     assert_eq!(run.area().live_entries(Queue::Rewrite), 0);
     assert!(!run.area().is_empty() && Context::new(Queue::Rewrite).area().is_empty());
+}
+
+fn rewritten(first: u64, last: u64, seq: u64) -> Vec<Entry> {
+    let file = FileId { queue: Queue::Rewrite, seq };
+    (first..=last).map(|i| Entry { len: 10, ..Entry::at(i, file) }).collect()
+}
+
+#[test]
+fn an_atomic_group_is_carried_out_as_a_whole() {
+    let mut run = Context::new(Queue::Rewrite);
+    let mut b = Batch::new(Queue::Rewrite, 3);
+    b.mark(7, Mark::Begin).entries(7, &rewritten(1, 3, 3));
+    run.replay(&b).unwrap();
+    assert_eq!(run.last_index(7).unwrap_err().cause(), Some(Cause::GroupAbsent));
+
+    b.restart(Queue::Rewrite, 2);
+    b.mark(7, Mark::End).entries(7, &rewritten(4, 4, 2));
+    let refusal = run.replay(&b).unwrap_err();
+    assert_eq!((refusal.cause(), refusal.place()), (Some(Cause::FilesGoBack), None));
+
+    b.restart(Queue::Rewrite, 4);
+    b.mark(7, Mark::End).entries(7, &rewritten(4, 5, 4));
+    run.replay(&b).unwrap();
+    assert_eq!((run.first_index(7), run.last_index(7)), (Ok(Some(1)), Ok(Some(5))));
+}
+
+#[test]
+fn a_join_makes_the_index() {
+    let mut b = batch();
+    b.clean(9).entries(7, &entries(1, 3, 1));
+    let run = replayed(&[b]);
+    let (_, refusal) = run.clone().join(&run).err().unwrap();
+    assert_eq!(refusal.cause(), Some(Cause::WrongKind));
+    let mut index = Context::new(Queue::Rewrite).join(&run).ok().unwrap();
+    assert_eq!((index.take_cleaned_region_logs(), index.take_cleaned_region_logs()), (vec![9], vec![]));
+
+    let mut b = batch();
+    b.entries(7, &entries(5, 5, 2));
+    assert_eq!(index.append(&b).unwrap_err().cause(), Some(Cause::AboveLast));
+    b.clear();
+    b.entries(7, &entries(4, 4, 2));
+    index.append(&b).unwrap();
+    let mut b = Batch::new(Queue::Rewrite, 1);
+    b.entries(7, &rewritten(1, 2, 1));
+    index.rewrite(Some(1), &b).unwrap();
+    assert_eq!((index.last_index(7), index.rewrite_count(7)), (Ok(Some(4)), Ok(2)));
+    assert!(Index::new().is_empty());
 }
