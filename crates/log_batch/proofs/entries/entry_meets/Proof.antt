@@ -31,7 +31,9 @@ returns-2 : tie.Need-returns-2
 returns-2 c = rw (c .before .enum-told2 .given .1) (c .is-out-of-range .ensures)
 
 returns-3 : tie.Need-returns-3
-returns-3 c = rw (c .before .before .test .given .1) (c .is-of-other-queue .ensures)
+returns-3 c =
+    let test = c .before .before .test in
+    rw (test .given .1) (c .is-of-other-queue .ensures)
 
 pub entry-meets-spec : {M : Type 1} → statement M
 entry-meets-spec =

@@ -17,7 +17,10 @@ is-consecutive-requires c κs = search needs
 
 returns-2 : tie.Need-returns-2
 unfolding entriesIncomplete
-returns-2 c = rw (sym (c .before .before .any-entry .ensures) ∙ c .before .if1 .left, c .is-consecutive .ensures)
+returns-2 c =
+    let any-entry = c .before .before .any-entry in
+    let if1 = c .before .if1 in
+    rw (sym (any-entry .ensures) ∙ if1 .left, c .is-consecutive .ensures)
 
 pub is-incomplete-spec : {M : Type 1} → statement M
 is-incomplete-spec =

@@ -12,7 +12,9 @@ shared-slice-read-if1 c = search needs
 
 returns : tie.Need-returns
 unfolding isRecord
-returns c = rw (le-ltb (getD (c .before .before .args .row .now) 1 0) 2 (omega arith))
+returns c =
+    let start = c .before .before in
+    rw (le-ltb (getD (start .args .row .now) 1 0) 2 (omega arith))
 
 shared-slice-read-if2 : tie.Need-shared-slice-read-if2
 shared-slice-read-if2 c = search needs

@@ -33,13 +33,19 @@ loop-less : tie.Need-loop-less Inv-loop μ-loop
 loop-less c = search needs
 
 loop-again : tie.Need-loop-again Inv-loop μ-loop
-loop-again c = (search needs, index-more (c .before .before .args .first) (c .before .loop .i) (c .before .loop .inv .1) (search needs))
+loop-again c =
+    let start = c .before .before in
+    let loop = c .before .loop in
+    (search needs, index-more (start .args .first) (loop .i) (loop .inv .1) (search needs))
 
 same-length : tie.Need-same-length Inv-loop μ-loop
 same-length c = search needs
 
 returns : tie.Need-returns Inv-loop μ-loop
-returns c = index-all (c .before .before .args .first) (c .before .loop .i) (c .before .before .args .count) (c .before .loop .inv .1) (search needs) (search needs)
+returns c =
+    let start = c .before .before in
+    let loop = c .before .loop in
+    index-all (start .args .first) (loop .i) (start .args .count) (loop .inv .1) (search needs) (search needs)
 
 pub copy-indexes-spec : {M : Type 1} → statement M
 copy-indexes-spec =
