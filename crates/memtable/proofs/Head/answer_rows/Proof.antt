@@ -18,7 +18,14 @@ copy-left-requires : tie.Need-copy-left-requires
 copy-left-requires c κs = search needs
 
 copy-right-requires : tie.Need-copy-right-requires
-copy-right-requires c κs = let w = c .before .before .before .before .before .before .before .before .before .before .before .before .before .before .before .before .before .before .before .before .before .before .before .before .before .before .before .before .pre .0 in let n = c .before .before .before .before .before .before .before .before .before .before .before .before .before .before .before .before .before .before .before .before .before .before .before .before .before .before .before .before .pre .1 .0 in let p = c .before .before .before .before .before .before .before .before .before .before .before .before .before .before .before .before .before .before .before .before .before .before .before .before .before .before .before .before .pre .1 .1 in let i = c .before .before .before .before .before .before .before .before .before .before .before .before .before .before .before .before .before .before .if1 .left in omega arith
+copy-right-requires c κs =
+    let start = c .before .before .before .before .before .before .before .before .before .before .before .before .before .before .before .before .before .before .before .before .before .before .before .before .before .before .before .before in
+    let if1 = c .before .before .before .before .before .before .before .before .before .before .before .before .before .before .before .before .before .before .if1 in
+    let w = start .pre .0 in
+    let n = start .pre .1 .0 in
+    let p = start .pre .1 .1 in
+    let i = if1 .left in
+    omega arith
 
 same-length : tie.Need-same-length
 same-length c = search needs
@@ -46,7 +53,13 @@ same-length-8 c = search needs
 
 returns-2 : tie.Need-returns-2
 unfolding entriesAt
-returns-2 c = let n = c .before .before .before .before .before .before .before .before .before .before .before .before .before .before .before .before .before .before .before .before .before .before .before .before .before .before .before .before .before .before .before .before .before .before .before .before .before .pre .1 .0 in rows-done _ _ _ _ (c .before .before .before .before .before .before .before .before .before .before .before .before .before .before .before .before .before .before .before .before .before .before .before .before .before .before .before .if1 .left) (λ i b. any-drop _ (c .before .before .before .before .before .before .before .before .before .before .before .before .before .before .before .before .before .before .before .before .before .before .before .before .before .before .before .before .before .before .before .before .before .before .before .before .before .args .from) i (held-row _ _ (c .before .before .before .before .before .before .before .before .before .before .before .before .before .before .before .before .before .before .before .before .before .before .before .before .before .before .before .before .before .before .before .before .before .before .before .before .before .pre .0) _ (omega arith))) _ (c .before .before .before .before .before .before .before .before .before .before .before .before .before .before .before .before .before .before .before .before .before .copy-left .ensures .0) (c .before .before .before .before .before .before .before .before .before .before .before .before .before .before .before .before .before .before .before .before .before .copy-left .ensures .1) (c .before .before .before .before .before .before .before .before .before .before .before .before .before .before .before .before .before .before .before .before .before .copy-left .ensures .2) (c .before .before .before .before .before .before .before .before .before .before .before .before .before .before .before .before .before .before .before .before .before .copy-left .ensures .3) (c .before .before .before .before .before .before .before .before .copy-right .ensures .0) (c .before .before .before .before .before .before .before .before .copy-right .ensures .1) (c .before .before .before .before .before .before .before .before .copy-right .ensures .2) (c .before .before .before .before .before .before .before .before .copy-right .ensures .3)
+returns-2 c =
+    let start = c .before .before .before .before .before .before .before .before .before .before .before .before .before .before .before .before .before .before .before .before .before .before .before .before .before .before .before .before .before .before .before .before .before .before .before .before .before in
+    let if1 = c .before .before .before .before .before .before .before .before .before .before .before .before .before .before .before .before .before .before .before .before .before .before .before .before .before .before .before .if1 in
+    let left = c .before .before .before .before .before .before .before .before .before .before .before .before .before .before .before .before .before .before .before .before .before .copy-left .ensures in
+    let right = c .before .before .before .before .before .before .before .before .copy-right .ensures in
+    let n = start .pre .1 .0 in
+    rows-done _ _ _ _ (if1 .left) (λ i b. any-drop _ (start .args .from) i (held-row _ _ (start .pre .0) _ (omega arith))) _ (left .0) (left .1) (left .2) (left .3) (right .0) (right .1) (right .2) (right .3)
 
 pub answer-rows-spec : {M : Type 1} → statement M
 answer-rows-spec =
