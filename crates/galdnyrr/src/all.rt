@@ -6,7 +6,7 @@ ghost use Rattle.pipe_log.specs.Rows.{queueAt};
 ghost use Rattle.contexts.specs.Contexts.{contextOf, Wf};
 ghost use Rattle.galdnyrr.specs.Asked.{NumbersTold};
 use crate::answers::tell_fetched;
-use crate::numbers::queue_of;
+use pipe_log::queue_at;
 
 // Whether there are no groups.
 #[no_mangle]
@@ -38,5 +38,5 @@ pub extern "C" fn galdnyrr_live_entries(xs: &[u64], bs: &[u8], queue: u64) -> us
     requires { ⌜ Wf (now xs) (now bs) ⌝ }
     ensures { λ r. ⌜ r ≡ liveEntries (queueAt queue) (contextOf (now (xs .entry)) (now (bs .entry))) ⌝ }
 {
-    queries::live_entries(xs, bs, queue_of(queue))
+    queries::live_entries(xs, bs, queue_at(queue))
 }

@@ -8,8 +8,8 @@ ghost use Rattle.contexts.specs.Contexts.{contextOf, Wf, FreshArea};
 ghost use Rattle.galdnyrr.specs.Told.{fileOf, gateOr, Told};
 use crate::numbers::file_of;
 use crate::numbers::gate_of;
-use crate::numbers::queue_of;
 use crate::numbers::tell;
+use pipe_log::queue_at;
 
 // Makes a fresh context of a queue, whatever the area held.
 #[no_mangle]
@@ -17,7 +17,7 @@ pub extern "C" fn galdnyrr_fresh(xs: &mut [u64], bs: &mut [u8], queue: u64)
     requires { ⌜ (length (now xs) ≡ 17231) × (length (now bs) ≡ 38912) ⌝ }
     ensures { λ _. ⌜ FreshArea (queueAt queue) (now (xs .exit)) (now (bs .exit)) ⌝ }
 {
-    contexts::fresh(xs, bs, queue_of(queue));
+    contexts::fresh(xs, bs, queue_at(queue));
 }
 
 // Replays a batch into a context of its file's queue.

@@ -15,8 +15,8 @@ use crate::answers::LIST_TOO_SHORT;
 use crate::answers::tell_count;
 use crate::answers::tell_fetched;
 use crate::answers::tell_found;
-use crate::numbers::queue_of;
 use cells::copy_in_u8;
+use pipe_log::queue_at;
 use queries::KEY_ABSENT;
 
 // The number of a group's keys.
@@ -41,7 +41,7 @@ pub extern "C" fn galdnyrr_min_file_seq(
     requires { ⌜ Wf (now xs) (now bs) ⌝ }
     ensures { λ r. ⌜ FoundTold (inGroup group (λ t. ok (minFileSeq (queueAt queue) t)) (contextOf (now (xs .entry)) (now (bs .entry)))) (now (value .entry)) r (now (value .exit)) ⌝ }
 {
-    let found = queries::min_file_seq(xs, bs, group, queue_of(queue));
+    let found = queries::min_file_seq(xs, bs, group, queue_at(queue));
     tell_found(found, value)
 }
 

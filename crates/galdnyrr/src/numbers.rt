@@ -1,7 +1,6 @@
 // Numbers that stand for enums and structs.
 ghost use mathlib.Core.Path.{_≡_};
 ghost use Rattle.pipe_log.specs.Numbers.{gateOf, boundOf};
-ghost use Rattle.pipe_log.specs.Rows.{queueAt};
 ghost use Rattle.rules.specs.Context.{Context};
 ghost use Rattle.contexts.specs.Contexts.{positionOf, answerAs};
 ghost use Rattle.maps.specs.Lists.{orElse};
@@ -11,27 +10,17 @@ use contexts::Position;
 use pipe_log::Bound;
 use pipe_log::FileId;
 use pipe_log::Gate;
-use pipe_log::LogQueue;
+use pipe_log::queue_at;
 
 // The place of a refusal that was met at no item.
 pub const NO_PLACE: u64 = 0xffff_ffff_ffff_ffff;
-
-// The queue of a number.
-pub fn queue_of(queue: u64) -> LogQueue
-    ensures { λ r. ⌜ r ≡ queueAt queue ⌝ }
-{
-    if queue == 0 {
-        return LogQueue::Append;
-    }
-    LogQueue::Rewrite
-}
 
 // The file of a queue's number and a sequence number.
 pub fn file_of(queue: u64, seq: u64) -> FileId
     ensures { λ r. ⌜ r ≡ fileOf queue seq ⌝ }
 {
     FileId {
-        queue: queue_of(queue),
+        queue: queue_at(queue),
         seq,
     }
 }

@@ -12,9 +12,14 @@ ghost use Rattle.groups.specs.Undo.{markAt, lowOf, Undoable, ReadyFor, R
 use crate::SLOTS;
 use crate::Slot;
 use crate::calls::free_at;
+use kvs::rows::ROW_BYTES;
+use kvs::rows::ROW_WIDTH;
+use pipe_log::ENTRY_WIDTH;
 use stretch::BYTES;
 use stretch::Change;
 use stretch::ENTRIES_AT;
+use stretch::ENTRY_COUNT;
+use stretch::KEY_COUNT;
 use stretch::KEYS_AT;
 use stretch::STRETCH;
 
@@ -42,7 +47,7 @@ fn save_header(xs: &mut [u64], k: usize)
     let from = k * STRETCH;
     let to = (SLOTS + k) * STRETCH;
     if xs[to] == 0 {
-        let entries = xs[from + 3];
+        let entries = xs[from + ENTRY_COUNT];
         cells::shift_up_u64(xs, from + 1, to + 1, HEADER_REST);
         xs[to] = 2 + 2 * entries;
     }
@@ -63,8 +68,13 @@ fn save_rows(xs: &mut [u64], k: usize, first: usize)
     if low <= first {
         return;
     }
-    let place = ENTRIES_AT + first * 8;
-    cells::shift_up_u64(xs, k * STRETCH + place, to + place, (low - first) * 8);
+    let place = ENTRIES_AT + first * ENTRY_WIDTH;
+    cells::shift_up_u64(
+        xs,
+        k * STRETCH + place,
+        to + place,
+        (low - first) * ENTRY_WIDTH,
+    );
     xs[to] = 2 + 2 * (first as u64) + mark % 2;
 }
 
@@ -79,9 +89,9 @@ fn save_keys(xs: &mut [u64], bs: &mut [u8], k: usize)
     if mark % 2 == 1 {
         return;
     }
-    let keys = xs[to + 8] as usize;
-    cells::shift_up_u64(xs, k * STRETCH + KEYS_AT, to + KEYS_AT, keys * 4);
-    cells::shift_up_u8(bs, k * BYTES, (SLOTS + k) * BYTES, keys * 64);
+    let keys = xs[to + KEY_COUNT] as usize;
+    cells::shift_up_u64(xs, k * STRETCH + KEYS_AT, to + KEYS_AT, keys * ROW_WIDTH);
+    cells::shift_up_u8(bs, k * BYTES, (SLOTS + k) * BYTES, keys * ROW_BYTES);
     xs[to] = mark + 1;
 }
 
@@ -164,10 +174,10 @@ fn restore_front(xs: &mut [u64], k: usize)
     let from = (SLOTS + k) * STRETCH;
     let to = k * STRETCH;
     let low = (xs[from] / 2 - 1) as usize;
-    let entries = xs[from + 3] as usize;
-    let place = ENTRIES_AT + low * 8;
+    let entries = xs[from + ENTRY_COUNT] as usize;
+    let place = ENTRIES_AT + low * ENTRY_WIDTH;
     cells::shift_down_u64(xs, from + 1, to + 1, HEADER_REST);
-    cells::shift_down_u64(xs, from + place, to + place, (entries - low) * 8);
+    cells::shift_down_u64(xs, from + place, to + place, (entries - low) * ENTRY_WIDTH);
     xs[to] = 1;
 }
 
@@ -178,9 +188,9 @@ fn restore_keys(xs: &mut [u64], bs: &mut [u8], k: usize)
     ensures { λ _. ⌜ KeysBack k (now (xs .entry)) (now (bs .entry)) (now (xs .exit)) (now (bs .exit)) ⌝ }
 {
     let from = (SLOTS + k) * STRETCH;
-    let keys = xs[from + 8] as usize;
-    cells::shift_down_u64(xs, from + KEYS_AT, k * STRETCH + KEYS_AT, keys * 4);
-    cells::shift_down_u8(bs, (SLOTS + k) * BYTES, k * BYTES, keys * 64);
+    let keys = xs[from + KEY_COUNT] as usize;
+    cells::shift_down_u64(xs, from + KEYS_AT, k * STRETCH + KEYS_AT, keys * ROW_WIDTH);
+    cells::shift_down_u8(bs, (SLOTS + k) * BYTES, k * BYTES, keys * ROW_BYTES);
 }
 
 // Takes stretch k back.

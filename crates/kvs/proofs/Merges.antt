@@ -9,9 +9,8 @@ use mathlib.Core.List.{List, [], _∷_}
 use mathlib.Core.Option.{Option, none, some}
 use lib.Dec.{leb}
 use lib.ListN.{length, getD, drop, drop-of-length-le}
-use borrow.Author.Tests.{leb-true, ne-eqb}
+use borrow.Author.Tests.{leb-true}
 use Rattle.pipe_log.specs.declared.LogQueue.{LogQueue}
-use Rattle.pipe_log.specs.declared.LogQueue.the-variants.{Append, Rewrite}
 use Rattle.pipe_log.specs.Rows.{queueAt}
 use Rattle.maps.specs.Lists.{select, orElse}
 use Rattle.maps.specs.Maps.{Map, lookup, insert, mergeWith, bytes}
@@ -33,14 +32,6 @@ use Rattle.kvs.proofs.Found.{found-at, found-none}
 use Rattle.kvs.proofs.Selected.{selected, selected-all, selected-none, count-more}
 
 -- ---- one key
-
-pub append-queue : (n : ℕ) → n ≡ 0 → Append ≡ queueAt n
-unfolding queueAt
-append-queue n e = rw e
-
-pub rewrite-queue : (n : ℕ) → (n ≡ 0 → ⊥) → Rewrite ≡ queueAt n
-unfolding queueAt
-rewrite-queue n e = rw (ne-eqb n 0 e)
 
 module _ (n : ℕ) (rows bs k : List ℕ) (w : Wf n rows bs) (i : ℕ) where
   pub absent : placeOf k (keysIn n rows bs) ≡ Before i → isAbsent k (keysIn n rows bs) ≡ true

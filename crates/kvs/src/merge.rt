@@ -7,27 +7,16 @@ use crate::rows::ROW_BYTES;
 use crate::rows::ROW_WIDTH;
 use crate::rows::key_at;
 use crate::rows::value_at;
-use pipe_log::LogQueue;
+use pipe_log::queue_at;
 ghost use mathlib.Core.Bool.{true, cond};
 ghost use mathlib.Core.Path.{_≡_};
 ghost use Prim.Native.Nat.{_≤_, _<_};
 ghost use lib.ListN.{length};
-ghost use Rattle.pipe_log.specs.Rows.{queueAt};
 ghost use Rattle.rules.specs.Table.{overKeys};
 ghost use Rattle.kvs.specs.Rows.{rowAt, keyOf, heldOf, keysIn, Wf, fits};
 ghost use Rattle.kvs.specs.RowIn.{RowIn};
 ghost use Rattle.kvs.specs.Calls.{PutKey};
 ghost use Rattle.kvs.specs.Merge.{isAbsent, missing, LaidOver, MergeKeys};
-
-// The queue that a row's number stands for.
-fn queue_of(number: u64) -> LogQueue
-    ensures { λ r. ⌜ r ≡ queueAt number ⌝ }
-{
-    if number == 0 {
-        return LogQueue::Append;
-    }
-    LogQueue::Rewrite
-}
 
 // 1 for a key that the part lacks, and 0 for one that it has.
 fn one_absent(n: usize, rows: &[u64], bytes: &[u8], key: &[u8]) -> usize
@@ -79,7 +68,7 @@ fn put_row(
 {
     let key = key_at(newrows, newbytes, j);
     let value = value_at(newrows, newbytes, j);
-    let queue = queue_of(newrows[j * ROW_WIDTH + 2]);
+    let queue = queue_at(newrows[j * ROW_WIDTH + 2]);
     put(
         n,
         rows,

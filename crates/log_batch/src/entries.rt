@@ -4,12 +4,13 @@ ghost use Prim.Native.Nat.{suc, _*_, _≤_};
 ghost use lib.Dec.{eqb};
 ghost use lib.ListN.{length};
 ghost use Rattle.maps.specs.Lists.{any};
-ghost use Rattle.pipe_log.specs.Rows.{isRecord, entryOf, entriesOf, queueAt};
+ghost use Rattle.pipe_log.specs.Rows.{isRecord, entryOf, entriesOf};
 ghost use Rattle.rules.specs.Items.{sameQueue};
 ghost use Rattle.rules.specs.Checks.{consecutive};
 ghost use Rattle.log_batch.specs.Judged.{entryMeets, entriesIncomplete};
 use pipe_log::ENTRY_WIDTH;
 use pipe_log::LogQueue;
+use pipe_log::queue_at;
 
 // The bounds of cause 4.
 pub const MAX_INDEX: u64 = 0x7fff_ffff_ffff_ffff;
@@ -35,16 +36,6 @@ fn is_record(row: &[u64]) -> bool
         return false;
     }
     row[6] < 0x1_0000_0000
-}
-
-// The queue that a number stands for.
-fn queue_at(number: u64) -> LogQueue
-    ensures { λ r. ⌜ r ≡ queueAt number ⌝ }
-{
-    if number == 0 {
-        return LogQueue::Append;
-    }
-    LogQueue::Rewrite
 }
 
 fn is_append(queue: LogQueue) -> bool

@@ -2,7 +2,7 @@
 ghost use mathlib.Core.Path.{_≡_};
 ghost use Prim.Native.Nat.{_+_, _*_, _≤_};
 ghost use lib.ListN.{length, drop};
-ghost use Rattle.pipe_log.specs.Rows.{queueAt, compressionAt, entryOf, withIndex};
+ghost use Rattle.pipe_log.specs.Rows.{compressionAt, entryOf, withIndex};
 ghost use Rattle.memtable.specs.Views.{AnyRow};
 use pipe_log::CompressionType;
 use pipe_log::ENTRY_WIDTH;
@@ -10,16 +10,7 @@ use pipe_log::EntryBlock;
 use pipe_log::EntryIndex;
 use pipe_log::FileBlockHandle;
 use pipe_log::FileId;
-use pipe_log::LogQueue;
-
-fn queue_at(n: u64) -> LogQueue
-    ensures { λ r. ⌜ r ≡ queueAt n ⌝ }
-{
-    if n == 0 {
-        return LogQueue::Append;
-    }
-    LogQueue::Rewrite
-}
+use pipe_log::queue_at;
 
 fn compression_at(n: u64) -> CompressionType
     ensures { λ r. ⌜ r ≡ compressionAt n ⌝ }

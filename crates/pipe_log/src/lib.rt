@@ -1,6 +1,7 @@
 // Queues, files and the entry record (src/pipe_log.rs; the entry record is src/memtable.rs's `EntryIndex`). The pipe is left out.
 ghost use mathlib.Core.Path.{_≡_};
 ghost use Rattle.pipe_log.specs.Numbers.{queueNumber, compressionNumber};
+ghost use Rattle.pipe_log.specs.Rows.{queueAt};
 ghost use Rattle.pipe_log.specs.Freshness.{numberOrder, freshness};
 use cells::Order;
 
@@ -79,6 +80,16 @@ impl CompressionType {
             CompressionType::Lz4 => 1,
         }
     }
+}
+
+// The queue that a number stands for.
+pub fn queue_at(number: u64) -> LogQueue
+    ensures { λ r. ⌜ r ≡ queueAt number ⌝ }
+{
+    if number == 0 {
+        return LogQueue::Append;
+    }
+    LogQueue::Rewrite
 }
 
 // Numbers in their order.

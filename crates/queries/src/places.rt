@@ -12,11 +12,9 @@ use groups::Slot;
 use memtable::Head;
 use stretch::BYTES;
 use stretch::ENTRIES_AT;
+use stretch::KEY_COUNT;
 use stretch::KEYS_AT;
 use stretch::STRETCH;
-
-// Where the header of a stretch has the number of keys.
-const KEY_COUNT: usize = 8;
 
 // The stretch where a group stands.
 pub fn place_of(xs: &[u64], group: u64) -> Place

@@ -4,6 +4,7 @@ ghost use Prim.Native.Nat.{_≤_};
 ghost use lib.ListN.{length};
 ghost use Rattle.cells.specs.Part.{put};
 ghost use Rattle.stretch.specs.Stretch.{spanIn, headIn, spanNumbers, headNumbers, madeHeader};
+use crate::ENTRY_COUNT;
 use memtable::AtomicGroup;
 use memtable::Head;
 
@@ -29,7 +30,7 @@ pub fn head_in(p: &[u64]) -> Head
     let atomic_group = span_in(p);
     Head {
         first_index: p[2],
-        len: p[3] as usize,
+        len: p[ENTRY_COUNT] as usize,
         rewrite_count: p[4] as usize,
         atomic_group,
     }

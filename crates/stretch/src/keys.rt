@@ -8,6 +8,7 @@ ghost use Rattle.rules.specs.Table.{putKey, deleteKey, rewrittenKey};
 ghost use Rattle.kvs.specs.Calls.{heldBy};
 ghost use Rattle.stretch.specs.Stretch.{entryRowsAt, WfAt, tableIn, Wf};
 ghost use Rattle.stretch.specs.Changes.{ChangedAt, keysLaid};
+use crate::KEY_COUNT;
 use crate::KEY_GOES_BACK;
 use crate::KEYS_AT;
 use crate::LIMIT_PASSED;
@@ -15,9 +16,6 @@ use crate::Outcome;
 use crate::STRETCH;
 use pipe_log::Gate;
 use pipe_log::LogQueue;
-
-// Where the header has the number of keys.
-const KEY_COUNT: usize = 8;
 
 // Puts a key with its value and file.
 pub fn put(

@@ -23,6 +23,11 @@ pub use reach::writes_keys;
 pub use spans::set_span;
 pub use spans::write_span;
 
+// Where the header of a group's stretch has the number of entries and of keys.
+pub const ENTRY_COUNT: usize = 3;
+
+pub const KEY_COUNT: usize = 8;
+
 // The layout of a group's stretch.
 pub const ENTRIES_AT: usize = 10;
 

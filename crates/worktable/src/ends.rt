@@ -12,6 +12,8 @@ ghost use Rattle.stretch.specs.Stretch.{isUsed};
 ghost use Rattle.worktable.specs.Work.{workIn, Wf};
 ghost use Rattle.worktable.specs.Calls.{Ends};
 use crate::acts::provide;
+use stretch::ENTRY_COUNT;
+use stretch::KEY_COUNT;
 use stretch::Outcome;
 
 // Document 01's limits of a group.
@@ -41,8 +43,8 @@ pub fn fits(p: &[u64]) -> bool
     requires { ⌜ 10 ≤ length (now p) ⌝ }
     ensures { λ r. ⌜ ((b : List ℕ) → isUsed (now (p .entry)) ≡ true → r ≡ tableFits (made (workIn (now (p .entry)) b))) ⌝ }
 {
-    if MOST_ENTRIES < p[3] {
+    if MOST_ENTRIES < p[ENTRY_COUNT] {
         return false;
     }
-    p[8] <= MOST_KEYS
+    p[KEY_COUNT] <= MOST_KEYS
 }

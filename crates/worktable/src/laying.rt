@@ -16,8 +16,13 @@ ghost use Rattle.worktable.specs.Calls.{Becomes, Ends, AllOf, newerQueue
 use crate::KEYS_AT;
 use crate::Mode;
 use crate::acts::provide;
+use kvs::rows::ROW_BYTES;
+use kvs::rows::ROW_WIDTH;
 use memtable::AtomicGroup;
+use pipe_log::ENTRY_WIDTH;
 use stretch::ENTRIES_AT;
+use stretch::ENTRY_COUNT;
+use stretch::KEY_COUNT;
 use stretch::Outcome;
 
 // Where the header tells whether the group is counted.
@@ -29,7 +34,7 @@ fn rows_of(q: &[u64], count: usize) -> &[u64]
     ensures { λ r. ⌜ now r ≡ part 10 (count * 8) (now (q .entry)) ⌝ }
 {
     let a = ENTRIES_AT;
-    let e = a + count * 8;
+    let e = a + count * ENTRY_WIDTH;
     &q[a..e]
 }
 
@@ -94,15 +99,15 @@ fn adopt(p: &mut [u64], b: &mut [u8], q: &[u64], d: &[u8])
     requires { ⌜ held.Wf (now q) (now d) × (isUsed (now q) ≡ true) ⌝ }
     ensures { λ _. ⌜ Becomes (some (uncounted (tableIn (now (q .entry)) (now (d .entry))))) (now (p .exit)) (now (b .exit)) ⌝ }
 {
-    let entries = q[3] as usize;
-    let keys = q[8] as usize;
+    let entries = q[ENTRY_COUNT] as usize;
+    let keys = q[KEY_COUNT] as usize;
     let start = 0;
-    let e = ENTRIES_AT + entries * 8;
+    let e = ENTRIES_AT + entries * ENTRY_WIDTH;
     cells::copy_in_u64(p, 0, &q[start..e]);
     let a = stretch::KEYS_AT;
-    let z = a + keys * 4;
+    let z = a + keys * ROW_WIDTH;
     cells::copy_in_u64(p, KEYS_AT, &q[a..z]);
-    let n = keys * 64;
+    let n = keys * ROW_BYTES;
     cells::copy_in_u8(b, 0, &d[start..n]);
     p[COUNTED] = 0;
 }

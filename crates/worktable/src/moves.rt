@@ -12,8 +12,13 @@ use crate::KEYS_AT;
 use crate::WORK_AT;
 use crate::WORK_BYTES_AT;
 use groups::SLOTS;
+use kvs::rows::ROW_BYTES;
+use kvs::rows::ROW_WIDTH;
+use pipe_log::ENTRY_WIDTH;
 use stretch::BYTES;
 use stretch::ENTRIES_AT;
+use stretch::ENTRY_COUNT;
+use stretch::KEY_COUNT;
 use stretch::STRETCH;
 
 // Copies stretch k, which is used, to the long stretch.
@@ -23,11 +28,16 @@ pub fn load(xs: &mut [u64], bs: &mut [u8], k: usize)
     ensures { λ _. ⌜ Loaded k (now (xs .entry)) (now (bs .entry)) (now (xs .exit)) (now (bs .exit)) ⌝ }
 {
     let from = k * STRETCH;
-    let entries = xs[from + 3] as usize;
-    let keys = xs[from + 8] as usize;
-    cells::shift_up_u64(xs, from, WORK_AT, ENTRIES_AT + entries * 8);
-    cells::shift_up_u64(xs, from + stretch::KEYS_AT, WORK_AT + KEYS_AT, keys * 4);
-    cells::shift_up_u8(bs, k * BYTES, WORK_BYTES_AT, keys * 64);
+    let entries = xs[from + ENTRY_COUNT] as usize;
+    let keys = xs[from + KEY_COUNT] as usize;
+    cells::shift_up_u64(xs, from, WORK_AT, ENTRIES_AT + entries * ENTRY_WIDTH);
+    cells::shift_up_u64(
+        xs,
+        from + stretch::KEYS_AT,
+        WORK_AT + KEYS_AT,
+        keys * ROW_WIDTH,
+    );
+    cells::shift_up_u8(bs, k * BYTES, WORK_BYTES_AT, keys * ROW_BYTES);
 }
 
 // Copies the work table, which fits, to spare stretch k, as that of a group.
@@ -37,10 +47,15 @@ pub fn unload(xs: &mut [u64], bs: &mut [u8], k: usize, group: u64)
     ensures { λ _. ⌜ Unloaded k group (now (xs .entry)) (now (bs .entry)) (now (xs .exit)) (now (bs .exit)) ⌝ }
 {
     let to = (SLOTS + k) * STRETCH;
-    let entries = xs[WORK_AT + 3] as usize;
-    let keys = xs[WORK_AT + 8] as usize;
-    cells::shift_down_u64(xs, WORK_AT, to, ENTRIES_AT + entries * 8);
-    cells::shift_down_u64(xs, WORK_AT + KEYS_AT, to + stretch::KEYS_AT, keys * 4);
-    cells::shift_down_u8(bs, WORK_BYTES_AT, (SLOTS + k) * BYTES, keys * 64);
+    let entries = xs[WORK_AT + ENTRY_COUNT] as usize;
+    let keys = xs[WORK_AT + KEY_COUNT] as usize;
+    cells::shift_down_u64(xs, WORK_AT, to, ENTRIES_AT + entries * ENTRY_WIDTH);
+    cells::shift_down_u64(
+        xs,
+        WORK_AT + KEYS_AT,
+        to + stretch::KEYS_AT,
+        keys * ROW_WIDTH,
+    );
+    cells::shift_down_u8(bs, WORK_BYTES_AT, (SLOTS + k) * BYTES, keys * ROW_BYTES);
     xs[to + 1] = group;
 }

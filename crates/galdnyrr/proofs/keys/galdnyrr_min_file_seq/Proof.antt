@@ -4,8 +4,8 @@ use borrow.Author.Needs.{needs}
 use Rattle.galdnyrr.proofs.keys.galdnyrr_min_file_seq.Statement.{statement}
 use Rattle.galdnyrr.proofs.keys.galdnyrr_min_file_seq.Tie as tie
 
-queue-of-requires : tie.Need-queue-of-requires
-queue-of-requires c κs = search needs
+queue-at-requires : tie.Need-queue-at-requires
+queue-at-requires c κs = search needs
 
 min-file-seq-requires : tie.Need-min-file-seq-requires
 min-file-seq-requires c κs = search needs
@@ -15,11 +15,11 @@ tell-found-requires c κs = search needs
 
 returns : tie.Need-returns
 returns c =
-    let queue-of = c .before .before .before .queue-of in
+    let queue-at = c .before .before .before .queue-at in
     let min-file-seq = c .before .before .min-file-seq in
     let tell-found = c .tell-found in
-    file-told _ _ (queue-of .ensures) (min-file-seq .ensures) (tell-found .ensures)
+    file-told _ _ (queue-at .ensures) (min-file-seq .ensures) (tell-found .ensures)
 
 pub galdnyrr-min-file-seq-spec : {M : Type 1} → statement M
 galdnyrr-min-file-seq-spec =
-    tie.close (tie.spec queue-of-requires min-file-seq-requires tell-found-requires returns)
+    tie.close (tie.spec queue-at-requires min-file-seq-requires tell-found-requires returns)

@@ -5,12 +5,12 @@ use borrow.Author.Needs.{needs}
 use Rattle.galdnyrr.proofs.numbers.file_of.Statement.{statement}
 use Rattle.galdnyrr.proofs.numbers.file_of.Tie as tie
 
-queue-of-requires : tie.Need-queue-of-requires
-queue-of-requires c κs = search needs
+queue-at-requires : tie.Need-queue-at-requires
+queue-at-requires c κs = search needs
 
 returns : tie.Need-returns
 unfolding fileOf
-returns c = ap (λ q. record { queue = q; seq = c .before .args .seq }) (c .queue-of .ensures)
+returns c = ap (λ q. record { queue = q; seq = c .before .args .seq }) (c .queue-at .ensures)
 
 pub file-of-spec : {M : Type 1} → statement M
-file-of-spec = tie.close (tie.spec queue-of-requires returns)
+file-of-spec = tie.close (tie.spec queue-at-requires returns)

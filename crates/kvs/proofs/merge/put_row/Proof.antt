@@ -11,20 +11,20 @@ key-at-requires c κs = search needs
 value-at-requires : tie.Need-value-at-requires
 value-at-requires c κs = search needs
 
-mul-queue-of : tie.Need-mul-queue-of
-mul-queue-of c = search needs
+mul-queue-at : tie.Need-mul-queue-at
+mul-queue-at c = search needs
 
-add-queue-of : tie.Need-add-queue-of
-add-queue-of c = search needs
+add-queue-at : tie.Need-add-queue-at
+add-queue-at c = search needs
 
-mul-queue-of-2 : tie.Need-mul-queue-of-2
-mul-queue-of-2 c = search needs
+mul-queue-at-2 : tie.Need-mul-queue-at-2
+mul-queue-at-2 c = search needs
 
-shared-slice-read-queue-of : tie.Need-shared-slice-read-queue-of
-shared-slice-read-queue-of c = search needs
+shared-slice-read-queue-at : tie.Need-shared-slice-read-queue-at
+shared-slice-read-queue-at c = search needs
 
-queue-of-requires : tie.Need-queue-of-requires
-queue-of-requires c κs = search needs
+queue-at-requires : tie.Need-queue-at-requires
+queue-at-requires c κs = search needs
 
 mul-put : tie.Need-mul-put
 mul-put c = search needs
@@ -55,9 +55,9 @@ returns : tie.Need-returns
 returns c =
     let key-at = c .before .before .before .before .before .before .before .before .before .before .before .key-at in
     let value-at = c .before .before .before .before .before .before .before .before .before .before .value-at in
-    let queue-of = c .before .before .before .before .before .before .before .before .queue-of in
+    let queue-at = c .before .before .before .before .before .before .before .before .queue-at in
     let put = c .before .before .before .before .put in
-    row-put _ _ _ _ _ _ _ _ _ _ _ _ (key-at .ensures) (value-at .ensures) (queue-of .ensures) (put .ensures)
+    row-put _ _ _ _ _ _ _ _ _ _ _ _ (key-at .ensures) (value-at .ensures) (queue-at .ensures) (put .ensures)
 
 pub put-row-spec : {M : Type 1} → statement M
 put-row-spec =
@@ -65,11 +65,11 @@ put-row-spec =
     (tie.spec
     key-at-requires
     value-at-requires
-    mul-queue-of
-    add-queue-of
-    mul-queue-of-2
-    shared-slice-read-queue-of
-    queue-of-requires
+    mul-queue-at
+    add-queue-at
+    mul-queue-at-2
+    shared-slice-read-queue-at
+    queue-at-requires
     mul-put
     add-put
     mul-put-2
