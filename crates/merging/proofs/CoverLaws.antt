@@ -42,8 +42,8 @@ use Rattle.waiting.specs.Rooms.{headAt, countIn, cellOf, waitingIn}
 use Rattle.waiting.specs.Rooms as waiting
 use Rattle.waiting.specs.Layout.{roomOf, waitingOf, RoomWf}
 use Rattle.waiting.specs.Accepts.{tagged}
+use Rattle.parts.specs.CellLaws.{in-cell, count-is, some-cell, cells-count, cell-at}
 use Rattle.merging.specs.Modes.{stretchNumber, tombstoneNumber, waitingNumber, numberAt, firsts, placeCount}
-use Rattle.merging.proofs.PartWays.{in-cell, count-is, cells-count, cell-at}
 
 -- ---- a number of place i is among those of the first n places
 
@@ -170,13 +170,6 @@ module _ (xs bs ys cs : List ℕ) (w : RoomWf 16 (waitingNumbers ys) (waitingByt
       let g = in-cell room k 1 l (omega arith) in
       in-firsts (numberAt xs ys) _ placeCount (k + 80) (omega arith)
       (rw (waiting-place k l (λ z. n (count-is room k l ∙ z)), g) (in-one (getD room (2 + k * 10 + 1) 0)))
-
-  some-cell : (h : List ℕ) (ts : List Tagged) (p : Pair ℕ (List Part)) → cellOf h ts ≡ some p → (countIn h ≡ 0 → ⊥) × (waiting.groupIn h ≡ p .key)
-  unfolding cellOf
-  some-cell h ts p e =
-      split (eqb (countIn h) 0)
-      (λ z. absurd (Option·none-ne-some p (rw z at e)))
-      (λ z. ((λ n. clash (sym z ∙ eq-eqb (countIn h) 0 n)), ap (λ (q : Pair ℕ (List Part)). q .key) (Option·some-injective _ p (rw z at e))))
 
   waiting-in : every (λ p. isIn (p .key) (gs xs bs ys cs)) (waitingOf (waitingNumbers ys) (waitingBytes cs)) ≡ true
   unfolding waitingOf waitingIn roomOf

@@ -46,57 +46,19 @@ use Rattle.contexts.specs.AreaLaws.{formed-of, area-length, area-bytes}
 use Rattle.worktable.specs.Work.{workIn}
 use Rattle.worktable.specs.Work as work
 use Rattle.worktable.specs.Calls.{Becomes, Ends}
-use Rattle.merging.specs.declared.Ending.{Ending}
-use Rattle.merging.specs.declared.Finishing.{Finishing}
-use Rattle.merging.specs.declared.Finishing.the-variants as finishing
+use Rattle.parts.specs.declared.Ending.{Ending}
+use Rattle.parts.specs.declared.Finishing.{Finishing}
+use Rattle.parts.specs.declared.Finishing.the-variants as finishing
+use Rattle.parts.specs.ItemLaws.{few-items}
+use Rattle.parts.specs.Finishings.{finishedAs, hasItems}
 use Rattle.merging.specs.Staging.{longNumbers, longBytes, Working}
 use Rattle.merging.specs.StagingLaws.{working-none, working-then}
 use Rattle.merging.specs.WorkLaws.{group-room}
 use Rattle.merging.specs.Works.{Loaded, WorkedAs}
-use Rattle.merging.specs.Replays.{ofRewrite, replayed, Replayable, hasItems}
-use Rattle.merging.specs.Finishings.{finishedAs, finishedAt, PartsGiven, endingItems, endingSpan, EndingGiven}
+use Rattle.merging.specs.Replays.{ofRewrite, replayed, Replayable}
+use Rattle.merging.specs.Finishings.{finishedAt, PartsGiven, endingItems, endingSpan, EndingGiven}
 use Rattle.merging.proofs.ReplayWays.{rest-replayable}
-use Rattle.merging.proofs.PartWays.{enough-tags}
 use Rattle.merging.proofs.WorkWays.{long-is, long-front, long-back, lent-working, lent-back, context-groups}
-
--- ---- a room, as it is lent
-
-module _ (ws vs : List ℕ) (w : RoomWf 16 ws vs) where
-  abbrev lentStore : Store
-  lentStore = record { items = getD ws 0 0; entries = getD ws 1 0 }
-
-  abbrev lentTags : List ℕ
-  lentTags = take 128 (drop 162 ws)
-
-  abbrev lentArea : Area
-  lentArea = area (take 1152 (drop 290 ws)) (take (length ws - 1442) (drop 1442 ws)) vs
-
-  tags-are : lentTags ≡ roomOf 16 ws vs .tags
-  unfolding roomOf
-  tags-are = part-is 162 128 ws
-
-  area-is : lentArea ≡ areaIn (roomOf 16 ws vs)
-  unfolding roomOf
-  area-is = rw (part-is 290 1152 ws, part-to-end ws 1442, ← long-is 1442 2048 ws (w .numbers-are), places.bytes-are 16 ws vs (w .bytes-are))
-
-  pub lent-tagged : storeTagged lentStore lentArea lentTags ≡ tagged ws vs
-  unfolding itemsIn storeOf
-  lent-tagged = rw (area-is, tags-are)
-
-  pub lent-stored : Stored lentStore lentArea
-  unfolding storeOf
-  lent-stored = rw area-is (w .wf .stored)
-
-  pub lent-enough : getD ws 0 0 ≤ length lentTags
-  unfolding storeOf
-  lent-enough = rw tags-are (enough-tags 0 ws vs w)
-
-pub few-items : (ws vs : List ℕ) → RoomWf 16 ws vs → getD ws 0 0 ≤ 128
-unfolding storeOf
-few-items ws vs w =
-    let b = length-items 16 ws vs (w .numbers-are) (w .bytes-are) in
-    let d = w .wf .stored .rows in
-    omega (arith, b, d)
 
 -- ---- the items of two parts
 

@@ -5,7 +5,6 @@ pub mod NumberWays
 pub mod EndWays
 pub mod TombWays
 pub mod ReplayWays
-pub mod PartWays
 pub mod CoverLaws
 pub mod WorkWays
 pub mod FinishingWays

@@ -38,6 +38,7 @@ use Rattle.deeds.specs.Deeds.{rowsIn, keyIn, valueIn, deedOf}
 use Rattle.deeds.specs.DeedLaws.{Clear, DeedSays, Changes, deed-says}
 use Rattle.worktable.specs.Work.{workIn, Wf}
 use Rattle.worktable.specs.Calls.{Becomes, deedTo, ReadyTo, Taken}
+use Rattle.parts.specs.ItemLaws.{here-is, past-is, end-is, anItem}
 use Rattle.merging.specs.Replays.{ofRewrite, replayed, Replayable, Replaying}
 
 -- ---- one item
@@ -174,41 +175,6 @@ unfolding replayedItems
 replaying-all xs o rest p b e k = record { is = rw e at (k .whole); wf = k .wf }
 
 -- ---- the items of a store that have a tag
-
-module _ (s : Store) (a : Area) (ts : List ℕ) (v : Stored s a) (n : s .items ≤ length ts) where
-  abbrev all : List Tagged
-  all = storeTagged s a ts
-
-  pub count-all : length all ≡ s .items
-  unfolding storeTagged
-  count-all = let k = length-stored s a v in length-tagged ts (storeItems s a) (omega (arith, k)) ∙ k
-
-  module _ (t j : ℕ) (l : j < s .items) (z : Tagged) where
-    pub tag-at : getD all j z .tag ≡ getD ts j 0
-    unfolding storeTagged
-    tag-at =
-        let k = length-stored s a v in
-        ap (λ (x : Tagged). x .tag) (tagged-at ts (storeItems s a) j z (z .item) (omega (arith, k)) (omega (arith, k)))
-
-    pub item-is : (it : LogItem) → ItemAt s a j it → getD all j z .item ≡ itemOf it (a .entries) (a .bytes)
-    unfolding storeTagged
-    item-is it at =
-        let k = length-stored s a v in
-        ap (λ (x : Tagged). x .item) (tagged-at ts (storeItems s a) j z (z .item) (omega (arith, k)) (omega (arith, k))) ∙ at .is (z .item)
-
-    pub here-is : (it : LogItem) → ItemAt s a j it → getD ts j 0 ≡ t → itemsWith t (drop j all) ≡ itemOf it (a .entries) (a .bytes) ∷ itemsWith t (drop (j + 1) all)
-    here-is it at e =
-        rw (add-one j) (with-here t all j z (omega (arith, count-all)) (tag-at ∙ e) ∙ ap (λ (x : rules.LogItem). x ∷ itemsWith t (drop (suc j) all)) (item-is it at))
-
-    pub past-is : (getD ts j 0 ≡ t → ⊥) → itemsWith t (drop j all) ≡ itemsWith t (drop (j + 1) all)
-    past-is e = rw (add-one j) (with-past t all j z (omega (arith, count-all)) (λ u. e (sym tag-at ∙ u)))
-
-  pub end-is : (t j : ℕ) (z : Tagged) → s .items ≤ j → itemsWith t (drop j all) ≡ []
-  end-is t j z h = with-end t all j z (omega (arith, count-all))
-
--- an item of no meaning, where one has to be named
-abbrev pub anItem : Tagged
-anItem = record { tag = 0; item = record { group = 0; content = rules.command rules.clean } }
 
 module _ (s : Store) (a : Area) (ts : List ℕ) (v : Stored s a) (n : s .items ≤ length ts) (t j : ℕ) (l : j < s .items) (p b : List ℕ) (r : Replayable (itemsWith t (drop j (storeTagged s a ts))) (workIn p b)) where
   pub other-replayed : (getD ts j 0 ≡ t → ⊥) → Wf p b → Replaying (itemsWith t (drop j (storeTagged s a ts))) (workIn p b) (itemsWith t (drop (j + 1) (storeTagged s a ts))) p b

@@ -1,55 +1,26 @@
--- What a merge finishes of a group, told from the heads of the parts.
-use mathlib.Core.Bool.{Bool, true, false, cond}
+-- The parts of a group that a merge finishes, replayed on its work table.
 use mathlib.Core.List.{List, _++_}
-use mathlib.Core.Option.{Option, none, some}
+use mathlib.Core.Option.{Option, some}
 use mathlib.Core.Path.{_≡_}
-use Prim.Native.Nat.{ℕ, _+_}
-use lib.Dec.{eqb}
+use Prim.Native.Nat.{ℕ}
 use lib.ListN.{length, drop}
 use Rattle.maps.specs.Maps.{lookup, numbers}
 use Rattle.rules.specs.Items.{Rewrite, LogItem}
 use Rattle.rules.specs.Table.{Span}
-use Rattle.rules.specs.Context.{context, Part, Context}
+use Rattle.rules.specs.Context.{context, Context}
 use Rattle.rules_by_group.specs.Group.{Finished, finishedOf}
 use Rattle.groups.specs.Area.{groupsOf}
-use Rattle.stores.specs.Tags.{Tagged, itemsWith}
-use Rattle.waiting.specs.declared.Step as step
-use Rattle.waiting.specs.Rooms.{countIn, newest, older}
+use Rattle.stores.specs.Tags.{itemsWith}
 use Rattle.waiting.specs.Layout.{RoomWf}
 use Rattle.waiting.specs.Accepts.{tagged}
+use Rattle.parts.specs.declared.Ending.{Ending}
 use Rattle.contexts.specs.Contexts.{areaNumbers, areaBytes, waitingNumbers, waitingBytes, contextOf}
 use Rattle.contexts.specs.Contexts as areas
 use Rattle.worktable.specs.Work.{workIn}
 use Rattle.worktable.specs.Work as work
 use Rattle.worktable.specs.Calls.{Becomes}
-use Rattle.merging.specs.declared.Ending.{Ending}
-use Rattle.merging.specs.declared.Finishing as finishing
 use Rattle.merging.specs.Staging.{longNumbers, longBytes}
 use Rattle.merging.specs.Replays.{Replayable}
-
--- the finished atomic group: items of the older room xs and of the newer room ys, and the files
-unfoldable pub finishedAs : finishing.Finishing → List Tagged → List Tagged → Option Finished
-finishedAs finishing.the-variants.None xs ys = none
-finishedAs (finishing.the-variants.Of e) xs ys =
-    some (record { items = itemsWith (e .older) xs ++ itemsWith (e .newer) ys; span = record { start = e .start; end = e .end } })
-
--- where the oldest part of a cell begins
-unfoldable pub oldestAt : List ℕ → ℕ
-oldestAt h = cond (eqb (countIn h) 1) 2 6
-
--- the oldest part of a cell
-unfoldable pub oldest : List ℕ → List Tagged → Part
-oldest h xs = cond (eqb (countIn h) 1) (newest h xs) (older h xs)
-
-unfoldable pub isFinish : step.Step → Bool
-isFinish step.the-variants.Replace = false
-isFinish step.the-variants.Front = false
-isFinish step.the-variants.Join = false
-isFinish step.the-variants.Drop = false
-isFinish step.the-variants.Finish = true
-isFinish step.the-variants.Back = false
-
--- ---- the parts of a group that a merge finishes, replayed on its work table
 
 -- what finishes of group g
 unfoldable pub finishedAt : ℕ → Context → Context → Option Finished

@@ -1,7 +1,7 @@
 -- The items of a finished part replayed on the work table, one after the other.
-use mathlib.Core.Bool.{Bool, true, false}
-use mathlib.Core.List.{List, [], _∷_, _++_}
-use mathlib.Core.Option.{Option, none, some}
+use mathlib.Core.Bool.{Bool, true}
+use mathlib.Core.List.{List}
+use mathlib.Core.Option.{Option}
 use mathlib.Core.Path.{_≡_}
 use Prim.Native.Nat.{ℕ, _+_, _≤_}
 use lib.ListN.{length}
@@ -35,8 +35,3 @@ pub record Replaying (xs : List LogItem) (o : Option Table) (rest : List LogItem
   pub whole : replayedItems rest (workIn p b) ≡ replayedItems xs o
   pub ready : Replayable rest (workIn p b)
   pub wf : Wf p b
-
--- whether there is an item
-unfoldable pub hasItems : List LogItem → Bool
-hasItems [] = false
-hasItems (x ∷ xs) = true

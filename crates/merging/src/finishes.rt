@@ -16,16 +16,17 @@ ghost use Rattle.groups.specs.Area.{groupsOf};
 ghost use Rattle.contexts.specs.Contexts.{contextOf};
 ghost use Rattle.worktable.specs.Work.{workIn, Wf};
 ghost use Rattle.worktable.specs.Calls.{Ends};
-ghost use Rattle.merging.specs.Replays.{Replayable, hasItems};
+ghost use Rattle.parts.specs.Finishings.{hasItems};
+ghost use Rattle.merging.specs.Replays.{Replayable};
 ghost use Rattle.merging.specs.Finishings.{finishedAt, PartsGiven, endingItems, endingSpan, EndingGiven};
 ghost use Rattle.merging.specs.Works.{Loaded, WorkedAs};
-use crate::Ending;
-use crate::Finishing;
-use crate::parts::finishing;
-use crate::parts::has_items;
 use crate::replays::replay_part;
 use contexts::WAITING_FROM;
 use contexts::WAITING_TO;
+use parts::Ending;
+use parts::Finishing;
+use parts::find_finishing;
+use parts::has_items;
 use stretch::Outcome;
 use worktable::WORK_AT;
 use worktable::WORK_BYTES_AT;
@@ -114,7 +115,7 @@ pub fn finish_part(xs: &mut [u64], bs: &mut [u8], ys: &[u64], cs: &[u8], group: 
 {
     let from = WAITING_FROM;
     let to = WAITING_TO;
-    let found = finishing(&xs[from..to], &ys[from..to], group);
+    let found = find_finishing(&xs[from..to], &ys[from..to], group);
     match found {
         Finishing::None => Outcome::Done,
         Finishing::Of(ending) => finish_with(xs, bs, ys, cs, ending),

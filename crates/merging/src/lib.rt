@@ -5,7 +5,6 @@ mod ends;
 mod finishes;
 mod growth;
 mod numbers;
-mod parts;
 mod replays;
 mod stages;
 mod staging;
@@ -25,18 +24,4 @@ pub struct Flags {
 pub enum Number {
     None,
     Of(u64),
-}
-
-// The parts that are finished: the tags of their items in the older and in the newer room, and the first and the last file.
-pub struct Ending {
-    pub older: u64,
-    pub newer: u64,
-    pub start: u64,
-    pub end: u64,
-}
-
-// What a merge finishes of a group.
-pub enum Finishing {
-    None,
-    Of(Ending),
 }

@@ -13,4 +13,3 @@ pub mod Forming
 pub mod Limiting
 pub mod Moving
 pub mod Merging
-pub mod Seeking

@@ -26,7 +26,7 @@ use Rattle.waiting.specs.Parts.{TookPart}
 use Rattle.waiting.specs.Steps.{isFree, AtCell, NoCell, stepOf, stepped}
 use Rattle.waiting.specs.Accepts.{partsAt}
 use Rattle.waiting.specs.Forms.{FormAt, formParts, withPart, partWith}
-use Rattle.waiting.specs.FormLaws.{others, used-count, cell-here, accept-here, form-accepts}
+use Rattle.waiting.specs.FormLaws.{others, used-count, cell-here, accept-here, form-accepts, waits-not}
 use Rattle.waiting.specs.JudgeLaws.{counts-after, all-used}
 use Rattle.waiting.specs.Merges.{Joined, Finished, RoomFor}
 use Rattle.waiting.proofs.Forming.{form-in}
@@ -39,13 +39,13 @@ module _ (ws vs : List ℕ) (w : RoomWf 16 ws vs) where
   abbrev r : Room
   r = roomOf 16 ws vs
 
-  -- not every cell is in use
-  pub cell-left : (g : ℕ) (its : List rules.LogItem) → RoomFor its ws vs → NoCell g 16 (part 2 (16 * 10) ws) → ⊥
+  -- if the group has no cell, not every cell is in use
+  pub cell-left : (g : ℕ) (its : List rules.LogItem) → RoomFor g its ws vs → NoCell g 16 (part 2 (16 * 10) ws) → ⊥
   unfolding waitingOf
   cell-left g its b n =
       let c = cell-count 16 ws vs (w .numbers-are) (w .bytes-are) in
       let u = all-used s r (w .wf) (λ j l. rw (heads-are 16 ws vs) (n .full j (omega (arith, c)))) in
-      let f = b .groups in
+      let f = b .groups (waits-not s r g (λ j l. rw (heads-are 16 ws vs) (n .absent j (omega (arith, c))))) in
       omega arith
 
   module _ (g k st start last : ℕ) (its : List rules.LogItem) where
@@ -58,7 +58,7 @@ module _ (ws vs : List ℕ) (w : RoomWf 16 ws vs) where
       abbrev parts : List Part
       parts = formParts f (partsAt g (waitingIn s r)) new
 
-      pub rows-for : RoomFor its ws vs → (waitingItems (withPart f g new (waitingIn s r)) ≤ 16 * 8) × (waitingEntries (withPart f g new (waitingIn s r)) ≤ 16 * 16)
+      pub rows-for : RoomFor g its ws vs → (waitingItems (withPart f g new (waitingIn s r)) ≤ 16 * 8) × (waitingEntries (withPart f g new (waitingIn s r)) ≤ 16 * 16)
       unfolding waitingOf
       rows-for b =
           let c = counts-after s r (w .wf) f g new in

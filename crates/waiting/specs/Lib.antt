@@ -9,7 +9,6 @@ pub mod Parts
 pub mod Accepts
 pub mod Forms
 pub mod Merges
-pub mod Next
 pub mod RoomLaws
 pub mod LayoutLaws
 pub mod PlaceLaws
@@ -23,4 +22,3 @@ pub mod LimitLaws
 pub mod FormLaws
 pub mod JudgeLaws
 pub mod FinishLaws
-pub mod NextLaws

@@ -1,5 +1,6 @@
 -- A part that comes from another room of a context, as a merge has it: no limit is judged on the way.
 use mathlib.Core.List.{List, [], _∷_}
+use mathlib.Core.Option.{none}
 use mathlib.Core.Path.{_≡_}
 use Prim.Native.Nat.{ℕ, _+_, _*_, _≤_, _<_}
 use lib.ListN.{length, getD}
@@ -49,8 +50,8 @@ MergedAs g new ws vs accepted.the-variants.Passed ws′ vs′ = ⊥
 MergedAs g new ws vs accepted.the-variants.Back ws′ vs′ = (accept (partsAt g (waitingOf ws vs)) new ≡ back) × (ws′ ≡ ws) × (vs′ ≡ vs)
 MergedAs g new ws vs (accepted.the-variants.Finishes k) ws′ vs′ = Finished g new ws vs ws′ vs′
 
--- there are a cell and rows for a part with these items
-pub record RoomFor (its : List rules.LogItem) (ws vs : List ℕ) : Type 0 where
-  pub groups : length (waitingOf ws vs) < contextCells
+-- there are rows for a part of group g with these items, and a cell if the group has none
+pub record RoomFor (g : ℕ) (its : List rules.LogItem) (ws vs : List ℕ) : Type 0 where
+  pub groups : lookup numbers g (waitingOf ws vs) ≡ none → length (waitingOf ws vs) < contextCells
   pub items : waitingItems (waitingOf ws vs) + countsFor its .items ≤ contextCells * 8
   pub entries : waitingEntries (waitingOf ws vs) + countsFor its .entries ≤ contextCells * 16

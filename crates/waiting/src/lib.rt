@@ -10,7 +10,6 @@ mod items;
 mod limits;
 mod merge;
 mod moves;
-mod next;
 mod places;
 mod rooms;
 
@@ -20,9 +19,12 @@ pub use batches::count_batch;
 pub use copies::copy_item;
 pub use copies::tag_at;
 pub use heads::take_part;
+pub use limits::MAX_ENTRIES;
+pub use limits::MAX_GROUPS;
+pub use limits::MAX_ITEMS;
+pub use limits::count_used;
 use log_batch::item::LogItem;
 pub use merge::accept_part;
-pub use next::next_cell;
 pub use rooms::clear;
 
 // How many cells the room of a context has: 01's 8 groups twice, since a merge may have the parts of both contexts on the way.

@@ -22,11 +22,11 @@ use stores::Store;
 use stores::count::count_tag;
 
 // 01's limits of what waits: groups, items and entries.
-const MAX_GROUPS: usize = 8;
+pub const MAX_GROUPS: usize = 8;
 
-const MAX_ITEMS: usize = 64;
+pub const MAX_ITEMS: usize = 64;
 
-const MAX_ENTRIES: usize = 128;
+pub const MAX_ENTRIES: usize = 128;
 
 // 1 for a cell that is in use, 0 for a free one.
 fn used_at(ws: &[u64], cells: usize, k: usize) -> usize
@@ -42,7 +42,7 @@ fn used_at(ws: &[u64], cells: usize, k: usize) -> usize
 }
 
 // How many cells are in use.
-fn count_used(ws: &[u64], cells: usize) -> usize
+pub fn count_used(ws: &[u64], cells: usize) -> usize
     requires { ⌜ length (now ws) ≡ 2 + cells * 218 ⌝ }
     ensures { λ r. ⌜ r ≡ usedFrom cells 0 (part 2 (cells * 10) (now (ws .entry))) ⌝ }
     ensures { λ r. ⌜ r ≤ cells ⌝ }

@@ -33,7 +33,7 @@ fn join_form(
     requires { ⌜ RoomWf contextCells (now ws) (now vs) ⌝ }
     requires { ⌜ FormAt form group contextCells (part 2 (contextCells * 10) (now ws)) k status start ⌝ }
     requires { ⌜ RoomWf contextCells (now us) (now ds) ⌝ }
-    requires { ⌜ RoomFor (itemsFrom (now us) (now ds) its) (now ws) (now vs) ⌝ }
+    requires { ⌜ RoomFor group (itemsFrom (now us) (now ds) its) (now ws) (now vs) ⌝ }
     ensures { λ r. ⌜ MergedAs group (partWith status (itemsFrom (now (us .entry)) (now (ds .entry)) its) start end) (now (ws .entry)) (now (vs .entry)) r (now (ws .exit)) (now (vs .exit)) ⌝ }
 {
     move_form(ws, vs, k, form, group, status, start, end, us, ds, its);
@@ -56,7 +56,7 @@ fn join_at(
     requires { ⌜ RoomWf contextCells (now ws) (now vs) ⌝ }
     requires { ⌜ AtCell group contextCells (part 2 (contextCells * 10) (now ws)) k ⌝ }
     requires { ⌜ RoomWf contextCells (now us) (now ds) ⌝ }
-    requires { ⌜ RoomFor (itemsFrom (now us) (now ds) its) (now ws) (now vs) ⌝ }
+    requires { ⌜ RoomFor group (itemsFrom (now us) (now ds) its) (now ws) (now vs) ⌝ }
     ensures { λ r. ⌜ MergedAs group (partWith status (itemsFrom (now (us .entry)) (now (ds .entry)) its) start end) (now (ws .entry)) (now (vs .entry)) r (now (ws .exit)) (now (vs .exit)) ⌝ }
 {
     let step = step_at(ws, CELLS, k, status, start);
@@ -115,8 +115,8 @@ fn join_at(
     }
 }
 
-// A part with the items that have the tag `its` in another room comes to the room of a context, where there are a cell and rows for it. A
-// part that it finishes is taken out.
+// A part with the items that have the tag `its` in another room comes to the room of a context, where there are rows for it, and a cell
+// if its group has none. A part that it finishes is taken out.
 pub fn accept_part(
     ws: &mut [u64],
     vs: &mut [u8],
@@ -130,7 +130,7 @@ pub fn accept_part(
 ) -> Accepted
     requires { ⌜ RoomWf contextCells (now ws) (now vs) ⌝ }
     requires { ⌜ RoomWf contextCells (now us) (now ds) ⌝ }
-    requires { ⌜ RoomFor (itemsFrom (now us) (now ds) its) (now ws) (now vs) ⌝ }
+    requires { ⌜ RoomFor group (itemsFrom (now us) (now ds) its) (now ws) (now vs) ⌝ }
     ensures { λ r. ⌜ MergedAs group (partWith status (itemsFrom (now (us .entry)) (now (ds .entry)) its) start end) (now (ws .entry)) (now (vs .entry)) r (now (ws .exit)) (now (vs .exit)) ⌝ }
 {
     let place = find(ws, CELLS, group);

@@ -2,7 +2,8 @@
 use mathlib.Core.Path.{sym, _∙_}
 use borrow.Author.Tests.{not-true, not-false}
 use borrow.Rule.Slice.PartAt.{part-to-end}
-use Rattle.merging.proofs.FinishingWays.{few-items, ended-none, older-ready, newer-ready, ended-some}
+use Rattle.parts.specs.ItemLaws.{few-items}
+use Rattle.merging.proofs.FinishingWays.{ended-none, older-ready, newer-ready, ended-some}
 use borrow.Author.Needs.{needs}
 use Rattle.merging.proofs.finishes.finish_with.Statement.{statement}
 use Rattle.merging.proofs.finishes.finish_with.Tie as tie

@@ -1,5 +1,5 @@
 -- `merging::replays::replay_part` meets its contract. Assumes nothing.
-use Rattle.merging.proofs.FinishingWays.{lent-stored, lent-enough, lent-tagged}
+use Rattle.parts.specs.ItemLaws.{lent-stored, lent-enough, lent-tagged}
 use borrow.Author.Needs.{needs}
 use Rattle.merging.proofs.replays.replay_part.Statement.{statement}
 use Rattle.merging.proofs.replays.replay_part.Tie as tie
