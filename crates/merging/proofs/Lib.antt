@@ -14,3 +14,4 @@ pub mod TurnWays
 pub mod GrowthWays
 pub mod JoinWays
 pub mod FinishWays
+pub mod WaitWays

@@ -12,14 +12,14 @@ use lib.ListN.{length, take, drop, getD, length-drop}
 use Rattle.cells.specs.Part.{part}
 use Rattle.cells.specs.PartLaws.{part-drop, part-part}
 use Rattle.maps.specs.Maps.{Map}
-use Rattle.rules.specs.Causes.{ok, refuse, inOrder, limitPassed}
+use Rattle.rules.specs.Causes.{Cause, Result, ok, refuse, inOrder, limitPassed, filesGoBack}
 use Rattle.rules.specs.Items.{Append, Rewrite}
 use Rattle.rules.specs.Context.{Part, Context, withGroups}
 use Rattle.rules.specs.Calls.{clash}
 use Rattle.rules_by_group.specs.Kept.{Kept}
-use Rattle.rules_by_group.specs.Stage.{noneStaged, stageAll, restFits, answer, waitingAfter, joinedBy, Covers}
+use Rattle.rules_by_group.specs.Stage.{noneStaged, stageAll, restFits, answer, waitingAfter, mergedRest, mergedBy, joinedBy, Covers}
 use Rattle.rules_by_group.specs.StageLaws.{answer-clashed, answer-passed, answer-ok}
-use Rattle.rules_by_group.specs.ByGroupLaws.{merge-by-group, merged-waiting, join-by-group}
+use Rattle.rules_by_group.specs.ByGroupLaws.{merge-by-group, merged-waiting, merged-back, join-by-group}
 use Rattle.rules_by_group.specs.KeptLaws.{merge-kept, join-kept}
 use Rattle.groups.specs.Area.{slots, numbersInUse, bytesInUse, stretchAt, groupsOf}
 use Rattle.groups.specs.AreaLaws.{Same, same-groups, same-wf, same-stretch, same-bytes}
@@ -92,9 +92,6 @@ beside-given m xs bs xs′ bs′ ys cs b g =
       newer-kind = g .newer-kind;
     }
 
-pub beside-plain : (m : Mode) (xs bs xs′ bs′ ys cs : List ℕ) → Beside xs bs xs′ bs′ → Plain m xs bs ys cs → Plain m xs′ bs′ ys cs
-beside-plain m xs bs xs′ bs′ ys cs b g = record { given = beside-given m xs bs xs′ bs′ ys cs b (g .given); none-waits = g .none-waits }
-
 -- ---- the rules' call, read off the staged groups
 
 -- nothing is accepted where nothing waits
@@ -121,13 +118,38 @@ module _ (m : Mode) (f : Flags) (xs bs ys cs : List ℕ) (g : Plain m xs bs ys c
       call-answer (contextOf ys cs) (contextOf xs bs) (w .numbers) (g .given .newer-wf .kept) (g .given .wf .kept) (w .cover) (g .none-waits) m (g .given .newer-kind) (g .given .kind)
       ∙ ap (answer (clashBy m) (restBy m (contextOf ys cs) (contextOf xs bs))) (sym (w .staged))
 
-  pub worked-clashed : f .clashed ≡ true → callBy m (contextOf ys cs) (contextOf xs bs) ≡ refuse (clashBy m)
-  worked-clashed e = worked-answer ∙ answer-clashed (clashBy m) (restBy m (contextOf ys cs) (contextOf xs bs)) (stagedIn f xs bs) (unfold stagedIn in e)
+-- two Rewrite contexts: what waits is accepted first
+module _ (f : Flags) (xs bs ys cs : List ℕ) (g : Given mode.Rewrite xs bs ys cs) (w : Worked mode.Rewrite f xs bs ys cs) where
+  abbrev newer : Context
+  newer = contextOf ys cs
+
+  abbrev older : Context
+  older = contextOf xs bs
+
+  by-group : callBy mode.Rewrite newer older ≡ mergedBy Rewrite newer older (w .numbers)
+  unfolding callBy newerKind olderKind
+  by-group = merge-by-group Rewrite newer older (w .numbers) (g .newer-wf .kept) (g .wf .kept) (g .newer-kind) (g .kind) (w .cover)
+
+  pub waits-back : waitingAfter (newer .waiting) (older .waiting) ≡ refuse filesGoBack → callBy mode.Rewrite newer older ≡ refuse filesGoBack
+  waits-back e = by-group ∙ merged-back Rewrite newer older (w .numbers) _ e
+
+  pub waits-answer : (v : Map ℕ (List Part)) → waitingAfter (newer .waiting) (older .waiting) ≡ ok v → callBy mode.Rewrite newer older ≡ answer (clashBy mode.Rewrite) (mergedRest newer v older) (stagedIn f xs bs)
+  unfolding groupBy clashBy
+  waits-answer v e =
+      by-group ∙ merged-waiting Rewrite newer older (w .numbers) v e ∙ ap (answer (clash Rewrite) (mergedRest newer v older)) (sym (w .staged))
+
+-- ---- the answer, as it is told at the end
+
+module _ (n : Cause) (rest : Context) (f : Flags) (xs bs : List ℕ) (r : Result Context) (a : r ≡ answer n rest (stagedIn f xs bs)) where
+  pub answered-clashed : f .clashed ≡ true → r ≡ refuse n
+  unfolding stagedIn
+  answered-clashed e = a ∙ answer-clashed n rest (stagedIn f xs bs) e
 
   module _ (e : f .clashed ≡ false) where
-    pub worked-passed : (f .passed || not (restFits (restBy m (contextOf ys cs) (contextOf xs bs)))) ≡ true → callBy m (contextOf ys cs) (contextOf xs bs) ≡ refuse limitPassed
-    worked-passed p = worked-answer ∙ answer-passed (clashBy m) (restBy m (contextOf ys cs) (contextOf xs bs)) (stagedIn f xs bs) (unfold stagedIn in e) (unfold stagedIn in p)
-
-    pub worked-ok : f .passed ≡ false → restFits (restBy m (contextOf ys cs) (contextOf xs bs)) ≡ true → callBy m (contextOf ys cs) (contextOf xs bs) ≡ ok (withGroups (groupsOf (drop liveNumbers xs) (drop liveBytes bs)) (restBy m (contextOf ys cs) (contextOf xs bs)))
+    pub answered-passed : (f .passed || not (restFits rest)) ≡ true → r ≡ refuse limitPassed
     unfolding stagedIn
-    worked-ok p h = worked-answer ∙ answer-ok (clashBy m) (restBy m (contextOf ys cs) (contextOf xs bs)) (stagedIn f xs bs) e (rw (p, h))
+    answered-passed p = a ∙ answer-passed n rest (stagedIn f xs bs) e p
+
+    pub answered-ok : f .passed ≡ false → restFits rest ≡ true → r ≡ ok (withGroups (groupsOf (drop liveNumbers xs) (drop liveBytes bs)) rest)
+    unfolding stagedIn
+    answered-ok p h = a ∙ answer-ok n rest (stagedIn f xs bs) e (rw (p, h))

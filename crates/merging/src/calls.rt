@@ -1,13 +1,12 @@
 // A merge or join carried out: the groups are staged, and then the answer is known.
 ghost use mathlib.Core.Bool.{true, _&&_};
 ghost use mathlib.Core.Path.{_≡_};
-ghost use Rattle.rules.specs.Items.{Append, Rewrite};
-ghost use Rattle.rules.specs.Context.{context, isContext};
+ghost use Rattle.rules.specs.Context.{isContext};
 ghost use Rattle.rules.specs.Calls as rules·calls;
 ghost use Rattle.lists.specs.Calls.{kindAs};
 ghost use Rattle.contexts.specs.Contexts.{contextOf, Wf, Answered, Called};
 ghost use Rattle.merging.specs.Staging.{Ready};
-ghost use Rattle.merging.specs.Modes.{callBy, countsFit, countsOf, Plain, Worked};
+ghost use Rattle.merging.specs.Modes.{callBy, restBy, countsFit, countsOf, Plain, Worked};
 ghost use Rattle.merging.specs.Growth.{Taken};
 use crate::Flags;
 use crate::ends::clash_of;
@@ -17,6 +16,7 @@ use crate::growth::grow;
 use crate::stages::stage_all;
 use crate::staging::begin;
 use crate::staging::seal;
+use crate::waits::carry_waiting;
 use contexts::Answer;
 use lists::Kind;
 use log_batch::entries::same_queue;
@@ -32,7 +32,7 @@ fn take_staged(xs: &mut [u64], bs: &mut [u8], ys: &[u64], cs: &[u8], mode: Mode)
     requires { ⌜ Plain mode (now xs) (now bs) (now ys) (now cs) ⌝ }
     requires { ⌜ Ready (now xs) (now bs) ⌝ }
     requires { ⌜ countsFit mode (countsOf (now xs)) (countsOf (now ys)) ≡ true ⌝ }
-    ensures { λ _. ⌜ Taken mode (now (xs .entry)) (now (bs .entry)) (now (ys .entry)) (now (cs .entry)) (now (xs .exit)) (now (bs .exit)) ⌝ }
+    ensures { λ _. ⌜ Taken (restBy mode (contextOf (now (ys .entry)) (now (cs .entry))) (contextOf (now (xs .entry)) (now (bs .entry)))) (now (xs .entry)) (now (bs .entry)) (now (xs .exit)) (now (bs .exit)) ⌝ }
 {
     seal(xs);
     groups::undo(xs, bs);
@@ -69,15 +69,6 @@ fn carry_out(xs: &mut [u64], bs: &mut [u8], ys: &[u64], cs: &[u8], mode: Mode) -
     finish(xs, bs, ys, cs, mode, flags)
 }
 
-// Merges a newer Append context into an older one.
-pub fn merge_append(xs: &mut [u64], bs: &mut [u8], ys: &[u64], cs: &[u8]) -> Answer
-    requires { ⌜ Wf (now xs) (now bs) × Wf (now ys) (now cs) ⌝ }
-    requires { ⌜ (contextOf (now xs) (now bs) .kind ≡ context Append) × (contextOf (now ys) (now cs) .kind ≡ context Append) ⌝ }
-    ensures { λ r. ⌜ Called (rules·calls.merge (contextOf (now (ys .entry)) (now (cs .entry)))) (now (xs .entry)) (now (bs .entry)) r (now (xs .exit)) (now (bs .exit)) ⌝ }
-{
-    carry_out(xs, bs, ys, cs, Mode::Append)
-}
-
 // Whether an area is a context of a queue.
 fn is_of(kind: Kind, queue: LogQueue) -> bool
     ensures { λ r. ⌜ r ≡ isContext queue (kindAs kind) ⌝ }
@@ -88,14 +79,32 @@ fn is_of(kind: Kind, queue: LogQueue) -> bool
     }
 }
 
-// Whether the older area is a Rewrite context and the newer one an Append context.
-fn kinds_join(older: Kind, newer: Kind) -> bool
-    ensures { λ r. ⌜ r ≡ isContext Append (kindAs newer) && isContext Rewrite (kindAs older) ⌝ }
+// Whether the older area is a context of queue `first`, and the newer one of queue `second`.
+fn kinds_are(older: Kind, first: LogQueue, newer: Kind, second: LogQueue) -> bool
+    ensures { λ r. ⌜ r ≡ isContext second (kindAs newer) && isContext first (kindAs older) ⌝ }
 {
-    if !is_of(newer, LogQueue::Append) {
+    if !is_of(newer, second) {
         return false;
     }
-    is_of(older, LogQueue::Rewrite)
+    is_of(older, first)
+}
+
+// Merges a newer context into an older one of the same queue.
+pub fn merge(xs: &mut [u64], bs: &mut [u8], ys: &[u64], cs: &[u8]) -> Answer
+    requires { ⌜ Wf (now xs) (now bs) ⌝ }
+    requires { ⌜ Wf (now ys) (now cs) ⌝ }
+    ensures { λ r. ⌜ Called (rules·calls.merge (contextOf (now (ys .entry)) (now (cs .entry)))) (now (xs .entry)) (now (bs .entry)) r (now (xs .exit)) (now (bs .exit)) ⌝ }
+{
+    let a = groups::NUMBERS;
+    let older = lists::kind_in(&xs[a..]);
+    let newer = lists::kind_in(&ys[a..]);
+    if kinds_are(older, LogQueue::Append, newer, LogQueue::Append) {
+        return carry_out(xs, bs, ys, cs, Mode::Append);
+    }
+    if kinds_are(older, LogQueue::Rewrite, newer, LogQueue::Rewrite) {
+        return carry_waiting(xs, bs, ys, cs);
+    }
+    refuse(WRONG_KIND)
 }
 
 // Joins an Append context to a Rewrite context, which becomes the index.
@@ -107,7 +116,7 @@ pub fn join(xs: &mut [u64], bs: &mut [u8], ys: &[u64], cs: &[u8]) -> Answer
     let a = groups::NUMBERS;
     let older = lists::kind_in(&xs[a..]);
     let newer = lists::kind_in(&ys[a..]);
-    if !kinds_join(older, newer) {
+    if !kinds_are(older, LogQueue::Rewrite, newer, LogQueue::Append) {
         return refuse(WRONG_KIND);
     }
     carry_out(xs, bs, ys, cs, Mode::Join)

@@ -32,12 +32,12 @@ use worktable::WORK_AT;
 use worktable::WORK_BYTES_AT;
 
 // Where the bytes of the waiting parts stand.
-const ROOM_FROM: usize = 20480;
+pub const ROOM_FROM: usize = 20480;
 
-const ROOM_TO: usize = 28672;
+pub const ROOM_TO: usize = 28672;
 
 // Copies the room of the waiting parts.
-fn copy_room(xs: &[u64], bs: &[u8], ws: &mut [u64], vs: &mut [u8])
+pub fn copy_room(xs: &[u64], bs: &[u8], ws: &mut [u64], vs: &mut [u8])
     requires { ⌜ (length (now xs) ≡ 17231) × (length (now bs) ≡ 38912) × (length (now ws) ≡ 3490) × (length (now vs) ≡ 8192) ⌝ }
     ensures { λ _. ⌜ (now (ws .exit) ≡ part 10019 3490 (now (xs .entry))) × (now (vs .exit) ≡ part 20480 8192 (now (bs .entry))) ⌝ }
 {

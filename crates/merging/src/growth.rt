@@ -3,11 +3,11 @@ ghost use mathlib.Core.List.{List};
 ghost use mathlib.Core.Path.{_≡_};
 ghost use Prim.Native.Nat.{ℕ, _+_, _≤_};
 ghost use lib.ListN.{length, getD, drop};
-ghost use Rattle.rules_by_group.specs.Stage.{mergedRest, joinedRest};
+ghost use Rattle.rules_by_group.specs.Stage.{joinedRest};
 ghost use Rattle.lists.specs.Rest.{Wf};
 ghost use Rattle.contexts.specs.Contexts.{restAt, contextOf};
 ghost use Rattle.merging.specs.Modes.{restBy};
-ghost use Rattle.merging.specs.Growth.{ListsBecome, mergedLists, joinedLists, Growable, RestBecomes};
+ghost use Rattle.merging.specs.Growth.{ListsBecome, mergedLists, joinedLists, Mergeable, Grown, Growable, RestBecomes};
 use contexts::WAITING_FROM;
 use contexts::WAITING_TO;
 use worktable::Mode;
@@ -35,9 +35,9 @@ fn join_lists(ys: &mut [u64], its_ys: &[u64])
 }
 
 // The lists of an accepted merge.
-fn grow_merged(xs: &mut [u64], bs: &mut [u8], ys: &[u64], cs: &[u8])
-    requires { ⌜ Growable Mode.Append (now xs) (now bs) (now ys) (now cs) ⌝ }
-    ensures { λ _. ⌜ RestBecomes (mergedRest (contextOf (now (ys .entry)) (now (cs .entry))) (restAt (now (xs .entry)) (now (bs .entry)) .waiting) (restAt (now (xs .entry)) (now (bs .entry)))) (now (xs .entry)) (now (bs .entry)) (now (xs .exit)) (now (bs .exit)) ⌝ }
+pub fn grow_merged(xs: &mut [u64], bs: &mut [u8], ys: &[u64], cs: &[u8])
+    requires { ⌜ Mergeable (now xs) (now bs) (now ys) (now cs) ⌝ }
+    ensures { λ _. ⌜ Grown (mergedLists (drop 9376 (now (xs .entry))) (drop 16384 (now (bs .entry))) (drop 9376 (now (ys .entry))) (drop 16384 (now (cs .entry)))) (now (xs .entry)) (now (bs .entry)) (now (xs .exit)) (now (bs .exit)) ⌝ }
 {
     let a = groups::NUMBERS;
     let c = groups::BYTES;

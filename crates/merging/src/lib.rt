@@ -9,10 +9,11 @@ mod replays;
 mod stages;
 mod staging;
 mod tombs;
+mod waits;
 mod work;
 
 pub use calls::join;
-pub use calls::merge_append;
+pub use calls::merge;
 
 // Whether some group was refused, and whether one passed a limit.
 pub struct Flags {

@@ -1,5 +1,5 @@
 -- `merging::calls::carry_out` meets its contract. Assumes nothing.
-use Rattle.merging.proofs.FinishWays.{begun-given, begun-is-ready, staged-plain, staged-worked, carried-out}
+use Rattle.merging.proofs.FinishWays.{begun-given, begun-is-ready, staged-given, staged-worked, carried-out}
 use borrow.Author.Needs.{needs}
 use Rattle.merging.proofs.calls.carry_out.Statement.{statement}
 use Rattle.merging.proofs.calls.carry_out.Tie as tie
@@ -11,14 +11,14 @@ stage-all-requires : tie.Need-stage-all-requires
 stage-all-requires c κs =
     let start = c .before .before .before .before .before .before .before .before .before .before in
     let begin = c .before .before .before .before .begin in
-    (begun-given _ _ _ _ _ _ (start .pre) (begin .ensures), begun-is-ready _ _ _ _ _ _ (start .pre) (begin .ensures))
+    (begun-given _ _ _ _ _ _ (start .pre .given) (begin .ensures), begun-is-ready _ _ _ _ _ _ (start .pre .given) (begin .ensures))
 
 finish-requires : tie.Need-finish-requires
 finish-requires c κs =
     let start = c .before .before .before .before .before .before .before .before .before .before .before .before .before .before .before .before .before in
     let begin = c .before .before .before .before .before .before .before .before .before .before .before .begin in
     let stage-all = c .before .before .before .before .before .before .stage-all in
-    (staged-plain _ _ _ _ _ _ (start .pre) (begin .ensures) _ _ _ (stage-all .ensures), (stage-all .ensures .ready, staged-worked _ _ _ _ _ _ (start .pre) (begin .ensures) _ _ _ (stage-all .ensures)))
+    (record { given = staged-given _ _ _ _ _ _ (start .pre .given) (begin .ensures) _ _ _ (stage-all .ensures); none-waits = start .pre .none-waits }, (stage-all .ensures .ready, staged-worked _ _ _ _ _ _ (start .pre .given) (begin .ensures) _ _ _ (stage-all .ensures)))
 
 same-length : tie.Need-same-length
 same-length c = search needs
@@ -32,7 +32,7 @@ returns c =
     let begin = c .before .before .before .before .before .before .before .before .before .before .before .before .before .before .before .before .begin in
     let stage-all = c .before .before .before .before .before .before .before .before .before .before .before .stage-all in
     let finish = c .before .before .before .before .finish in
-    carried-out _ _ _ _ _ _ (start .pre) (begin .ensures) _ _ _ (stage-all .ensures) _ _ _ (finish .ensures)
+    carried-out _ _ _ _ _ _ (start .pre .given) (begin .ensures) _ _ _ (stage-all .ensures) _ _ _ (finish .ensures)
 
 pub carry-out-spec : {M : Type 1} → statement M
 carry-out-spec =

@@ -2,7 +2,8 @@
 use mathlib.Core.Path.{sym, _∙_}
 use borrow.Author.Tests.{not-true, not-false}
 use Rattle.contexts.specs.AreaLaws.{formed-of, area-length}
-use Rattle.merging.proofs.EndWays.{few-counts}
+use Rattle.merging.specs.ModeLaws.{worked-answer}
+use Rattle.merging.proofs.EndWays.{few-counts, rest-fits}
 use Rattle.merging.proofs.FinishWays.{finish-clashed, finish-passed, finish-over, finish-taken}
 use borrow.Author.Needs.{needs}
 use Rattle.merging.proofs.calls.finish.Statement.{statement}
@@ -20,7 +21,7 @@ returns c =
     let if1 = c .before .before .if1 in
     let clash-of = c .before .clash-of in
     let refuse = c .refuse in
-    rw (refuse .ensures) (finish-clashed _ _ _ _ _ _ (start .pre .0) (start .pre .1 .1) _ (if1 .taken) (clash-of .ensures))
+    rw (refuse .ensures) (finish-clashed _ _ _ _ _ _ (start .pre .0 .given .wf) (worked-answer _ _ _ _ _ _ (start .pre .0) (start .pre .1 .1)) _ (if1 .taken) (clash-of .ensures))
 
 refuse-requires-2 : tie.Need-refuse-requires-2
 refuse-requires-2 c κs = search needs
@@ -31,7 +32,7 @@ returns-2 c =
     let if1 = c .before .before .if1 in
     let if2 = c .before .if2 in
     let refuse2 = c .refuse2 in
-    rw (refuse2 .ensures) (finish-passed _ _ _ _ _ _ (start .pre .0) (start .pre .1 .1) (if1 .left) (if2 .taken))
+    rw (refuse2 .ensures) (finish-passed _ _ _ _ _ _ (start .pre .0 .given .wf) (worked-answer _ _ _ _ _ _ (start .pre .0) (start .pre .1 .1)) (if1 .left) (if2 .taken))
 
 lists-fit-requires : tie.Need-lists-fit-requires
 lists-fit-requires c κs =
@@ -53,7 +54,7 @@ returns-3 c =
     let lists-fit = c .before .before .lists-fit in
     let if3 = c .before .if3 in
     let refuse3 = c .refuse3 in
-    rw (refuse3 .ensures) (finish-over _ _ _ _ _ _ (start .pre .0) (start .pre .1 .1) (if1 .left) (sym (not-true (lists-fit .result) (if3 .taken)) ∙ lists-fit .ensures))
+    rw (refuse3 .ensures) (finish-over _ _ _ _ _ _ (start .pre .0 .given .wf) (worked-answer _ _ _ _ _ _ (start .pre .0) (start .pre .1 .1)) (if1 .left) (rest-fits _ _ _ _ _ (start .pre .0) ∙ sym (lists-fit .ensures) ∙ not-true (lists-fit .result) (if3 .taken)))
 
 take-staged-requires : tie.Need-take-staged-requires
 take-staged-requires c κs =
@@ -76,7 +77,7 @@ returns-4 c =
     let lists-fit = c .before .before .before .before .before .before .before .before .lists-fit in
     let if3 = c .before .before .before .before .before .before .before .if3 in
     let take-staged = c .before .before .before .before .take-staged in
-    finish-taken _ _ _ _ _ _ (start .pre .0) (start .pre .1 .1) (if1 .left) (if2 .left) (sym (lists-fit .ensures) ∙ not-false (lists-fit .result) (if3 .left)) _ _ (take-staged .ensures)
+    finish-taken _ _ _ _ _ _ (start .pre .0 .given .wf) (worked-answer _ _ _ _ _ _ (start .pre .0) (start .pre .1 .1)) (if1 .left) (if2 .left) (rest-fits _ _ _ _ _ (start .pre .0) ∙ sym (lists-fit .ensures) ∙ not-false (lists-fit .result) (if3 .left)) _ _ (take-staged .ensures)
 
 pub finish-spec : {M : Type 1} → statement M
 finish-spec =

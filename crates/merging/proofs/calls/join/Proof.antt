@@ -40,8 +40,8 @@ kind-in-requires-2 c κs =
     let start = c .before .before .before .before .before .before .before .before in
     kind-there _ _ (start .pre .1)
 
-kinds-join-requires : tie.Need-kinds-join-requires
-kinds-join-requires c κs = search needs
+kinds-are-requires : tie.Need-kinds-are-requires
+kinds-are-requires c κs = search needs
 
 refuse-requires : tie.Need-refuse-requires
 refuse-requires c κs = search needs
@@ -54,19 +54,19 @@ returns c =
     let start = c .before .before .before .before .before .before .before .before .before .before .before .before in
     let kind-in = c .before .before .before .before .before .kind-in in
     let kind-in2 = c .before .before .before .kind-in2 in
-    let kinds-join = c .before .before .kinds-join in
+    let kinds-are = c .before .before .kinds-are in
     let if1 = c .before .if1 in
     let refuse = c .refuse in
-    rw (refuse .ensures) (join-wrong (start .args .xs .now) (start .args .bs .now) (start .args .ys .now) (start .args .cs .now) _ _ (kind-in .ensures) (kind-in2 .ensures) (start .pre .0) (sym (kinds-join .ensures) ∙ not-true (kinds-join .result) (if1 .taken)))
+    rw (refuse .ensures) (join-wrong (start .args .xs .now) (start .args .bs .now) (start .args .ys .now) (start .args .cs .now) _ _ (kind-in .ensures) (kind-in2 .ensures) (start .pre .0) (sym (kinds-are .ensures) ∙ not-true (kinds-are .result) (if1 .taken)))
 
 carry-out-requires : tie.Need-carry-out-requires
 carry-out-requires c κs =
     let start = c .before .before .before .before .before .before .before .before .before .before .before .before .before in
     let kind-in = c .before .before .before .before .before .before .kind-in in
     let kind-in2 = c .before .before .before .before .kind-in2 in
-    let kinds-join = c .before .before .before .kinds-join in
+    let kinds-are = c .before .before .before .kinds-are in
     let if1 = c .before .before .if1 in
-    join-plain (start .args .xs .now) (start .args .bs .now) (start .args .ys .now) (start .args .cs .now) _ _ (kind-in .ensures) (kind-in2 .ensures) (start .pre .0) (start .pre .1) (sym (kinds-join .ensures) ∙ not-false (kinds-join .result) (if1 .left))
+    join-plain (start .args .xs .now) (start .args .bs .now) (start .args .ys .now) (start .args .cs .now) _ _ (kind-in .ensures) (kind-in2 .ensures) (start .pre .0) (start .pre .1) (sym (kinds-are .ensures) ∙ not-false (kinds-are .result) (if1 .left))
 
 same-length-2 : tie.Need-same-length-2
 same-length-2 c = search needs
@@ -93,7 +93,7 @@ join-spec =
     part-kind-in-start-2
     part-kind-in-end-2
     kind-in-requires-2
-    kinds-join-requires
+    kinds-are-requires
     refuse-requires
     same-length
     returns

@@ -1,6 +1,6 @@
 -- `merging::calls::take_staged` meets its contract. Assumes nothing.
 use Rattle.merging.specs.StagingLaws.{sealed-undoable}
-use Rattle.merging.proofs.FinishWays.{sealed-wf, undone-growable, staged-taken}
+use Rattle.merging.proofs.FinishWays.{sealed-wf, undone-growable, undone-rest, staged-taken}
 use borrow.Author.Needs.{needs}
 use Rattle.merging.proofs.calls.take_staged.Statement.{statement}
 use Rattle.merging.proofs.calls.take_staged.Tie as tie
@@ -12,14 +12,14 @@ undo-requires : tie.Need-undo-requires
 undo-requires c κs =
     let start = c .before .before .before .before .before .before .before .before .before .before in
     let seal = c .before .before .before .before .seal in
-    (sealed-wf _ _ _ _ _ _ (start .pre .0) (start .pre .1 .0) (seal .ensures), sealed-undoable _ _ _ (start .pre .1 .0) (seal .ensures))
+    (sealed-wf _ _ _ (start .pre .0 .given .wf) (start .pre .1 .0) (seal .ensures), sealed-undoable _ _ _ (start .pre .1 .0) (seal .ensures))
 
 grow-requires : tie.Need-grow-requires
 grow-requires c κs =
     let start = c .before .before .before .before .before .before .before .before .before .before .before .before .before .before .before .before .before in
     let seal = c .before .before .before .before .before .before .before .before .before .before .before .seal in
     let undo = c .before .before .before .before .before .before .undo in
-    undone-growable _ _ _ _ _ _ (start .pre .0) (start .pre .1 .0) (seal .ensures) _ _ (undo .ensures) (start .pre .1 .1)
+    undone-growable _ _ _ (start .pre .0 .given .wf) (start .pre .1 .0) (seal .ensures) _ _ (undo .ensures) _ _ _ (start .pre .0) (start .pre .1 .1)
 
 same-length : tie.Need-same-length
 same-length c = search needs
@@ -33,7 +33,8 @@ returns c =
     let seal = c .before .before .before .before .before .before .before .before .before .before .before .before .before .before .before .before .seal in
     let undo = c .before .before .before .before .before .before .before .before .before .before .before .undo in
     let grow = c .before .before .before .before .grow in
-    staged-taken _ _ _ _ _ _ (start .pre .0) (start .pre .1 .0) (seal .ensures) _ _ (undo .ensures) _ _ (grow .ensures)
+    let wf = start .pre .0 .given .wf in
+    staged-taken _ _ _ wf (start .pre .1 .0) (seal .ensures) _ _ (undo .ensures) _ _ _ (grow .ensures) _ (undone-rest _ _ _ wf (start .pre .1 .0) (seal .ensures) _ _ (undo .ensures) _ _ _)
 
 pub take-staged-spec : {M : Type 1} → statement M
 take-staged-spec =

@@ -1,6 +1,6 @@
 -- `merging::growth::grow` meets its contract. Assumes nothing.
 use native.Mathlib.Omega.{arith}
-use Rattle.merging.proofs.GrowthWays.{append-growable, rewrite-growable, join-growable, join-numbers, join-newer, append-grown, rewrite-grown}
+use Rattle.merging.proofs.GrowthWays.{append-mergeable, rewrite-mergeable, join-growable, join-numbers, append-grown, rewrite-grown}
 use Rattle.merging.proofs.JoinWays.{cleaned-few, join-grown}
 use borrow.Author.Needs.{needs}
 use Rattle.merging.proofs.growth.grow.Statement.{statement}
@@ -13,7 +13,7 @@ grow-merged-requires : tie.Need-grow-merged-requires
 grow-merged-requires c κs =
     let start = c .before .before .before .before .before .before .before .before in
     let enum-told = c .before .before .enum-told in
-    append-growable _ _ _ _ _ (start .pre) (enum-told .given .1)
+    append-mergeable _ _ _ _ _ (start .pre) (enum-told .given .1)
 
 enum-told-2 : tie.Need-enum-told-2
 enum-told-2 c = search needs
@@ -22,7 +22,7 @@ grow-merged-requires-2 : tie.Need-grow-merged-requires-2
 grow-merged-requires-2 c κs =
     let start = c .before .before .before .before .before .before .before .before in
     let enum-told2 = c .before .before .enum-told2 in
-    rewrite-growable _ _ _ _ _ (start .pre) (enum-told2 .given .1)
+    rewrite-mergeable _ _ _ _ _ (start .pre) (enum-told2 .given .1)
 
 enum-told-3 : tie.Need-enum-told-3
 enum-told-3 c = search needs
@@ -32,7 +32,7 @@ grow-joined-requires c κs =
     let start = c .before .before .before .before .before .before .before in
     let enum-told3 = c .before .enum-told3 in
     let joins = join-growable _ _ _ _ _ (start .pre) (enum-told3 .given .1) in
-    ((join-numbers _ _ _ _ _ joins, join-newer _ _ _ _ _ joins), cleaned-few _ _ _ _ joins)
+    ((join-numbers (start .args .xs .now) (start .args .bs .now) (joins .rest), join-numbers (start .args .ys .now) (start .args .cs .now) (joins .newer-rest)), cleaned-few _ _ _ _ joins)
 
 same-length : tie.Need-same-length
 same-length c = search needs
@@ -42,9 +42,10 @@ same-length-2 c = search needs
 
 returns : tie.Need-returns
 returns c =
+    let start = c .before .before .before .before .before .before .before .before .before .before .before .before .before in
     let enum-told = c .before .before .before .before .before .before .before .enum-told in
     let grow-merged = c .before .before .before .before .grow-merged in
-    append-grown _ _ _ _ _ _ _ (enum-told .given .1) (grow-merged .ensures)
+    append-grown _ _ _ _ _ (start .pre) _ _ (grow-merged .ensures) (enum-told .given .1)
 
 same-length-3 : tie.Need-same-length-3
 same-length-3 c = search needs
@@ -54,9 +55,10 @@ same-length-4 c = search needs
 
 returns-2 : tie.Need-returns-2
 returns-2 c =
+    let start = c .before .before .before .before .before .before .before .before .before .before .before .before .before in
     let enum-told2 = c .before .before .before .before .before .before .before .enum-told2 in
     let grow-merged2 = c .before .before .before .before .grow-merged2 in
-    rewrite-grown _ _ _ _ _ _ _ (enum-told2 .given .1) (grow-merged2 .ensures)
+    rewrite-grown _ _ _ _ _ (start .pre) _ _ (grow-merged2 .ensures) (enum-told2 .given .1)
 
 same-length-5 : tie.Need-same-length-5
 same-length-5 c = search needs

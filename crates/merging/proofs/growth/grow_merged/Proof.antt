@@ -1,5 +1,5 @@
 -- `merging::growth::grow_merged` meets its contract. Assumes nothing.
-use Rattle.merging.proofs.GrowthWays.{grown-before, grown-bytes-before, newer-before, newer-bytes-before, lent-lists, merged-grown}
+use Rattle.merging.proofs.GrowthWays.{grown-before, grown-bytes-before, lent-lists, lists-grown}
 use borrow.Author.Needs.{needs}
 use Rattle.merging.proofs.growth.grow_merged.Statement.{statement}
 use Rattle.merging.proofs.growth.grow_merged.Tie as tie
@@ -10,12 +10,12 @@ mul-merge-lists c = search needs
 sub-merge-lists : tie.Need-sub-merge-lists
 sub-merge-lists c =
     let start = c .before .before .before .before in
-    grown-before _ _ _ _ _ (start .pre)
+    grown-before (start .args .xs .now) (start .args .bs .now) (start .pre .rest)
 
 part-merge-lists-start : tie.Need-part-merge-lists-start
 part-merge-lists-start c =
     let start = c .before .before .before .before in
-    grown-before _ _ _ _ _ (start .pre)
+    grown-before (start .args .xs .now) (start .args .bs .now) (start .pre .rest)
 
 part-merge-lists-end : tie.Need-part-merge-lists-end
 part-merge-lists-end c = search needs
@@ -23,12 +23,12 @@ part-merge-lists-end c = search needs
 sub-merge-lists-2 : tie.Need-sub-merge-lists-2
 sub-merge-lists-2 c =
     let start = c .before .before .before .before .before in
-    grown-bytes-before _ _ _ _ _ (start .pre)
+    grown-bytes-before (start .args .xs .now) (start .args .bs .now) (start .pre .rest)
 
 part-merge-lists-start-2 : tie.Need-part-merge-lists-start-2
 part-merge-lists-start-2 c =
     let start = c .before .before .before .before .before in
-    grown-bytes-before _ _ _ _ _ (start .pre)
+    grown-bytes-before (start .args .xs .now) (start .args .bs .now) (start .pre .rest)
 
 part-merge-lists-end-2 : tie.Need-part-merge-lists-end-2
 part-merge-lists-end-2 c = search needs
@@ -39,12 +39,12 @@ mul-merge-lists-2 c = search needs
 sub-merge-lists-3 : tie.Need-sub-merge-lists-3
 sub-merge-lists-3 c =
     let start = c .before .before .before .before .before .before in
-    newer-before _ _ _ _ _ (start .pre)
+    grown-before (start .args .ys .now) (start .args .cs .now) (start .pre .newer-rest)
 
 part-merge-lists-start-3 : tie.Need-part-merge-lists-start-3
 part-merge-lists-start-3 c =
     let start = c .before .before .before .before .before .before in
-    newer-before _ _ _ _ _ (start .pre)
+    grown-before (start .args .ys .now) (start .args .cs .now) (start .pre .newer-rest)
 
 part-merge-lists-end-3 : tie.Need-part-merge-lists-end-3
 part-merge-lists-end-3 c = search needs
@@ -52,12 +52,12 @@ part-merge-lists-end-3 c = search needs
 sub-merge-lists-4 : tie.Need-sub-merge-lists-4
 sub-merge-lists-4 c =
     let start = c .before .before .before .before .before .before .before in
-    newer-bytes-before _ _ _ _ _ (start .pre)
+    grown-bytes-before (start .args .ys .now) (start .args .cs .now) (start .pre .newer-rest)
 
 part-merge-lists-start-4 : tie.Need-part-merge-lists-start-4
 part-merge-lists-start-4 c =
     let start = c .before .before .before .before .before .before .before in
-    newer-bytes-before _ _ _ _ _ (start .pre)
+    grown-bytes-before (start .args .ys .now) (start .args .cs .now) (start .pre .newer-rest)
 
 part-merge-lists-end-4 : tie.Need-part-merge-lists-end-4
 part-merge-lists-end-4 c = search needs
@@ -77,7 +77,7 @@ returns : tie.Need-returns
 returns c =
     let start = c .before .before .before .before .before .before .before .before .before .before .before .before .before in
     let merge-lists = c .before .before .before .before .merge-lists in
-    merged-grown _ _ _ _ (start .pre) _ _ (merge-lists .ensures)
+    lists-grown _ _ _ _ (start .pre) _ _ (merge-lists .ensures)
 
 pub grow-merged-spec : {M : Type 1} → statement M
 grow-merged-spec =

@@ -1,8 +1,8 @@
--- `merging::calls::kinds_join` meets its contract. Assumes nothing.
+-- `merging::calls::kinds_are` meets its contract. Assumes nothing.
 use borrow.Author.Tests.{not-true, not-false}
 use borrow.Author.Needs.{needs}
-use Rattle.merging.proofs.calls.kinds_join.Statement.{statement}
-use Rattle.merging.proofs.calls.kinds_join.Tie as tie
+use Rattle.merging.proofs.calls.kinds_are.Statement.{statement}
+use Rattle.merging.proofs.calls.kinds_are.Tie as tie
 
 is-of-requires : tie.Need-is-of-requires
 is-of-requires c κs = search needs
@@ -23,5 +23,5 @@ returns-2 c =
     let is-of2 = c .is-of2 in
     rw (← is-of .ensures, not-false (is-of .result) (if1 .left)) (is-of2 .ensures)
 
-pub kinds-join-spec : {M : Type 1} → statement M
-kinds-join-spec = tie.close (tie.spec is-of-requires returns is-of-requires-2 returns-2)
+pub kinds-are-spec : {M : Type 1} → statement M
+kinds-are-spec = tie.close (tie.spec is-of-requires returns is-of-requires-2 returns-2)
