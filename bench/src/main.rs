@@ -57,7 +57,7 @@ fn main() {
 
 fn rows() -> Vec<Row> {
     let mut out = Vec::new();
-    for (name, before, work) in work::replays() {
+    for (name, before, work) in work::replays().into_iter().chain(work::key_replays()) {
         out.push(replay_row(name, before, work));
     }
     for (name, before, work, live) in work::live() {
@@ -72,7 +72,8 @@ fn rows() -> Vec<Row> {
         rust: rust::join(&run),
         port: port::join(&run),
     });
-    out.extend(work::queries().into_iter().map(|(name, query)| query_row(name, query)));
+    out.extend(work::queries().into_iter().map(|(name, query)| query_row(name, 16, query)));
+    out.extend(work::key_queries().into_iter().map(|(name, keys, query)| query_row(name, keys, query)));
     out
 }
 
@@ -82,8 +83,8 @@ fn replay_row(name: &'static str, before: Work, work: Work) -> Row {
     Row { name, calls, rust: rust::replay(&before, &work), port: port::replay(&before, &work) }
 }
 
-/// A query of each of eight groups with 32 entries and 16 keys.
-fn query_row(name: &'static str, query: work::Query) -> Row {
-    let before = work::filled();
+/// A query of each of eight groups with 32 entries and so many keys.
+fn query_row(name: &'static str, keys: u64, query: work::Query) -> Row {
+    let before = work::filled(keys);
     Row { name, calls: work::ASKED, rust: rust::query(&before, query), port: port::query(&before, query) }
 }

@@ -67,6 +67,7 @@ pub fn query(before: &Work, query: Query) -> Side {
     replay_all(&mut c, &batches(before));
     let keys: Vec<Vec<u8>> = (0..16).map(key).collect();
     let mut list = Records::with_room(64);
+    let mut records: Vec<Entry> = Vec::with_capacity(64);
     let mut pairs = Pairs::with_room(16);
     let mut out = [0; 32];
     Box::new(move || {
@@ -78,13 +79,20 @@ pub fn query(before: &Work, query: Query) -> Side {
                 Query::FirstIndex => drop(black_box(area.first_index(group))),
                 Query::LastIndex => drop(black_box(area.last_index(group))),
                 Query::GetEntry => drop(black_box(area.get_entry(group, i % 32 + 1))),
-                Query::Get => {
-                    let _ = black_box(area.get(group, &keys[i as usize % 16], &mut out));
+                Query::Get(n) => {
+                    let _ = black_box(area.get(group, &keys[(i % n) as usize], &mut out));
                 }
                 Query::Fetch(n) => {
                     let begin = i % (33 - n) + 1;
                     area.fetch_entries_to(group, begin, begin + n, None, &mut list).unwrap();
                     black_box(&list);
+                }
+                Query::FetchRecords(n) => {
+                    let begin = i % (33 - n) + 1;
+                    area.fetch_entries_to(group, begin, begin + n, None, &mut list).unwrap();
+                    records.clear();
+                    records.extend(list.iter());
+                    black_box(&records);
                 }
                 Query::Scan => {
                     area.scan(group, None, None, false, 16, &mut pairs).unwrap();

@@ -87,8 +87,8 @@ pub fn query(before: &Work, query: Query) -> Side {
                 Query::FirstIndex => drop(black_box(table.first_index())),
                 Query::LastIndex => drop(black_box(table.last_index())),
                 Query::GetEntry => drop(black_box(table.get_entry(i % 32 + 1))),
-                Query::Get => drop(black_box(table.get(&keys[i as usize % 16]))),
-                Query::Fetch(n) => {
+                Query::Get(n) => drop(black_box(table.get(&keys[(i % n) as usize]))),
+                Query::Fetch(n) | Query::FetchRecords(n) => {
                     list.clear();
                     let begin = i % (33 - n) + 1;
                     table.fetch_entries_to(begin, begin + n, None, &mut list).unwrap();

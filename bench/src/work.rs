@@ -30,8 +30,11 @@ pub enum Query {
     LastIndex,
     GetEntry,
     SomeBefore,
-    Get,
+    /// Of one of so many keys.
+    Get(u64),
     Fetch(u64),
+    /// The same, and the records in a list of structs.
+    FetchRecords(u64),
     Scan,
     MinFileSeq,
 }
@@ -55,17 +58,21 @@ pub fn entries_32() -> Work {
     over_groups(1, |_, g| vec![Item::Entries(g, 1, 32, 1)])
 }
 
-/// Eight groups with 32 entries and 16 keys each.
-pub fn filled() -> Work {
+/// Eight groups with so many keys each.
+fn keys(count: u64) -> Work {
+    over_groups(count, |i, g| vec![Item::Put(g, key(i), value(i), 1)])
+}
+
+/// Eight groups with 32 entries and so many keys each.
+pub fn filled(count: u64) -> Work {
     let mut out = entries_32();
-    out.batches.extend(over_groups(16, |i, g| vec![Item::Put(g, key(i), value(i), 1)]).batches);
+    out.batches.extend(keys(count).batches);
     out
 }
 
 /// Each with what was replayed before it.
 pub fn replays() -> Vec<(&'static str, Work, Work)> {
     let none = Work::default;
-    let keys = || over_groups(16, |i, g| vec![Item::Put(g, key(i), value(i), 1)]);
     vec![
         ("replay of 1 entry", none(), over_groups(60, |i, g| vec![Item::Entries(g, i + 1, 1, 1)])),
         (
@@ -93,14 +100,26 @@ pub fn replays() -> Vec<(&'static str, Work, Work)> {
                     .collect(),
             },
         ),
-        ("Put of a key that is absent, up to 16", none(), keys()),
-        ("Put of one of 16 keys", keys(), keys()),
-        ("Del of one of 16 keys", keys(), over_groups(8, |i, g| vec![Item::Del(g, key(2 * i))])),
+        ("Put of a key that is absent, up to 16", none(), keys(16)),
         (
             "Compact of 4 of 32 entries",
             entries_32(),
             over_groups(7, |i, g| vec![Item::Compact(g, i * 4 + 5)]),
         ),
+    ]
+}
+
+/// The same of groups that have 1, 8 and 16 keys.
+pub fn key_replays() -> Vec<(&'static str, Work, Work)> {
+    let put = |count| over_groups(16, move |i, g| vec![Item::Put(g, key(i % count), value(i), 1)]);
+    let del = |count| over_groups(count, |i, g| vec![Item::Del(g, key(2 * i))]);
+    vec![
+        ("Put of the only key", keys(1), put(1)),
+        ("Put of one of 8 keys", keys(8), put(8)),
+        ("Put of one of 16 keys", keys(16), put(16)),
+        ("Del of the only key", keys(1), del(1)),
+        ("Del of one of 8 keys", keys(8), del(4)),
+        ("Del of one of 16 keys", keys(16), del(8)),
     ]
 }
 
@@ -121,6 +140,18 @@ pub fn live() -> Vec<(&'static str, Work, Work, Live)> {
             Live::Append,
         ),
         (
+            "live append of 32 entries",
+            entries_32(),
+            over_groups(4, |_, g| vec![Item::Entries(g, 33, 32, 2)]),
+            Live::Append,
+        ),
+        (
+            "gated rewrite of 1 entry",
+            entries_32(),
+            over_groups(32, |i, g| vec![Item::Entries(g, i + 1, 1, 1)]),
+            Live::Rewrite,
+        ),
+        (
             "gated rewrite of 32 entries",
             entries_32(),
             over_groups(1, |_, g| vec![Item::Entries(g, 1, 32, 1)]),
@@ -135,10 +166,22 @@ pub fn queries() -> Vec<(&'static str, Query)> {
         ("last_index", Query::LastIndex),
         ("get_entry", Query::GetEntry),
         ("has_at_least_some_entries_before", Query::SomeBefore),
-        ("get of one of 16 keys", Query::Get),
         ("fetch of 1 entry, parallel slices", Query::Fetch(1)),
         ("fetch of 32 entries, parallel slices", Query::Fetch(32)),
-        ("scan of 16 keys", Query::Scan),
+        ("fetch of 1 entry, list of records", Query::FetchRecords(1)),
+        ("fetch of 32 entries, list of records", Query::FetchRecords(32)),
         ("min_file_seq, 32 entries and 16 keys", Query::MinFileSeq),
+    ]
+}
+
+/// Queries of groups that have 1, 8 and 16 keys, with that number.
+pub fn key_queries() -> Vec<(&'static str, u64, Query)> {
+    vec![
+        ("get of the only key", 1, Query::Get(1)),
+        ("get of one of 8 keys", 8, Query::Get(8)),
+        ("get of one of 16 keys", 16, Query::Get(16)),
+        ("scan of 1 key", 1, Query::Scan),
+        ("scan of 8 keys", 8, Query::Scan),
+        ("scan of 16 keys", 16, Query::Scan),
     ]
 }
