@@ -44,7 +44,8 @@ impl Records {
 
     /// The records that the last query gave, in order.
     pub fn iter(&self) -> impl Iterator<Item = Entry> + '_ {
-        (0..self.filled).filter_map(|i| self.get(i))
+        let columns: [&[u64]; 8] = std::array::from_fn(|j| &self.columns[j][..self.filled]);
+        (0..self.filled).map(move |i| Entry::of_row(std::array::from_fn(|j| columns[j][i])))
     }
 }
 
