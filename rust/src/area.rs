@@ -57,6 +57,7 @@ impl Area {
     }
 
     /// Replays a batch into a context of its file's queue.
+    #[inline]
     pub fn replay(&mut self, file: FileId, rows: Rows<'_>) -> Result<(), Refusal> {
         let mut place = NO_PLACE;
         // SAFETY: the area is one that the calls made, and the lent slices overlap nothing that is written.
@@ -119,6 +120,7 @@ impl Area {
     }
 
     /// Appends a batch to the index.
+    #[inline]
     pub fn append(&mut self, file: FileId, rows: Rows<'_>) -> Result<(), Refusal> {
         let mut place = NO_PLACE;
         // SAFETY: as above.
@@ -143,6 +145,7 @@ impl Area {
     }
 
     /// Rewrites a batch in the index, gated or not; a key's new number is the batch's.
+    #[inline]
     pub fn rewrite(&mut self, gate: Option<u64>, file: FileId, rows: Rows<'_>) -> Result<(), Refusal> {
         let mut place = NO_PLACE;
         // SAFETY: as above.
@@ -172,6 +175,7 @@ impl Area {
 /// Queries of one group. An absent group is refused with 9.
 impl Area {
     /// The index of a group's first entry.
+    #[inline]
     pub fn first_index(&self, group: u64) -> Result<Option<u64>, Refusal> {
         let mut value = 0;
         // SAFETY: the area is one that the calls made, and is only read.
@@ -189,6 +193,7 @@ impl Area {
     }
 
     /// The index of a group's last entry.
+    #[inline]
     pub fn last_index(&self, group: u64) -> Result<Option<u64>, Refusal> {
         let mut value = 0;
         // SAFETY: as above.
@@ -206,6 +211,7 @@ impl Area {
     }
 
     /// The number of a group's Rewrite entries.
+    #[inline]
     pub fn rewrite_count(&self, group: u64) -> Result<u64, Refusal> {
         let mut value = 0;
         // SAFETY: as above.
@@ -223,6 +229,7 @@ impl Area {
     }
 
     /// The number of a group's entries.
+    #[inline]
     pub fn entry_count(&self, group: u64) -> Result<u64, Refusal> {
         let mut value = 0;
         // SAFETY: as above.
@@ -240,6 +247,7 @@ impl Area {
     }
 
     /// The record at an index of a group, if it is held.
+    #[inline]
     pub fn get_entry(&self, group: u64, index: u64) -> Result<Option<Entry>, Refusal> {
         let mut row = [0; 8];
         // SAFETY: as above.
@@ -259,6 +267,7 @@ impl Area {
     }
 
     /// Whether a group's entry at place `count` − 1 has a sequence number up to the gate's. A count of 0 is refused with 10.
+    #[inline]
     pub fn has_at_least_some_entries_before(
         &self,
         group: u64,
@@ -349,6 +358,7 @@ macro_rules! fill_pairs {
 /// Queries of one group's files, keys and records. A lent list is as it was after a refusal; one that is too short is 19.
 impl Area {
     /// The least file of a queue in a group, with the group's span.
+    #[inline]
     pub fn min_file_seq(&self, group: u64, queue: Queue) -> Result<Option<u64>, Refusal> {
         let mut value = 0;
         // SAFETY: as above.
@@ -367,6 +377,7 @@ impl Area {
     }
 
     /// The number of a group's keys.
+    #[inline]
     pub fn key_count(&self, group: u64) -> Result<u64, Refusal> {
         let mut value = 0;
         // SAFETY: as above.
@@ -384,6 +395,7 @@ impl Area {
     }
 
     /// The value of a key, copied to the front of `out`, with its length. No value is longer than 32 bytes.
+    #[inline]
     pub fn get<'a>(
         &self,
         group: u64,
@@ -411,6 +423,7 @@ impl Area {
 
     /// The keys from `start` on and below `end`, up to `most` of them; a bound that is absent is open. A start above the end
     /// or a count of 0 is refused with 10.
+    #[inline]
     pub fn scan(
         &self,
         group: u64,
@@ -431,16 +444,19 @@ impl Area {
     }
 
     /// The Append keys with a file up to the gate.
+    #[inline]
     pub fn fetch_kvs_before(&self, group: u64, gate: u64, list: &mut Pairs) -> Result<(), Refusal> {
         fill_pairs!(self, galdnyrr_fetch_kvs_before, group, [gate], list)
     }
 
     /// All Rewrite keys.
+    #[inline]
     pub fn fetch_rewritten_kvs(&self, group: u64, list: &mut Pairs) -> Result<(), Refusal> {
         fill_pairs!(self, galdnyrr_fetch_rewritten_kvs, group, [], list)
     }
 
     /// The entries with indexes in [begin, end), up to a size. Refused: 9, 11, 12, 19.
+    #[inline]
     pub fn fetch_entries_to(
         &self,
         group: u64,
@@ -454,6 +470,7 @@ impl Area {
     }
 
     /// The Append entries from the front while their file is at most the gate.
+    #[inline]
     pub fn fetch_entry_indexes_before(
         &self,
         group: u64,
@@ -464,6 +481,7 @@ impl Area {
     }
 
     /// All Rewrite entries.
+    #[inline]
     pub fn fetch_rewritten_entry_indexes(
         &self,
         group: u64,
@@ -521,6 +539,7 @@ impl Clone for Area {
 }
 
 /// An answer that may be absent.
+#[inline]
 fn found<T>(number: u64, value: T) -> Result<Option<T>, Refusal> {
     match number {
         0 => Ok(Some(value)),
@@ -530,6 +549,7 @@ fn found<T>(number: u64, value: T) -> Result<Option<T>, Refusal> {
 }
 
 /// An answer that is always there.
+#[inline]
 fn given<T>(number: u64, value: T) -> Result<T, Refusal> {
     match number {
         0 => Ok(value),
@@ -538,6 +558,7 @@ fn given<T>(number: u64, value: T) -> Result<T, Refusal> {
 }
 
 /// An answer by its number and place.
+#[inline]
 fn told(number: u64, place: u64) -> Result<(), Refusal> {
     if number == 0 {
         return Ok(());

@@ -47,6 +47,7 @@ impl Batch {
         }
     }
 
+    #[inline]
     pub fn file(&self) -> FileId {
         self.file
     }
@@ -73,6 +74,7 @@ impl Batch {
         self.clear();
     }
 
+    #[inline]
     pub fn rows(&self) -> Rows<'_> {
         Rows { items: &self.items, entries: &self.entries, bytes: &self.bytes }
     }

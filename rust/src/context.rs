@@ -20,6 +20,7 @@ impl Context {
         self.queue
     }
 
+    #[inline]
     pub fn area(&self) -> &Area {
         &self.area
     }
@@ -30,6 +31,7 @@ impl Context {
     }
 
     /// Replays a batch, whose file must be of the context's queue. Refused: 1 to 5, 7, 8, 14 and 18.
+    #[inline]
     pub fn replay(&mut self, batch: &Batch) -> Result<(), Refusal> {
         self.area.replay(batch.file(), batch.rows())
     }
@@ -46,6 +48,7 @@ impl Context {
 impl Deref for Context {
     type Target = Area;
 
+    #[inline]
     fn deref(&self) -> &Area {
         &self.area
     }
@@ -67,16 +70,19 @@ impl Index {
         }
     }
 
+    #[inline]
     pub fn area(&self) -> &Area {
         &self.area
     }
 
     /// Appends a batch of an Append file. Refused: 1 to 5, 13, 14 and 18.
+    #[inline]
     pub fn append(&mut self, batch: &Batch) -> Result<(), Refusal> {
         self.area.append(batch.file(), batch.rows())
     }
 
     /// Rewrites a batch of a Rewrite file, gated or not. Refused: 1 to 6 and 15 to 18.
+    #[inline]
     pub fn rewrite(&mut self, gate: Option<u64>, batch: &Batch) -> Result<(), Refusal> {
         self.area.rewrite(gate, batch.file(), batch.rows())
     }
@@ -97,6 +103,7 @@ impl Default for Index {
 impl Deref for Index {
     type Target = Area;
 
+    #[inline]
     fn deref(&self) -> &Area {
         &self.area
     }

@@ -8,6 +8,7 @@ pub enum Queue {
 }
 
 impl Queue {
+    #[inline]
     pub(crate) fn number(self) -> u64 {
         match self {
             Queue::Append => 0,
@@ -15,6 +16,7 @@ impl Queue {
         }
     }
 
+    #[inline]
     pub(crate) fn of(number: u64) -> Queue {
         if number == 0 {
             Queue::Append
@@ -64,6 +66,7 @@ impl Entry {
         }
     }
 
+    #[inline]
     pub(crate) fn row(&self) -> [u64; 8] {
         [
             self.index,
@@ -78,6 +81,7 @@ impl Entry {
     }
 
     /// The entry of a row that a call has given: its numbers are in range.
+    #[inline]
     pub(crate) fn of_row(row: [u64; 8]) -> Entry {
         Entry {
             index: row[0],

@@ -16,11 +16,13 @@ impl Records {
     }
 
     /// How many records the list has room for.
+    #[inline]
     pub fn room(&self) -> usize {
         self.columns[0].len()
     }
 
     /// The number of records that the last query gave.
+    #[inline]
     pub fn len(&self) -> usize {
         self.filled
     }
@@ -35,6 +37,7 @@ impl Records {
     }
 
     /// Record i of those that the last query gave.
+    #[inline]
     pub fn get(&self, i: usize) -> Option<Entry> {
         if i >= self.filled {
             return None;
@@ -43,6 +46,7 @@ impl Records {
     }
 
     /// The records that the last query gave, in order.
+    #[inline]
     pub fn iter(&self) -> impl Iterator<Item = Entry> + '_ {
         let columns: [&[u64]; 8] = std::array::from_fn(|j| &self.columns[j][..self.filled]);
         (0..self.filled).map(move |i| Entry::of_row(std::array::from_fn(|j| columns[j][i])))
@@ -63,11 +67,13 @@ impl Pairs {
         Pairs { lens: vec![0; room * 2], bytes: vec![0; room * 64], filled: 0 }
     }
 
+    #[inline]
     pub fn room(&self) -> usize {
         self.lens.len() / 2
     }
 
     /// The number of keys that the last query gave.
+    #[inline]
     pub fn len(&self) -> usize {
         self.filled
     }
@@ -82,6 +88,7 @@ impl Pairs {
     }
 
     /// Key and value i of those that the last query gave.
+    #[inline]
     pub fn get(&self, i: usize) -> Option<(&[u8], &[u8])> {
         if i >= self.filled {
             return None;
@@ -91,6 +98,7 @@ impl Pairs {
     }
 
     /// The keys with their values that the last query gave, in order.
+    #[inline]
     pub fn iter(&self) -> impl Iterator<Item = (&[u8], &[u8])> + '_ {
         (0..self.filled).filter_map(|i| self.get(i))
     }

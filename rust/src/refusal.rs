@@ -58,6 +58,7 @@ pub struct Refusal {
 }
 
 impl Refusal {
+    #[inline]
     pub(crate) fn new(number: u64, place: Option<usize>) -> Refusal {
         Refusal { number, place }
     }
