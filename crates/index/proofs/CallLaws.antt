@@ -1,4 +1,4 @@
--- The calls of a batch: the wrong kind, a batch that is refused by the checks, and one that is carried out. Assumes nothing.
+-- The live calls of a batch: the wrong kind, and a batch that is written. Assumes nothing.
 use mathlib.Core.Bool.{true, false, _&&_}
 use mathlib.Core.List.{List}
 use mathlib.Core.Option.{none, some}
@@ -43,7 +43,7 @@ refused-called to xs bs r f w e a =
 pub same-called : (to as′ : Context → Result Context) (xs bs : List ℕ) (r : Answer) (ys ds : List ℕ) → Wf xs bs → ((d : Context) → to (contextOf xs bs) ≡ ok d → Kept d) → to (contextOf xs bs) ≡ as′ (contextOf xs bs) → Answered as′ xs bs r ys ds → Called to xs bs r ys ds
 same-called to as′ xs bs r ys ds w k e a = answered-called to xs bs r ys ds w k (same-answered to as′ xs bs r ys ds e a)
 
--- ---- the checks
+-- ---- the batch
 
 module _ (c : Call) (file : FileId) (items es ds : List ℕ) (xs bs : List ℕ) where
   abbrev pub batch : Batch
@@ -51,16 +51,6 @@ module _ (c : Call) (file : FileId) (items es ds : List ℕ) (xs bs : List ℕ) 
 
   abbrev pub writes-it : Context → Result Context
   writes-it x = checked c batch (runBatch c batch x)
-
-  pub checks-refuse : (n p : ℕ) → Formed xs bs → some (record { number = n; place = some p }) ≡ checks c (itemsOf items es ds) → Answered writes-it xs bs (answer.Refused n (position.At p)) xs bs
-  unfolding checked batchOf orElse answerAs positionOf
-  checks-refuse n p w e =
-      refused-answered writes-it xs bs (answer.Refused n (position.At p)) (record { number = n; place = some p }) w (rw (← e)) refl
-
-  pub checks-pass : (r : Answer) (ys fs : List ℕ) → none ≡ checks c (itemsOf items es ds) → Answered (run limited c (placedFrom 0 (itemsOf items es ds))) xs bs r ys fs → Answered writes-it xs bs r ys fs
-  unfolding checked runBatch batchOf orElse
-  checks-pass r ys fs e k =
-      same-answered writes-it (run limited c (placedFrom 0 (itemsOf items es ds))) xs bs r ys fs (rw (← e)) k
 
 -- ---- the kind
 
@@ -70,16 +60,6 @@ module _ (xs bs : List ℕ) (k : Kind) (e : k ≡ kindOf (getD (take (length xs 
   kind-is = rest-kind (drop 9376 xs) (drop 16384 bs) ∙ sym (rw (part-to-end xs 9376) at e)
 
   module _ (file : FileId) (items es ds : List ℕ) where
-    pub replay-wrong : (seq : ℕ) → Wf xs bs → isContext Append k ≡ false → Called (replay (batchOf (record { queue = Append; seq = seq }) items es ds)) xs bs (answer.Refused 1 position.None) xs bs
-    unfolding replay batchOf answerAs positionOf
-    replay-wrong seq w f =
-        refused-called (replay (batchOf (record { queue = Append; seq = seq }) items es ds)) xs bs (answer.Refused 1 position.None) _ w (rw (kind-is, f)) refl
-
-    pub replay-right : (seq : ℕ) (r : Answer) (ys fs : List ℕ) → Wf xs bs → isContext Append k ≡ true → Answered (writes-it replayAppend (record { queue = Append; seq = seq }) items es ds xs bs) xs bs r ys fs → Called (replay (batchOf (record { queue = Append; seq = seq }) items es ds)) xs bs r ys fs
-    unfolding replay replayBatch batchOf
-    replay-right seq r ys fs w y c =
-        same-called _ (writes-it replayAppend (record { queue = Append; seq = seq }) items es ds xs bs) xs bs r ys fs w (λ d e. replay-kept (batchOf (record { queue = Append; seq = seq }) items es ds) (contextOf xs bs) d (w .kept) e) (rw (kind-is, y)) c
-
     pub append-wrong : Wf xs bs → (isIndex k && sameQueue (file .queue) Append) ≡ false → Called (append (batchOf file items es ds)) xs bs (answer.Refused 1 position.None) xs bs
     unfolding append write batchOf answerAs positionOf
     append-wrong w f =

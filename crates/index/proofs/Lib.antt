@@ -6,3 +6,4 @@ pub mod StoredWays
 pub mod SpanWays
 pub mod FinishWays
 pub mod ReplayWays
+pub mod WriteWays

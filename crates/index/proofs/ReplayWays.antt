@@ -1,48 +1,22 @@
--- The call of a replay: the wrong kind, the checks, an unmarked batch and a marked one. Assumes nothing.
+-- The call of a replay: the wrong kind, and the queue of the file. Assumes nothing.
 use mathlib.Core.Bool.{true, false}
 use mathlib.Core.List.{List}
-use mathlib.Core.Option.{none, some}
 use mathlib.Core.Path.{_≡_, refl, _∙_}
 use Prim.Native.Nat.{ℕ, _-_}
 use lib.ListN.{length, getD, take, drop}
-use Rattle.maps.specs.Lists.{orElse}
-use Rattle.rules.specs.Items.{LogQueue, FileId, Append, Rewrite, Batch, placedFrom, replayAppend, replayRewrite}
-use Rattle.rules.specs.Checks.{Mark, firstMark, checks}
-use Rattle.rules.specs.Context.{Kind, context, isContext, limited, run}
-use Rattle.rules.specs.Waiting.{replayMarked}
-use Rattle.rules.specs.Calls.{checked, runBatch, replayBatch, replay}
+use Rattle.rules.specs.Items.{LogQueue, FileId, Append, Rewrite, Batch, replayAppend}
+use Rattle.rules.specs.Context.{Kind, context, isContext}
+use Rattle.rules.specs.Calls.{replayBatch, replay}
 use Rattle.rules_by_group.specs.RunLaws.{KeptAt}
 use Rattle.rules_by_group.specs.KeptLaws.{replay-kept}
-use Rattle.log_batch.specs.Lent.{itemsOf, batchOf}
+use Rattle.log_batch.specs.Lent.{batchOf}
 use Rattle.lists.specs.Rest.{kindOf}
 use Rattle.contexts.specs.declared.Answer.{Answer}
 use Rattle.contexts.specs.declared.Answer.the-variants as answer
 use Rattle.contexts.specs.declared.Position.the-variants as position
-use Rattle.contexts.specs.Contexts.{contextOf, Formed, Wf, answerAs, positionOf, Answered, Called}
+use Rattle.contexts.specs.Contexts.{contextOf, Wf, answerAs, positionOf, Answered, Called}
 use Rattle.index.specs.AcceptLaws.{rewrite-is}
-use Rattle.index.proofs.CallLaws.{refused-answered, same-answered, refused-called, same-called, kind-is, writes-it}
-
--- ---- a batch into a Rewrite context
-
-module _ (file : FileId) (items es ds : List ℕ) (xs bs : List ℕ) where
-  abbrev batch : Batch
-  batch = batchOf file items es ds
-
-  pub rewrite-refused : (n p : ℕ) → Formed xs bs → some (record { number = n; place = some p }) ≡ checks replayRewrite (itemsOf items es ds) → Answered (replayBatch Rewrite batch) xs bs (answer.Refused n (position.At p)) xs bs
-  unfolding replayBatch checked batchOf orElse answerAs positionOf
-  rewrite-refused n p w e =
-      refused-answered (replayBatch Rewrite batch) xs bs (answer.Refused n (position.At p)) (record { number = n; place = some p }) w (rw (← e)) refl
-
-  module _ (r : Answer) (ys fs : List ℕ) (c : none ≡ checks replayRewrite (itemsOf items es ds)) where
-    pub rewrite-unmarked : none ≡ firstMark 0 (itemsOf items es ds) → Answered (run limited replayRewrite (placedFrom 0 (itemsOf items es ds))) xs bs r ys fs → Answered (replayBatch Rewrite batch) xs bs r ys fs
-    unfolding replayBatch checked runBatch batchOf orElse
-    rewrite-unmarked f a =
-        same-answered (replayBatch Rewrite batch) (run limited replayRewrite (placedFrom 0 (itemsOf items es ds))) xs bs r ys fs (rw (← c, ← f)) a
-
-    pub rewrite-marked : (m : Mark) → some m ≡ firstMark 0 (itemsOf items es ds) → Answered (replayMarked m (file .seq) (placedFrom 0 (itemsOf items es ds))) xs bs r ys fs → Answered (replayBatch Rewrite batch) xs bs r ys fs
-    unfolding replayBatch checked runBatch batchOf orElse
-    rewrite-marked m f a =
-        same-answered (replayBatch Rewrite batch) (replayMarked m (file .seq) (placedFrom 0 (itemsOf items es ds))) xs bs r ys fs (rw (← c, ← f)) a
+use Rattle.index.proofs.CallLaws.{refused-called, same-called, kind-is, writes-it}
 
 -- ---- by the queue of the file
 

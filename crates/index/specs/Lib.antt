@@ -11,6 +11,9 @@ pub mod RunLaws
 pub mod BatchLaws
 pub mod GrowthLaws
 pub mod CarryLaws
+pub mod Writes
+pub mod Singles
+pub mod SingleLaws
 pub mod WaitsLaws
 pub mod Finishes
 pub mod StoredLaws

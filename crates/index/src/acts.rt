@@ -6,7 +6,7 @@ ghost use Rattle.rules.specs.Table.{made};
 ghost use Rattle.stretch.specs.Changes.{ruleOf, Ready};
 ghost use Rattle.groups.specs.Area.{groupsOf, Found};
 ghost use Rattle.groups.specs.Area as groups·area;
-ghost use Rattle.groups.specs.Calls.{onGroup};
+ghost use Rattle.groups.specs.Calls.{onGroup, ChangedGroup, LeavesSlot};
 ghost use Rattle.groups.specs.Undo.{Undoable, ReadyFor, ReadyToGo};
 ghost use Rattle.index.specs.Acts.{deedOn, SecuredUnless, Acted};
 ghost use Rattle.deeds.specs.Deeds.{DeedReady};
@@ -53,8 +53,33 @@ fn clean(xs: &mut [u64], bs: &mut [u8], group: u64, last: bool) -> Outcome
     Outcome::Done
 }
 
+// Carries out a change on a group at the slot where it was found, and makes its answer anew: an answer that is handed on as it is
+// would be copied by parts that overlap.
+pub fn change_found(
+    xs: &mut [u64],
+    bs: &mut [u8],
+    slot: Slot,
+    group: u64,
+    change: Change,
+    rows: &[u64],
+    key: &[u8],
+    value: &[u8],
+) -> Outcome
+    requires { ⌜ groups·area.Wf (now xs) (now bs) ⌝ }
+    requires { ⌜ Found group (now xs) slot ⌝ }
+    requires { ⌜ Ready change (now rows) (now key) (now value) (made (lookup numbers group (groupsOf (now xs) (now bs)))) ⌝ }
+    ensures { λ r. ⌜ ChangedGroup (ruleOf change (now (rows .entry)) (now (key .entry)) (now (value .entry))) group slot (now (xs .entry)) (now (bs .entry)) r (now (xs .exit)) (now (bs .exit)) ⌝ }
+    ensures { λ r. ⌜ LeavesSlot change slot (now (xs .entry)) (now (bs .entry)) r (now (xs .exit)) (now (bs .exit)) ⌝ }
+{
+    let answer = groups::apply(xs, bs, slot, group, change, rows, key, value);
+    match answer {
+        Outcome::Done => Outcome::Done,
+        Outcome::Refused(number) => Outcome::Refused(number),
+    }
+}
+
 // Changes a group, which is made if it is absent.
-pub fn change_group(
+fn change_group(
     xs: &mut [u64],
     bs: &mut [u8],
     group: u64,
@@ -71,7 +96,7 @@ pub fn change_group(
 {
     let slot = groups::find(xs, group);
     secure_unless(last, xs, bs, slot, group, change);
-    groups::apply(xs, bs, slot, group, change, rows, key, value)
+    change_found(xs, bs, slot, group, change, rows, key, value)
 }
 
 // Carries out a deed on a group.

@@ -3,11 +3,10 @@ ghost use mathlib.Core.Option.{none};
 ghost use mathlib.Core.Path.{_≡_};
 ghost use Prim.Native.Nat.{_<_, _≤_, _*_};
 ghost use lib.ListN.{length, getD, drop};
-ghost use Rattle.rules.specs.Items.{FileId, placedFrom};
+ghost use Rattle.rules.specs.Items.{placedFrom};
 ghost use Rattle.rules.specs.Checks.{checks};
 ghost use Rattle.rules.specs.Context.{limited, run};
-ghost use Rattle.rules.specs.Calls.{checked, runBatch};
-ghost use Rattle.log_batch.specs.Lent.{rowCount, itemAt, itemsOf, batchOf};
+ghost use Rattle.log_batch.specs.Lent.{rowCount, itemAt, itemsOf};
 ghost use Rattle.log_batch.specs.Judged.{callOf};
 ghost use Rattle.groups.specs.Undo.{Undoable};
 ghost use Rattle.lists.specs.Rest.{cutTo};
@@ -19,8 +18,6 @@ use contexts::Answer;
 use contexts::Position;
 use lists::Counts;
 use log_batch::Call;
-use log_batch::Checked;
-use log_batch::check;
 use log_batch::open::Opened;
 use log_batch::open::open_item;
 use log_batch::open::row_count;
@@ -94,27 +91,4 @@ pub fn run_items(
         i += 1;
     }
     Answer::Accepted
-}
-
-// A batch that is checked, and then carried out.
-pub fn write(
-    xs: &mut [u64],
-    bs: &mut [u8],
-    call: Call,
-    items: &[u64],
-    entries: &[u64],
-    bytes: &[u8],
-) -> Answer
-    requires { ⌜ Formed (now xs) (now bs) ⌝ }
-    requires { ⌜ Keeping (callOf call) (contextOf (now xs) (now bs)) ⌝ }
-    ensures { λ r. ⌜ ((file : FileId) → Answered (λ c. checked (callOf call) (batchOf file (now (items .entry)) (now (entries .entry)) (now (bytes .entry))) (runBatch (callOf call) (batchOf file (now (items .entry)) (now (entries .entry)) (now (bytes .entry))) c)) (now (xs .entry)) (now (bs .entry)) r (now (xs .exit)) (now (bs .exit))) ⌝ }
-{
-    let answer = check(call, items, entries, bytes);
-    match answer {
-        Checked::Refused { number, place } => Answer::Refused {
-            number,
-            place: Position::At(place),
-        },
-        Checked::Passed => run_items(xs, bs, call, items, entries, bytes),
-    }
 }

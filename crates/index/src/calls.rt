@@ -8,7 +8,7 @@ ghost use Rattle.pipe_log.specs.Numbers.{gateOf};
 ghost use Rattle.log_batch.specs.Lent.{batchOf};
 ghost use Rattle.lists.specs.Calls.{kindAs};
 ghost use Rattle.contexts.specs.Contexts.{Wf, Called};
-use crate::batches::write;
+use crate::writes::write;
 use contexts::Answer;
 use contexts::Position;
 use lists::Kind;
@@ -66,10 +66,11 @@ pub fn append(
     let a = groups::NUMBERS;
     let kind = lists::kind_in(&xs[a..]);
     let queue = file.queue;
+    let seq = file.seq;
     if !takes(kind, queue, LogQueue::Append) {
         return wrong_kind();
     }
-    write(xs, bs, Call::LiveAppend, items, entries, bytes)
+    write(xs, bs, Call::LiveAppend, seq, items, entries, bytes)
 }
 
 // Rewrites a batch in the index, gated or not; a key's new number is the batch's.
@@ -96,6 +97,7 @@ pub fn rewrite(
         xs,
         bs,
         Call::LiveRewrite { gate, seq },
+        seq,
         items,
         entries,
         bytes,

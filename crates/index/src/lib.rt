@@ -5,9 +5,12 @@ mod calls;
 mod finish;
 mod growth;
 mod items;
+mod marked;
 mod replays;
+mod singles;
 mod spans;
 mod stored;
+mod writes;
 
 pub use calls::append;
 pub use calls::rewrite;

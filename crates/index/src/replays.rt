@@ -1,132 +1,18 @@
-// Replay of a batch into a context of its file's queue; a marked batch of the Rewrite queue waits, or finishes what waited.
-ghost use mathlib.Core.Option.{none};
+// Replay of a batch into a context of its file's queue.
 ghost use mathlib.Core.Path.{_≡_};
-ghost use lib.ListN.{length};
-ghost use Rattle.rules.specs.Items.{Rewrite, placedFrom, replayRewrite};
-ghost use Rattle.rules.specs.Checks.{checks};
-ghost use Rattle.rules.specs.Context.{context};
 ghost use Rattle.rules.specs.Context as rules;
-ghost use Rattle.rules.specs.Waiting.{replayMarked};
 ghost use Rattle.rules.specs.Calls as rules·calls;
-ghost use Rattle.rules_by_group.specs.RunLaws.{KeptAt};
-ghost use Rattle.log_batch.specs.Lent.{itemsOf, batchOf};
+ghost use Rattle.log_batch.specs.Lent.{batchOf};
 ghost use Rattle.lists.specs.Calls.{kindAs};
-ghost use Rattle.waiting.specs.Batches.{unmarked};
-ghost use Rattle.waiting.specs.Parts.{partFor};
-ghost use Rattle.contexts.specs.Contexts.{contextOf, Formed, Wf, Answered, Called};
-ghost use Rattle.index.specs.Accepting.{AcceptedIn};
-use crate::WAITING_AT;
-use crate::WAITING_BYTES_AT;
-use crate::batches::run_items;
-use crate::batches::write;
+ghost use Rattle.contexts.specs.Contexts.{Wf, Called};
 use crate::calls::wrong_kind;
-use crate::finish::finish;
+use crate::writes::write;
 use contexts::Answer;
-use contexts::Position;
 use lists::Kind;
 use log_batch::Call;
-use log_batch::Checked;
-use log_batch::check;
 use log_batch::entries::same_queue;
-use log_batch::mark::FirstMark;
-use log_batch::mark::Mark;
-use log_batch::mark::first_mark;
 use pipe_log::FileId;
 use pipe_log::LogQueue;
-use stretch::FILES_GO_BACK;
-use stretch::LIMIT_PASSED;
-use waiting::Accepted;
-
-// Accepts the part of a marked batch in the room of the waiting parts.
-fn accept(
-    xs: &mut [u64],
-    bs: &mut [u8],
-    mark: Mark,
-    seq: u64,
-    items: &[u64],
-    entries: &[u64],
-    bytes: &[u8],
-) -> Accepted
-    requires { ⌜ (length (now xs) ≡ 17231) × (length (now bs) ≡ 38912) ⌝ }
-    requires { ⌜ Formed (now xs) (now bs) ⌝ }
-    requires { ⌜ checks replayRewrite (itemsOf (now items) (now entries) (now bytes)) ≡ none ⌝ }
-    ensures { λ r. ⌜ AcceptedIn (mark .«raft_group_id») (partFor (mark .byte) seq (unmarked (itemsOf (now (items .entry)) (now (entries .entry)) (now (bytes .entry))))) (now (xs .entry)) (now (bs .entry)) r (now (xs .exit)) (now (bs .exit)) ⌝ }
-{
-    let a = WAITING_AT;
-    let e = a + waiting::NUMBERS;
-    let c = WAITING_BYTES_AT;
-    let d = c + waiting::BYTES;
-    let group = mark.raft_group_id;
-    let status = mark.byte as u64;
-    waiting::accept_batch(
-        &mut xs[a..e],
-        &mut bs[c..d],
-        group,
-        status,
-        seq,
-        items,
-        entries,
-        bytes,
-    )
-}
-
-// Replays a marked batch that passed the checks.
-fn replay_marked(
-    xs: &mut [u64],
-    bs: &mut [u8],
-    mark: Mark,
-    seq: u64,
-    items: &[u64],
-    entries: &[u64],
-    bytes: &[u8],
-) -> Answer
-    requires { ⌜ Formed (now xs) (now bs) ⌝ }
-    requires { ⌜ KeptAt (context Rewrite) (contextOf (now xs) (now bs)) ⌝ }
-    requires { ⌜ checks replayRewrite (itemsOf (now items) (now entries) (now bytes)) ≡ none ⌝ }
-    ensures { λ r. ⌜ Answered (replayMarked (record { at = mark .at; group = mark .«raft_group_id»; byte = mark .byte }) seq (placedFrom 0 (itemsOf (now (items .entry)) (now (entries .entry)) (now (bytes .entry))))) (now (xs .entry)) (now (bs .entry)) r (now (xs .exit)) (now (bs .exit)) ⌝ }
-{
-    let at = mark.at;
-    let answer = accept(xs, bs, mark, seq, items, entries, bytes);
-    match answer {
-        Accepted::Waits => Answer::Accepted,
-        Accepted::Passed => Answer::Refused {
-            number: LIMIT_PASSED,
-            place: Position::At(at),
-        },
-        Accepted::Back => Answer::Refused {
-            number: FILES_GO_BACK,
-            place: Position::None,
-        },
-        Accepted::Finishes(k) => finish(xs, bs, k, mark, seq, items, entries, bytes),
-    }
-}
-
-// Replays a batch into a Rewrite context.
-fn replay_rewrite(
-    xs: &mut [u64],
-    bs: &mut [u8],
-    file: FileId,
-    items: &[u64],
-    entries: &[u64],
-    bytes: &[u8],
-) -> Answer
-    requires { ⌜ Formed (now xs) (now bs) ⌝ }
-    requires { ⌜ KeptAt (context Rewrite) (contextOf (now xs) (now bs)) ⌝ }
-    ensures { λ r. ⌜ Answered (rules·calls.replayBatch Rewrite (batchOf file (now (items .entry)) (now (entries .entry)) (now (bytes .entry)))) (now (xs .entry)) (now (bs .entry)) r (now (xs .exit)) (now (bs .exit)) ⌝ }
-{
-    let answer = check(Call::ReplayRewrite, items, entries, bytes);
-    if let Checked::Refused { number, place } = answer {
-        return Answer::Refused {
-            number,
-            place: Position::At(place),
-        };
-    }
-    let first = first_mark(items, entries, bytes);
-    match first {
-        FirstMark::Absent => run_items(xs, bs, Call::ReplayRewrite, items, entries, bytes),
-        FirstMark::Found(mark) => replay_marked(xs, bs, mark, file.seq, items, entries, bytes),
-    }
-}
 
 // Whether an area is a context of a queue.
 fn is_context(kind: Kind, queue: LogQueue) -> bool
@@ -153,11 +39,12 @@ pub fn replay(
     let a = groups::NUMBERS;
     let kind = lists::kind_in(&xs[a..]);
     let queue = file.queue;
+    let seq = file.seq;
     if !is_context(kind, queue) {
         return wrong_kind();
     }
     match queue {
-        LogQueue::Append => write(xs, bs, Call::ReplayAppend, items, entries, bytes),
-        LogQueue::Rewrite => replay_rewrite(xs, bs, file, items, entries, bytes),
+        LogQueue::Append => write(xs, bs, Call::ReplayAppend, seq, items, entries, bytes),
+        LogQueue::Rewrite => write(xs, bs, Call::ReplayRewrite, seq, items, entries, bytes),
     }
 }

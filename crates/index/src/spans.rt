@@ -17,7 +17,7 @@ ghost use Rattle.contexts.specs.Contexts.{Formed};
 ghost use Rattle.index.specs.Acts.{Acted};
 ghost use Rattle.index.specs.Finishes.{SpannedGroup, Ended};
 ghost use Rattle.index.specs.SpanLaws.{making};
-use crate::acts::change_group;
+use crate::acts::change_found;
 use contexts::Answer;
 use contexts::Position;
 use groups::Slot;
@@ -57,7 +57,9 @@ fn make_group(xs: &mut [u64], bs: &mut [u8], group: u64) -> Outcome
 {
     let rows = [0u64; 1];
     let key = [0u8; 1];
-    change_group(xs, bs, group, Change::Make, &rows, &key, &key, false)
+    let slot = groups::find(xs, group);
+    groups::secure(xs, bs, slot, group, Change::Make);
+    change_found(xs, bs, slot, group, Change::Make, &rows, &key, &key)
 }
 
 // Sets the span of a group, which is made if it is absent; there may be no place for it, at the mark's place, or files go back.

@@ -12,8 +12,8 @@ find-requires c κs = search needs
 secure-unless-requires : tie.Need-secure-unless-requires
 secure-unless-requires c κs = search needs
 
-apply-requires : tie.Need-apply-requires
-apply-requires c κs =
+change-found-requires : tie.Need-change-found-requires
+change-found-requires c κs =
     let start = c .before .before .before .before .before .before .before .before .before .before .before .before .before .before .before .before in
     let find = c .before .before .before .before .before .before .before .before .before .find in
     let secure-unless = c .before .before .before .before .before .before .secure-unless in
@@ -30,8 +30,8 @@ returns c =
     let start = c .before .before .before .before .before .before .before .before .before .before .before .before .before .before .before .before .before .before .before .before .before in
     let find = c .before .before .before .before .before .before .before .before .before .before .before .before .before .before .find in
     let secure-unless = c .before .before .before .before .before .before .before .before .before .before .before .secure-unless in
-    let apply = c .before .before .before .before .apply in
-    acted-change (start .args .group) (find .result) (start .args .last) (start .args .xs .now) (start .args .bs .now) _ _ (find .ensures) (start .args .change) (ruleOf (start .args .change) (start .args .rows .now) (start .args .key .now) (start .args .value .now)) (secure-unless .ensures) _ _ _ (apply .ensures .0) (apply .ensures .1)
+    let change-found = c .before .before .before .before .change-found in
+    acted-change (start .args .group) (find .result) (start .args .last) (start .args .xs .now) (start .args .bs .now) _ _ (find .ensures) (start .args .change) (ruleOf (start .args .change) (start .args .rows .now) (start .args .key .now) (start .args .value .now)) (secure-unless .ensures) _ _ _ (change-found .ensures .0) (change-found .ensures .1)
 
 pub change-group-spec : {M : Type 1} → statement M
 change-group-spec =
@@ -39,7 +39,7 @@ change-group-spec =
     (tie.spec
     find-requires
     secure-unless-requires
-    apply-requires
+    change-found-requires
     same-length
     same-length-2
     returns)

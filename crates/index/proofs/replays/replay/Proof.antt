@@ -6,8 +6,9 @@ use borrow.Rule.Slice.PartAt.{part-to-end}
 use Rattle.rules.specs.Checks.{isRewriteReplay}
 use Rattle.log_batch.specs.Judged.{callOf}
 use Rattle.contexts.specs.AreaLaws.{formed-of, area-length, area-bytes, same-lengths}
-use Rattle.index.specs.OwnLaws.{keeping-other}
+use Rattle.index.specs.OwnLaws.{keeping-other, keeping-rewrite}
 use Rattle.index.proofs.CallLaws.{zero-below}
+use Rattle.index.proofs.WriteWays.{plain-written, replay-written}
 use Rattle.index.proofs.ReplayWays.{replay-wrong-kind, replay-append-queue, replay-rewrite-queue, rewrite-kept}
 use borrow.Author.Needs.{needs}
 use Rattle.index.proofs.replays.replay.Statement.{statement}
@@ -60,14 +61,14 @@ write-requires c κs =
 enum-told-2 : tie.Need-enum-told-2
 enum-told-2 c = search needs
 
-replay-rewrite-requires : tie.Need-replay-rewrite-requires
-replay-rewrite-requires c κs =
+write-requires-2 : tie.Need-write-requires-2
+write-requires-2 c κs =
     let start = c .before .before .before .before .before .before .before .before .before .before .before .before .before .before in
     let kind-in = c .before .before .before .before .before .before .kind-in in
     let is-context = c .before .before .before .before .before .is-context in
     let if1 = c .before .before .before .before .if1 in
     let enum-told2 = c .before .before .enum-told2 in
-    (formed-of _ _ (start .pre), rewrite-kept (start .args .xs .now) (start .args .bs .now) _ (kind-in .ensures) _ (start .pre) (enum-told2 .given .1) (sym (is-context .ensures) ∙ not-false (is-context .result) (if1 .left)))
+    (formed-of _ _ (start .pre), keeping-rewrite _ _ (rewrite-kept (start .args .xs .now) (start .args .bs .now) _ (kind-in .ensures) _ (start .pre) (enum-told2 .given .1) (sym (is-context .ensures) ∙ not-false (is-context .result) (if1 .left))))
 
 same-length-2 : tie.Need-same-length-2
 same-length-2 c = search needs
@@ -76,7 +77,7 @@ same-length-3 : tie.Need-same-length-3
 same-length-3 c = search needs
 
 returns-2 : tie.Need-returns-2
-unfolding callOf
+unfolding callOf isRewriteReplay
 returns-2 c =
     let start = c .before .before .before .before .before .before .before .before .before .before .before .before .before .before .before .before .before .before .before in
     let kind-in = c .before .before .before .before .before .before .before .before .before .before .before .kind-in in
@@ -84,29 +85,30 @@ returns-2 c =
     let if1 = c .before .before .before .before .before .before .before .before .before .if1 in
     let enum-told = c .before .before .before .before .before .before .before .enum-told in
     let write = c .before .before .before .before .write in
-    replay-append-queue (start .args .xs .now) (start .args .bs .now) _ (kind-in .ensures) (start .args .file) _ _ _ (start .pre) (sym (is-context .ensures) ∙ not-false (is-context .result) (if1 .left)) (enum-told .given .1) _ _ _ (write .ensures (start .args .file))
+    replay-append-queue (start .args .xs .now) (start .args .bs .now) _ (kind-in .ensures) (start .args .file) _ _ _ (start .pre) (sym (is-context .ensures) ∙ not-false (is-context .result) (if1 .left)) (enum-told .given .1) _ _ _ (plain-written (start .args .file) _ _ _ _ _ _ _ _ _ (start .args .file .seq) refl (write .ensures))
 
 same-length-4 : tie.Need-same-length-4
 same-length-4 c =
     let start = c .before .before .before .before .before .before .before .before .before .before .before .before .before .before .before .before .before .before .before in
-    let replay-rewrite = c .before .before .before .before .replay-rewrite in
-    same-lengths (area-length _ _ (replay-rewrite .ensures .formed)) (area-length _ _ (formed-of _ _ (start .pre)))
+    let write2 = c .before .before .before .before .write2 in
+    same-lengths (area-length _ _ (write2 .ensures .formed)) (area-length _ _ (formed-of _ _ (start .pre)))
 
 same-length-5 : tie.Need-same-length-5
 same-length-5 c =
     let start = c .before .before .before .before .before .before .before .before .before .before .before .before .before .before .before .before .before .before .before in
-    let replay-rewrite = c .before .before .before .before .replay-rewrite in
-    same-lengths (area-bytes _ _ (replay-rewrite .ensures .formed)) (area-bytes _ _ (formed-of _ _ (start .pre)))
+    let write2 = c .before .before .before .before .write2 in
+    same-lengths (area-bytes _ _ (write2 .ensures .formed)) (area-bytes _ _ (formed-of _ _ (start .pre)))
 
 returns-3 : tie.Need-returns-3
+unfolding callOf
 returns-3 c =
     let start = c .before .before .before .before .before .before .before .before .before .before .before .before .before .before .before .before .before .before .before in
     let kind-in = c .before .before .before .before .before .before .before .before .before .before .before .kind-in in
     let is-context = c .before .before .before .before .before .before .before .before .before .before .is-context in
     let if1 = c .before .before .before .before .before .before .before .before .before .if1 in
     let enum-told2 = c .before .before .before .before .before .before .before .enum-told2 in
-    let replay-rewrite = c .before .before .before .before .replay-rewrite in
-    replay-rewrite-queue (start .args .xs .now) (start .args .bs .now) _ (kind-in .ensures) (start .args .file) _ _ _ (start .pre) (sym (is-context .ensures) ∙ not-false (is-context .result) (if1 .left)) (enum-told2 .given .1) _ _ _ (replay-rewrite .ensures)
+    let write2 = c .before .before .before .before .write2 in
+    replay-rewrite-queue (start .args .xs .now) (start .args .bs .now) _ (kind-in .ensures) (start .args .file) _ _ _ (start .pre) (sym (is-context .ensures) ∙ not-false (is-context .result) (if1 .left)) (enum-told2 .given .1) _ _ _ (replay-written (start .args .file) _ _ _ _ _ _ _ _ (write2 .ensures))
 
 pub replay-spec : {M : Type 1} → statement M
 replay-spec =
@@ -124,7 +126,7 @@ replay-spec =
     enum-told
     write-requires
     enum-told-2
-    replay-rewrite-requires
+    write-requires-2
     same-length-2
     same-length-3
     returns-2

@@ -1,9 +1,9 @@
--- `index::replays::replay_marked` meets its contract. Assumes nothing.
+-- `index::marked::replay_marked` meets its contract. Assumes nothing.
 use Rattle.contexts.specs.AreaLaws.{area-length, area-bytes, same-lengths}
 use Rattle.index.specs.AcceptLaws.{marked-waits, marked-passed, marked-back, moved-formed, moved-kept, moved-finish, moved-answer}
 use borrow.Author.Needs.{needs}
-use Rattle.index.proofs.replays.replay_marked.Statement.{statement}
-use Rattle.index.proofs.replays.replay_marked.Tie as tie
+use Rattle.index.proofs.marked.replay_marked.Statement.{statement}
+use Rattle.index.proofs.marked.replay_marked.Tie as tie
 
 accept-requires : tie.Need-accept-requires
 accept-requires c κs =

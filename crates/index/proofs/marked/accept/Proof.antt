@@ -1,12 +1,12 @@
--- `index::replays::accept` meets its contract. Assumes nothing.
+-- `index::marked::accept` meets its contract. Assumes nothing.
 use Rattle.log_batch.specs.Lent.{itemsOf}
 use Rattle.waiting.specs.Batches.{unmarked}
 use Rattle.waiting.specs.Parts.{partFor}
 use Rattle.index.proofs.StoredWays.{lent-room}
 use Rattle.index.proofs.FinishWays.{accepted-back}
 use borrow.Author.Needs.{needs}
-use Rattle.index.proofs.replays.accept.Statement.{statement}
-use Rattle.index.proofs.replays.accept.Tie as tie
+use Rattle.index.proofs.marked.accept.Statement.{statement}
+use Rattle.index.proofs.marked.accept.Tie as tie
 
 add-e : tie.Need-add-e
 add-e c = search needs
