@@ -10,7 +10,9 @@ ghost use Rattle.index.specs.Writes.{written};
 use crate::batches::run_items;
 use crate::marked::replay_marked;
 use crate::singles::is_single_list;
-use crate::singles::lay_single;
+use crate::singles::is_single_put;
+use crate::singles::run_list;
+use crate::singles::run_put;
 use contexts::Answer;
 use contexts::Position;
 use log_batch::Call;
@@ -66,7 +68,10 @@ pub fn write(
     ensures { λ r. ⌜ Answered (written (callOf call) seq (itemsOf (now (items .entry)) (now (entries .entry)) (now (bytes .entry)))) (now (xs .entry)) (now (bs .entry)) r (now (xs .exit)) (now (bs .exit)) ⌝ }
 {
     if is_single_list(call, items, entries) {
-        return lay_single(xs, bs, call, items, entries, bytes);
+        return run_list(xs, bs, call, items, entries, bytes);
+    }
+    if is_single_put(call, items, bytes) {
+        return run_put(xs, bs, call, items, entries, bytes);
     }
     let answer = check(call, items, entries, bytes);
     match answer {

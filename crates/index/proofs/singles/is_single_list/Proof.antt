@@ -2,8 +2,7 @@
 use mathlib.Core.Path.{sym, _∙_}
 use native.Mathlib.Omega.{arith}
 use Rattle.maps.specs.BoolLaws.{clash}
-use Rattle.log_batch.specs.Judged.{callOf}
-use Rattle.index.specs.SingleLaws.{single-list}
+use Rattle.index.specs.SingleLaws.{list-single}
 use borrow.Author.Needs.{needs}
 use Rattle.index.proofs.singles.is_single_list.Statement.{statement}
 use Rattle.index.proofs.singles.is_single_list.Tie as tie
@@ -42,7 +41,7 @@ returns-6 c =
     let if2 = c .before .before .before .before .before .before .if2 in
     let if3 = c .before .before .before .if3 in
     let is-plain-content = c .is-plain-content in
-    λ bytes e. single-list (callOf (start .args .call)) (start .args .items .now) (start .args .entries .now) bytes (if1 .left) (if2 .left) (if3 .left) (omega arith) (sym (is-plain-content .ensures) ∙ e)
+    λ bytes e. list-single (start .args .call) (start .args .items .now) (start .args .entries .now) bytes (if1 .left) (if2 .left) (if3 .left) (omega arith) (sym (is-plain-content .ensures) ∙ e)
 
 pub is-single-list-spec : {M : Type 1} → statement M
 is-single-list-spec =

@@ -11,8 +11,8 @@ use Rattle.index.proofs.writes.write.Tie as tie
 is-single-list-requires : tie.Need-is-single-list-requires
 is-single-list-requires c κs = search needs
 
-lay-single-requires : tie.Need-lay-single-requires
-lay-single-requires c κs =
+run-list-requires : tie.Need-run-list-requires
+run-list-requires c κs =
     let start = c .before .before .before .before .before .before .before .before .before in
     let is-single-list = c .before .before .before .is-single-list in
     let if1 = c .before .before .if1 in
@@ -21,22 +21,52 @@ lay-single-requires c κs =
 same-length : tie.Need-same-length
 same-length c =
     let start = c .before .before .before .before .before .before .before .before .before .before .before .before .before .before in
-    let lay-single = c .before .before .before .before .lay-single in
-    same-lengths (area-length _ _ (lay-single .ensures .formed)) (area-length _ _ (start .pre .0))
+    let run-list = c .before .before .before .before .run-list in
+    same-lengths (area-length _ _ (run-list .ensures .formed)) (area-length _ _ (start .pre .0))
 
 same-length-2 : tie.Need-same-length-2
 same-length-2 c =
     let start = c .before .before .before .before .before .before .before .before .before .before .before .before .before .before in
-    let lay-single = c .before .before .before .before .lay-single in
-    same-lengths (area-bytes _ _ (lay-single .ensures .formed)) (area-bytes _ _ (start .pre .0))
+    let run-list = c .before .before .before .before .run-list in
+    same-lengths (area-bytes _ _ (run-list .ensures .formed)) (area-bytes _ _ (start .pre .0))
 
 returns : tie.Need-returns
 returns c =
     let start = c .before .before .before .before .before .before .before .before .before .before .before .before .before .before in
     let is-single-list = c .before .before .before .before .before .before .before .before .is-single-list in
     let if1 = c .before .before .before .before .before .before .before .if1 in
-    let lay-single = c .before .before .before .before .lay-single in
-    let s = is-single-list .ensures (start .args .bytes .now) (if1 .taken) in written-run (callOf (start .args .call)) (start .args .seq) (itemsOf (start .args .items .now) (start .args .entries .now) (start .args .bytes .now)) (start .args .xs .now) (start .args .bs .now) _ _ _ (s .passes) (sym (s .unmarked)) (lay-single .ensures)
+    let run-list = c .before .before .before .before .run-list in
+    let s = is-single-list .ensures (start .args .bytes .now) (if1 .taken) in written-run (callOf (start .args .call)) (start .args .seq) (itemsOf (start .args .items .now) (start .args .entries .now) (start .args .bytes .now)) (start .args .xs .now) (start .args .bs .now) _ _ _ (s .passes) (sym (s .unmarked)) (run-list .ensures)
+
+is-single-put-requires : tie.Need-is-single-put-requires
+is-single-put-requires c κs = search needs
+
+run-put-requires : tie.Need-run-put-requires
+run-put-requires c κs =
+    let start = c .before .before .before .before .before .before .before .before .before .before .before in
+    let is-single-put = c .before .before .before .is-single-put in
+    let if2 = c .before .before .if2 in
+    (start .pre .0, (is-single-put .ensures (start .args .entries .now) (if2 .taken), start .pre .1))
+
+same-length-3 : tie.Need-same-length-3
+same-length-3 c =
+    let start = c .before .before .before .before .before .before .before .before .before .before .before .before .before .before .before .before in
+    let run-put = c .before .before .before .before .run-put in
+    same-lengths (area-length _ _ (run-put .ensures .formed)) (area-length _ _ (start .pre .0))
+
+same-length-4 : tie.Need-same-length-4
+same-length-4 c =
+    let start = c .before .before .before .before .before .before .before .before .before .before .before .before .before .before .before .before in
+    let run-put = c .before .before .before .before .run-put in
+    same-lengths (area-bytes _ _ (run-put .ensures .formed)) (area-bytes _ _ (start .pre .0))
+
+returns-2 : tie.Need-returns-2
+returns-2 c =
+    let start = c .before .before .before .before .before .before .before .before .before .before .before .before .before .before .before .before in
+    let is-single-put = c .before .before .before .before .before .before .before .before .is-single-put in
+    let if2 = c .before .before .before .before .before .before .before .if2 in
+    let run-put = c .before .before .before .before .run-put in
+    let s = is-single-put .ensures (start .args .entries .now) (if2 .taken) in written-run (callOf (start .args .call)) (start .args .seq) (itemsOf (start .args .items .now) (start .args .entries .now) (start .args .bytes .now)) (start .args .xs .now) (start .args .bs .now) _ _ _ (s .passes) (sym (s .unmarked)) (run-put .ensures)
 
 check-requires : tie.Need-check-requires
 check-requires c κs = search needs
@@ -50,33 +80,33 @@ enum-told c = search needs
 run-checked-requires : tie.Need-run-checked-requires
 unfolding checkedAs
 run-checked-requires c κs =
-    let start = c .before .before .before .before .before .before .before .before .before .before .before .before in
+    let start = c .before .before .before .before .before .before .before .before .before .before .before .before .before .before in
     let check = c .before .before .before .before .check in
     let enum-told = c .before .before .enum-told in
     (start .pre .0, (sym (rw (enum-told .given .1) at (check .ensures)), start .pre .1))
 
-returns-2 : tie.Need-returns-2
+returns-3 : tie.Need-returns-3
 unfolding checkedAs
-returns-2 c =
-    let start = c .before .before .before .before .before .before .before .before .before .before .before in
+returns-3 c =
+    let start = c .before .before .before .before .before .before .before .before .before .before .before .before .before in
     let check = c .before .before .before .check in
     let answer = c .before .answer in
     written-refused (callOf (start .args .call)) (start .args .seq) (itemsOf (start .args .items .now) (start .args .entries .now) (start .args .bytes .now)) (start .args .xs .now) (start .args .bs .now) _ _ (start .pre .0) (rw (answer .given .1) at (check .ensures))
 
-same-length-3 : tie.Need-same-length-3
-same-length-3 c =
-    let start = c .before .before .before .before .before .before .before .before .before .before .before .before .before .before .before .before .before in
+same-length-5 : tie.Need-same-length-5
+same-length-5 c =
+    let start = c .before .before .before .before .before .before .before .before .before .before .before .before .before .before .before .before .before .before .before in
     let run-checked = c .before .before .before .before .run-checked in
     same-lengths (area-length _ _ (run-checked .ensures .formed)) (area-length _ _ (start .pre .0))
 
-same-length-4 : tie.Need-same-length-4
-same-length-4 c =
-    let start = c .before .before .before .before .before .before .before .before .before .before .before .before .before .before .before .before .before in
+same-length-6 : tie.Need-same-length-6
+same-length-6 c =
+    let start = c .before .before .before .before .before .before .before .before .before .before .before .before .before .before .before .before .before .before .before in
     let run-checked = c .before .before .before .before .run-checked in
     same-lengths (area-bytes _ _ (run-checked .ensures .formed)) (area-bytes _ _ (start .pre .0))
 
-returns-3 : tie.Need-returns-3
-returns-3 c =
+returns-4 : tie.Need-returns-4
+returns-4 c =
     let run-checked = c .before .before .before .before .run-checked in
     run-checked .ensures
 
@@ -85,15 +115,20 @@ write-spec =
     tie.close
     (tie.spec
     is-single-list-requires
-    lay-single-requires
+    run-list-requires
     same-length
     same-length-2
     returns
+    is-single-put-requires
+    run-put-requires
+    same-length-3
+    same-length-4
+    returns-2
     check-requires
     enum-known-answer
     enum-told
     run-checked-requires
-    returns-2
-    same-length-3
-    same-length-4
-    returns-3)
+    returns-3
+    same-length-5
+    same-length-6
+    returns-4)
