@@ -1,22 +1,19 @@
 -- The live calls of a batch: the wrong kind, and a batch that is written. Assumes nothing.
 use mathlib.Core.Bool.{true, false, _&&_}
 use mathlib.Core.List.{List}
-use mathlib.Core.Option.{none, some}
 use mathlib.Core.Path.{_≡_, refl, sym, ap, _∙_}
 use Prim.Native.Nat.{ℕ, _-_, _<_}
 use native.Mathlib.Omega.{arith}
 use lib.ListN.{length, getD, take, drop}
 use borrow.Rule.Slice.PartAt.{part-to-end}
-use Rattle.maps.specs.Lists.{orElse}
 use Rattle.rules.specs.Causes.{Refusal, Result, ok, refused, left}
-use Rattle.rules.specs.Items.{FileId, Append, Rewrite, sameQueue, placedFrom, Batch, Call, replayAppend, liveAppend, liveRewrite}
-use Rattle.rules.specs.Checks.{checks}
-use Rattle.rules.specs.Context.{Context, Kind, isContext, isIndex, withGroups, withWaiting, limited, run}
-use Rattle.rules.specs.Calls.{checked, runBatch, replayBatch, replay, write, append, rewrite}
+use Rattle.rules.specs.Items.{FileId, Append, Rewrite, sameQueue, Batch, Call, liveAppend, liveRewrite}
+use Rattle.rules.specs.Context.{Context, Kind, isIndex, withGroups, withWaiting}
+use Rattle.rules.specs.Calls.{checked, runBatch, write, append, rewrite}
 use Rattle.rules_by_group.specs.Kept.{Kept}
 use Rattle.rules_by_group.specs.ResultLaws.{refused-not-ok}
-use Rattle.rules_by_group.specs.KeptLaws.{replay-kept, append-kept, rewrite-kept}
-use Rattle.log_batch.specs.Lent.{itemsOf, batchOf}
+use Rattle.rules_by_group.specs.KeptLaws.{append-kept, rewrite-kept}
+use Rattle.log_batch.specs.Lent.{batchOf}
 use Rattle.lists.specs.Rest.{kindOf}
 use Rattle.lists.specs.Laws.{rest-kind}
 use Rattle.contexts.specs.declared.Answer.{Answer}

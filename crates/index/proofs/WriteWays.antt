@@ -1,9 +1,9 @@
 -- A batch that is checked and then carried out: refused by the checks, with its items in order, and as a marked batch; and what it is
 -- in the rules of each call. Assumes nothing.
-use mathlib.Core.Bool.{true, false}
+use mathlib.Core.Bool.{false}
 use mathlib.Core.List.{List}
 use mathlib.Core.Option.{none, some, Option·some-ne-none}
-use mathlib.Core.Path.{_≡_, refl, sym, _∙_}
+use mathlib.Core.Path.{_≡_, refl}
 use Prim.Native.Nat.{ℕ}
 use Rattle.maps.specs.Lists.{orElse}
 use Rattle.rules.specs.Items.{FileId, Rewrite, LogItem, placedFrom, Call, replayAppend, replayRewrite, liveAppend, liveRewrite}
@@ -17,7 +17,7 @@ use Rattle.log_batch.specs.Judged.{markFor}
 use Rattle.contexts.specs.declared.Answer.{Answer}
 use Rattle.contexts.specs.declared.Answer.the-variants as answer
 use Rattle.contexts.specs.declared.Position.the-variants as position
-use Rattle.contexts.specs.Contexts.{contextOf, Formed, answerAs, positionOf, Answered}
+use Rattle.contexts.specs.Contexts.{Formed, answerAs, positionOf, Answered}
 use Rattle.index.specs.Runs.{Keeping}
 use Rattle.index.specs.Writes.{written}
 use Rattle.index.proofs.CallLaws.{refused-answered, same-answered, writes-it}

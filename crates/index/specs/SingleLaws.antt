@@ -3,10 +3,10 @@ use mathlib.Core.Bool.{Bool, true, false, cond, not, _&&_}
 use mathlib.Core.List.{List, [], _∷_}
 use mathlib.Core.Option.{Option, none, some}
 use mathlib.Core.Path.{_≡_, refl, sym, ap, _∙_}
-use Prim.Native.Nat.{ℕ, _+_, _*_, _/_, _≤_, _<_}
+use Prim.Native.Nat.{ℕ, _+_, _/_, _≤_}
 use native.Mathlib.Omega.{arith}
-use lib.Dec.{eqb, leb, ltb}
-use lib.ListN.{length, getD, drop}
+use lib.Dec.{leb}
+use lib.ListN.{length, getD}
 use borrow.Author.Tests.{eq-eqb, leb-true, le-leb, le-ltb}
 use Rattle.cells.specs.Part.{part}
 use Rattle.cells.specs.PartLaws.{length-part}
@@ -24,7 +24,7 @@ use Rattle.rules.specs.Context.{Context, withGroups, keeps, limited, run}
 use Rattle.log_batch.specs.declared.causes.Call as call
 use Rattle.log_batch.specs.declared.item.KeyFile as file
 use Rattle.log_batch.specs.declared.item.LogItem as lent
-use Rattle.log_batch.specs.declared.open.Opened.{Opened, the-variants.Item}
+use Rattle.log_batch.specs.declared.open.Opened.{the-variants.Item}
 use Rattle.log_batch.specs.Lent.{rowCount, itemIf, valueFits, valueAt, fileAt, openedEntries, openedPut, openedRow, valueOf, keyFileOf, changeOf, keyChange, keyContent, contentOf, itemOf, itemAt, itemsFrom, itemsOf}
 use Rattle.log_batch.specs.OpenLaws.{item-opened, length-entries}
 use Rattle.log_batch.specs.Judged.{callOf, markFor, leastContent, leastMark, leastOf, lesserOf}
@@ -53,7 +53,7 @@ use Rattle.index.specs.Steps.{addsTombstone, addsCleaned, oneMoreIf, gro
 use Rattle.index.specs.Acts.{deedOn, BehindKept}
 use Rattle.index.specs.ActLaws.{done-not-refused}
 use Rattle.index.specs.ItemLaws.{step-room}
-use Rattle.index.specs.Runs.{ItemReady, outcomeAt}
+use Rattle.index.specs.Runs.{ItemReady}
 use Rattle.index.specs.RunLaws.{room-stays, rest-wf, behind-context}
 use Rattle.index.specs.BatchLaws.{opened-ready, runFrom, run-start, run-end, run-done, run-refused}
 use Rattle.index.specs.Singles.{listItem, putItem, AddsNothing, Single, ActedAlone, Alone, answerOf}

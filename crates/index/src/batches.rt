@@ -1,8 +1,8 @@
 // A batch on an area: its items in order, and back to where it began if one is refused.
 ghost use mathlib.Core.Option.{none};
 ghost use mathlib.Core.Path.{_≡_};
-ghost use Prim.Native.Nat.{_<_, _≤_, _*_};
-ghost use lib.ListN.{length, getD, drop};
+ghost use Prim.Native.Nat.{_<_, _*_};
+ghost use lib.ListN.{drop};
 ghost use Rattle.rules.specs.Items.{placedFrom};
 ghost use Rattle.rules.specs.Checks.{checks};
 ghost use Rattle.rules.specs.Context.{limited, run};

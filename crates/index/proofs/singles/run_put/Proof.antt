@@ -1,6 +1,5 @@
 -- `index::singles::run_put` meets its contract. Assumes nothing.
 use Rattle.log_batch.specs.Judged.{callOf}
-use Rattle.contexts.specs.AreaLaws.{area-length, area-bytes, same-lengths}
 use Rattle.index.specs.OwnLaws.{keeping-table}
 use Rattle.index.specs.CarryLaws.{does-ready}
 use Rattle.index.specs.Singles.{putItem}
