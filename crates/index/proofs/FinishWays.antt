@@ -30,8 +30,8 @@ use Rattle.contexts.specs.declared.Answer.the-variants as answer
 use Rattle.contexts.specs.declared.Position.{Position}
 use Rattle.contexts.specs.Contexts.{waitingNumbers, waitingBytes, contextOf, Formed, Answered}
 use Rattle.contexts.specs.AreaLaws.{area-length, area-bytes}
-use Rattle.index.specs.Runs.{Going}
-use Rattle.index.specs.BatchLaws.{begun-going}
+use Rattle.batches.specs.Runs.{Going}
+use Rattle.batches.specs.BatchLaws.{begun-going}
 use Rattle.index.specs.Finishes.{waitingCount, storedFrom, finishStored, AnsweredKept, TookWaiting}
 use Rattle.index.specs.MarkedLaws.{passed-so, marked-refused, marked-finished, count-above, took-waiting}
 use Rattle.index.specs.Accepting.{AcceptedIn}

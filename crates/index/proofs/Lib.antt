@@ -1,6 +1,4 @@
 -- The laws that the functions' proofs cite.
-pub mod GrowthLaws
-pub mod BatchWays
 pub mod CallLaws
 pub mod StoredWays
 pub mod SpanWays

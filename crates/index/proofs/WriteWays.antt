@@ -18,7 +18,7 @@ use Rattle.contexts.specs.declared.Answer.{Answer}
 use Rattle.contexts.specs.declared.Answer.the-variants as answer
 use Rattle.contexts.specs.declared.Position.the-variants as position
 use Rattle.contexts.specs.Contexts.{Formed, answerAs, positionOf, Answered}
-use Rattle.index.specs.Runs.{Keeping}
+use Rattle.batches.specs.Runs.{Keeping}
 use Rattle.index.specs.Writes.{written}
 use Rattle.index.proofs.CallLaws.{refused-answered, same-answered, writes-it}
 

@@ -20,8 +20,8 @@ use Rattle.contexts.specs.declared.Answer.the-variants as answer
 use Rattle.contexts.specs.declared.Position.{Position}
 use Rattle.contexts.specs.Contexts.{contextOf, answerAs, Formed, RoomKept}
 use Rattle.contexts.specs.AreaLaws.{room-then, room-all, context-fits}
-use Rattle.index.specs.Runs.{Going, WentBack}
-use Rattle.index.specs.BatchLaws.{going-on}
+use Rattle.batches.specs.Runs.{Going, WentBack}
+use Rattle.batches.specs.BatchLaws.{going-on}
 use Rattle.index.specs.WaitsLaws.{plain, run-fits, run-plain}
 use Rattle.index.specs.Finishes.{storedFrom, runStored, Ran, HasAny, Ended, AnsweredKept, bothItems, finishStored, bothRun}
 use Rattle.index.specs.StoredLaws.{back-then, stored-same}

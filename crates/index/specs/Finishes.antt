@@ -26,7 +26,7 @@ use Rattle.contexts.specs.declared.Answer.{Answer}
 use Rattle.contexts.specs.declared.Answer.the-variants as answer
 use Rattle.contexts.specs.declared.Position.{Position}
 use Rattle.contexts.specs.Contexts.{waitingNumbers, waitingBytes, contextOf, answerAs, Formed, RoomKept, Answered}
-use Rattle.index.specs.Runs.{Keeping, outcomeAt, BackKept}
+use Rattle.batches.specs.Runs.{Keeping, outcomeAt, BackKept}
 use Rattle.index.specs.WaitsLaws.{plain}
 
 -- how many items wait in an area

@@ -27,9 +27,9 @@ use Rattle.contexts.specs.declared.Answer.the-variants as answer
 use Rattle.contexts.specs.declared.Position.the-variants as position
 use Rattle.contexts.specs.Contexts.{contextOf, answerAs, positionOf, Formed}
 use Rattle.contexts.specs.AreaLaws.{room-wf, context-fits}
-use Rattle.index.specs.Steps.{groupsFit, groups-fit, fits-groups, fits-inserted, limited-by}
-use Rattle.index.specs.Acts.{BehindKept, Acted}
-use Rattle.index.specs.RunLaws.{lists-stay, room-stays, rest-wf, behind-context}
+use Rattle.batches.specs.Steps.{groupsFit, groups-fit, fits-groups, fits-inserted, limited-by}
+use Rattle.batches.specs.Acts.{BehindKept, Acted}
+use Rattle.batches.specs.RunLaws.{lists-stay, room-stays, rest-wf, behind-context}
 use Rattle.index.specs.Finishes.{Ended, SpannedGroup}
 
 -- ---- the rules

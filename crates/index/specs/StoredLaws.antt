@@ -35,9 +35,9 @@ use Rattle.contexts.specs.declared.Answer.the-variants as answer
 use Rattle.contexts.specs.declared.Position.the-variants as position
 use Rattle.contexts.specs.Contexts.{waitingNumbers, waitingBytes, contextOf, answerAs, positionOf, Formed, RoomKept}
 use Rattle.contexts.specs.AreaLaws.{room-all, room-then}
-use Rattle.index.specs.Runs.{ItemReady, Keeping, outcomeAt, BackKept, Stepped}
-use Rattle.index.specs.OwnLaws.{keeping-step, item-clear}
-use Rattle.index.specs.BatchLaws.{runFrom, run-start, run-end, run-done, run-refused}
+use Rattle.batches.specs.Runs.{ItemReady, Keeping, outcomeAt, BackKept, Stepped}
+use Rattle.batches.specs.OwnLaws.{keeping-step, item-clear}
+use Rattle.batches.specs.BatchLaws.{runFrom, run-start, run-end, run-done, run-refused}
 use Rattle.index.specs.Finishes.{waitingCount, storedFrom, runStored, TurnedFrom, Ran, HasAny}
 
 -- ---- the way back

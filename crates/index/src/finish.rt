@@ -21,15 +21,15 @@ ghost use Rattle.waiting.specs.Batches.{unmarked};
 ghost use Rattle.waiting.specs.Parts.{partFor};
 ghost use Rattle.waiting.specs.Accepts.{tagged, headIn, Finishing};
 ghost use Rattle.contexts.specs.Contexts.{waitingNumbers, waitingBytes, contextOf, Formed, Answered};
-ghost use Rattle.index.specs.Runs.{Keeping};
+ghost use Rattle.batches.specs.Runs.{Keeping};
 ghost use Rattle.index.specs.Finishes.{waitingCount, storedFrom, HasAny, bothItems, bothRun, Ended, finishStored, AnsweredKept, TookWaiting};
 use crate::WAITING_AT;
 use crate::WAITING_BYTES_AT;
-use crate::batches::go_back;
 use crate::spans::set_span;
 use crate::stored::holds_any;
 use crate::stored::run_own;
 use crate::stored::run_stored;
+use batches::go_back;
 use contexts::Answer;
 use log_batch::mark::Mark;
 

@@ -1,13 +1,8 @@
 // The accessor of groups, recovery and live writes (src/memtable.rs): contexts and the index over lent areas.
-mod acts;
-mod batches;
 mod calls;
 mod finish;
-mod growth;
-mod items;
 mod marked;
 mod replays;
-mod singles;
 mod spans;
 mod stored;
 mod writes;
@@ -19,6 +14,8 @@ pub use contexts::BYTES;
 pub use contexts::NUMBERS;
 pub use contexts::Position;
 pub use contexts::fresh;
+pub use merging::join;
+pub use merging::merge;
 pub use queries::Counted;
 pub use queries::Fetched;
 pub use queries::FoundEntry;

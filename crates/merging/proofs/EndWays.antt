@@ -22,7 +22,7 @@ use Rattle.lists.specs.Laws.{lengths}
 use Rattle.contexts.specs.Contexts.{restAt, contextOf, Wf}
 use Rattle.worktable.specs.declared.Mode.{Mode}
 use Rattle.worktable.specs.declared.Mode.the-variants as mode
-use Rattle.merging.specs.Modes.{restBy, clashBy, countsFit, countsOf, Few, Plain}
+use Rattle.staging.specs.Modes.{restBy, clashBy, countsFit, countsOf, Few, Plain}
 
 -- ---- the refusal of a group
 

@@ -31,13 +31,13 @@ use Rattle.contexts.specs.Contexts.{restAt, contextOf, RoomKept, Wf, answerAs, 
 use Rattle.contexts.specs.AreaLaws.{formed-of, area-length, area-bytes, behind-room, room-waiting, room-wf, answered-called}
 use Rattle.worktable.specs.declared.Mode.{Mode}
 use Rattle.worktable.specs.declared.Mode.the-variants as mode
-use Rattle.merging.specs.declared.Flags.{Flags}
-use Rattle.merging.specs.Staging.{noFlags, stagedIn, Ready, Beside, Staging, Begun, Sealed}
-use Rattle.merging.specs.StagingLaws.{begun-staged, begun-ready, begun-beside, sealed-beside, sealed-groups}
-use Rattle.merging.specs.Modes.{olderKind, newerKind, restBy, callBy, groupBy, countsFit, countsOf, Given, Plain, Worked, numberAt, firsts}
-use Rattle.merging.specs.ModeLaws.{beside-context, beside-wf, beside-given, call-kept, answered-clashed, answered-passed, answered-ok}
+use Rattle.staging.specs.declared.Flags.{Flags}
+use Rattle.staging.specs.Staging.{noFlags, stagedIn, Ready, Beside, Staging, Begun, Sealed}
+use Rattle.staging.specs.StagingLaws.{begun-staged, begun-ready, begun-beside, sealed-beside, sealed-groups}
+use Rattle.staging.specs.Modes.{olderKind, newerKind, restBy, callBy, groupBy, countsFit, countsOf, Given, Plain, Worked, numberAt, firsts}
+use Rattle.staging.specs.ModeLaws.{beside-context, beside-wf, beside-given, call-kept, answered-clashed, answered-passed, answered-ok}
 use Rattle.merging.specs.Growth.{Growable, Waitable, RestBecomes, Taken}
-use Rattle.merging.proofs.CoverLaws.{places-cover}
+use Rattle.staging.specs.CoverLaws.{places-cover}
 use Rattle.merging.proofs.EndWays.{merged-by}
 
 -- ---- the staged groups become the groups

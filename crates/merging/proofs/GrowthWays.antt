@@ -21,7 +21,7 @@ use Rattle.contexts.specs.Contexts.{waitingNumbers, waitingBytes, restAt, conte
 use Rattle.contexts.specs.AreaLaws.{before-back, behind-back, lists-room, room-waiting, room-wf}
 use Rattle.worktable.specs.declared.Mode.{Mode}
 use Rattle.worktable.specs.declared.Mode.the-variants as mode
-use Rattle.merging.specs.Modes.{restBy, countsFit, countsOf}
+use Rattle.staging.specs.Modes.{restBy, countsFit, countsOf}
 use Rattle.merging.specs.Growth.{ListsBecome, mergedLists, Mergeable, Grown, Growable, RestBecomes}
 
 -- ---- the lists

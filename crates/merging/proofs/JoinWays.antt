@@ -22,7 +22,7 @@ use Rattle.contexts.specs.Contexts.{restAt, contextOf}
 use Rattle.contexts.specs.AreaLaws.{before-back, behind-back, lists-room, none-wait}
 use Rattle.worktable.specs.declared.Mode.{Mode}
 use Rattle.worktable.specs.declared.Mode.the-variants as mode
-use Rattle.merging.specs.Modes.{restBy, countsFit, countsOf}
+use Rattle.staging.specs.Modes.{restBy, countsFit, countsOf}
 use Rattle.merging.specs.Growth.{ListsBecome, joinedLists, Growable, RestBecomes}
 
 -- ---- the lists

@@ -29,7 +29,7 @@ use Rattle.contexts.specs.Contexts.{waitingNumbers, waitingBytes, restAt, conte
 use Rattle.contexts.specs.AreaLaws.{room-waiting}
 use Rattle.worktable.specs.declared.Mode.the-variants as mode
 use Rattle.parts.specs.Takings.{PartsTaken}
-use Rattle.merging.specs.Modes.{countsFit, countsOf}
+use Rattle.staging.specs.Modes.{countsFit, countsOf}
 use Rattle.merging.specs.Growth.{mergedLists, Mergeable, Grown, keptBehind, Waitable, RestBecomes}
 use Rattle.merging.proofs.EndWays.{merged-by, both-tombstones, merged-fits}
 use Rattle.merging.proofs.GrowthWays.{join-numbers, grown-bytes, lent-grown, grown-room}

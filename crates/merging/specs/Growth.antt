@@ -16,7 +16,7 @@ use Rattle.lists.specs.Calls.{Behind}
 use Rattle.waiting.specs.Layout.{waitingOf, RoomWf, ContextRoom}
 use Rattle.contexts.specs.Contexts.{waitingNumbers, waitingBytes, restAt, contextOf, Formed}
 use Rattle.worktable.specs.declared.Mode.{Mode}
-use Rattle.merging.specs.Modes.{countsFit, countsOf}
+use Rattle.staging.specs.Modes.{countsFit, countsOf}
 
 -- ---- the lists
 

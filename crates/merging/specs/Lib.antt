@@ -1,11 +1,2 @@
--- Merge and join over areas: the groups that are staged, what the functions promise, and the laws.
-pub mod Staging
-pub mod StagingLaws
-pub mod Modes
-pub mod ModeLaws
-pub mod TombLaws
-pub mod Works
-pub mod WorkLaws
+-- The end of a merge or join over areas: what the functions promise.
 pub mod Growth
-pub mod Replays
-pub mod Finishings

@@ -2,7 +2,7 @@
 ghost use mathlib.Core.Path.{_≡_};
 ghost use lib.ListN.{length, drop};
 ghost use Rattle.rules.specs.Causes.{numberOf};
-ghost use Rattle.merging.specs.Modes.{clashBy, countsFit, countsOf, Few};
+ghost use Rattle.staging.specs.Modes.{clashBy, countsFit, countsOf, Few};
 use contexts::Answer;
 use contexts::Position;
 use lists::Counts;

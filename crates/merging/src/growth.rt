@@ -6,7 +6,7 @@ ghost use lib.ListN.{length, getD, drop};
 ghost use Rattle.rules_by_group.specs.Stage.{joinedRest};
 ghost use Rattle.lists.specs.Rest.{Wf};
 ghost use Rattle.contexts.specs.Contexts.{restAt, contextOf};
-ghost use Rattle.merging.specs.Modes.{restBy};
+ghost use Rattle.staging.specs.Modes.{restBy};
 ghost use Rattle.merging.specs.Growth.{ListsBecome, mergedLists, joinedLists, Mergeable, Grown, Growable, RestBecomes};
 use contexts::WAITING_FROM;
 use contexts::WAITING_TO;

@@ -27,5 +27,5 @@ pub fn merge(xs: &mut [u64], bs: &mut [u8], ys: &[u64], cs: &[u8]) -> Answer
     requires { ⌜ AppendArea (now ys) (now cs) ⌝ }
     ensures { λ r. ⌜ Called (rules·calls.merge (contextOf (now (ys .entry)) (now (cs .entry)))) (now (xs .entry)) (now (bs .entry)) r (now (xs .exit)) (now (bs .exit)) ⌝ }
 {
-    merging::merge_append(xs, bs, ys, cs)
+    index::merge(xs, bs, ys, cs)
 }

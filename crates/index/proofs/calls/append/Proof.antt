@@ -6,7 +6,7 @@ use borrow.Rule.Slice.PartAt.{part-to-end}
 use Rattle.rules.specs.Checks.{isRewriteReplay}
 use Rattle.log_batch.specs.Judged.{callOf}
 use Rattle.contexts.specs.AreaLaws.{formed-of}
-use Rattle.index.specs.OwnLaws.{keeping-other}
+use Rattle.batches.specs.OwnLaws.{keeping-other}
 use Rattle.index.proofs.CallLaws.{zero-below, append-wrong, append-right}
 use Rattle.index.proofs.WriteWays.{plain-written}
 use borrow.Author.Needs.{needs}

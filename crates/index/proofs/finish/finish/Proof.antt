@@ -2,7 +2,7 @@
 use borrow.Author.Needs.{needs}
 use native.Mathlib.Omega.{arith}
 use Rattle.contexts.specs.AreaLaws.{area-length}
-use Rattle.index.specs.OwnLaws.{keeping-rewrite}
+use Rattle.batches.specs.OwnLaws.{keeping-rewrite}
 use Rattle.index.proofs.FinishWays.{finish-passed, finish-refused, finish-asks, finish-cell, finish-taken}
 use Rattle.index.proofs.finish.finish.Statement.{statement}
 use Rattle.index.proofs.finish.finish.Tie as tie

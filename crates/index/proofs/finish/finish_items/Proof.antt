@@ -2,7 +2,7 @@
 use borrow.Rule.Slice.PartAt.{part-to-end}
 use borrow.Author.Tests.{not-true, not-false}
 use Rattle.contexts.specs.AreaLaws.{area-length, same-lengths}
-use Rattle.index.specs.BatchLaws.{begun-room, begun-formed, begun-context}
+use Rattle.batches.specs.BatchLaws.{begun-room, begun-formed, begun-context}
 use Rattle.index.specs.StoredLaws.{stored-same}
 use Rattle.index.specs.FinishLaws.{ends-none, ends-back, ends-refused, ends-done}
 use Rattle.index.proofs.FinishWays.{room-most, finish-going}

@@ -6,7 +6,7 @@ use borrow.Rule.Slice.PartAt.{part-to-end}
 use Rattle.rules.specs.Checks.{isRewriteReplay}
 use Rattle.log_batch.specs.Judged.{callOf}
 use Rattle.contexts.specs.AreaLaws.{formed-of, area-length, area-bytes, same-lengths}
-use Rattle.index.specs.OwnLaws.{keeping-other, keeping-rewrite}
+use Rattle.batches.specs.OwnLaws.{keeping-other, keeping-rewrite}
 use Rattle.index.proofs.CallLaws.{zero-below}
 use Rattle.index.proofs.WriteWays.{plain-written, replay-written}
 use Rattle.index.proofs.ReplayWays.{replay-wrong-kind, replay-append-queue, replay-rewrite-queue, rewrite-kept}

@@ -3,7 +3,7 @@ use mathlib.Core.Bool.{false}
 use Rattle.stretch.specs.declared.Change.the-variants.{Make}
 use Rattle.stretch.specs.Changes.{ruleOf, Ready}
 use Rattle.groups.specs.Undo.{ReadyFor}
-use Rattle.index.specs.ActLaws.{secured-by, found-still, acted-change}
+use Rattle.batches.specs.ActLaws.{secured-by, found-still, acted-change}
 use Rattle.index.specs.SpanLaws.{making}
 use borrow.Author.Needs.{needs}
 use Rattle.index.proofs.spans.make_group.Statement.{statement}

@@ -2,7 +2,7 @@
 use mathlib.Core.Path.{sym, _∙_}
 use borrow.Author.Tests.{not-true, not-false}
 use Rattle.contexts.specs.AreaLaws.{formed-of, area-length}
-use Rattle.merging.specs.ModeLaws.{worked-answer}
+use Rattle.staging.specs.ModeLaws.{worked-answer}
 use Rattle.merging.proofs.EndWays.{few-counts, rest-fits}
 use Rattle.merging.proofs.FinishWays.{finish-clashed, finish-passed, finish-over, finish-taken}
 use borrow.Author.Needs.{needs}

@@ -1,5 +1,5 @@
 -- `merging::calls::take_staged` meets its contract. Assumes nothing.
-use Rattle.merging.specs.StagingLaws.{sealed-undoable}
+use Rattle.staging.specs.StagingLaws.{sealed-undoable}
 use Rattle.merging.proofs.FinishWays.{sealed-wf, undone-growable, undone-rest, staged-taken}
 use borrow.Author.Needs.{needs}
 use Rattle.merging.proofs.calls.take_staged.Statement.{statement}

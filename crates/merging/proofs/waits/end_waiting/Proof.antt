@@ -1,7 +1,7 @@
 -- `merging::waits::end_waiting` meets its contract. Assumes nothing.
 use mathlib.Core.Path.{refl, sym, _∙_}
 use borrow.Author.Tests.{not-true, not-false}
-use Rattle.merging.specs.ModeLaws.{waits-answer}
+use Rattle.staging.specs.ModeLaws.{waits-answer}
 use Rattle.merging.proofs.EndWays.{clash-rewrite}
 use Rattle.merging.proofs.FinishWays.{finish-clashed, finish-passed, finish-over, finish-taken}
 use borrow.Author.Needs.{needs}

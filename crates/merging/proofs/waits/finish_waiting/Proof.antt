@@ -2,7 +2,7 @@
 use mathlib.Core.Path.{refl}
 use borrow.Author.Tests.{not-true, not-false}
 use Rattle.rules.specs.Causes.{filesGoBack}
-use Rattle.merging.specs.ModeLaws.{waits-back}
+use Rattle.staging.specs.ModeLaws.{waits-back}
 use Rattle.merging.proofs.FinishWays.{refused-with}
 use Rattle.merging.proofs.WaitWays.{parts-back, parts-wait}
 use borrow.Author.Needs.{needs}

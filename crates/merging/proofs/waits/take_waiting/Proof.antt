@@ -1,5 +1,5 @@
 -- `merging::waits::take_waiting` meets its contract. Assumes nothing.
-use Rattle.merging.specs.StagingLaws.{sealed-undoable}
+use Rattle.staging.specs.StagingLaws.{sealed-undoable}
 use Rattle.merging.proofs.FinishWays.{sealed-wf, undone-waitable, undone-merged, staged-taken}
 use borrow.Author.Needs.{needs}
 use Rattle.merging.proofs.waits.take_waiting.Statement.{statement}

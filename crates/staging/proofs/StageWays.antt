@@ -1,0 +1,108 @@
+-- How the work on a group is taken into the staged groups. Assumes nothing.
+use mathlib.Core.Bool.{true, false}
+use mathlib.Core.List.{List, [], _∷_}
+use mathlib.Core.Option.{Option, none, some}
+use mathlib.Core.Path.{_≡_, refl, sym, ap, _∙_}
+use Prim.Native.Nat.{ℕ, _-_, _<_}
+use native.Mathlib.Omega.{arith}
+use lib.ListN.{length, take, drop}
+use borrow.Rule.Slice.PartAt.{part-to-end}
+use Rattle.maps.specs.Lists.{orElse}
+use Rattle.rules.specs.Causes.{Result, ok, refused}
+use Rattle.rules.specs.Table.{Table, made}
+use Rattle.rules.specs.Context.{tableFits}
+use Rattle.stretch.specs.declared.Outcome.{Outcome}
+use Rattle.stretch.specs.declared.Outcome.the-variants.{Done, Refused}
+use Rattle.stretch.specs.Stretch.{isUsed, tableAt}
+use Rattle.groups.specs.declared.Slot.the-variants.{Free, Full}
+use Rattle.groups.specs.Area.{slots, Found, FreeSlot, NoSlot}
+use Rattle.groups.specs.Laws.{found-free, found-full}
+use Rattle.worktable.specs.Work.{longKeysAt, workIn}
+use Rattle.worktable.specs.Work as work
+use Rattle.worktable.specs.WorkLaws.{work-some, work-none}
+use Rattle.worktable.specs.Calls.{Ends}
+use Rattle.worktable.specs.Moves as moves
+use Rattle.staging.specs.declared.Flags.{Flags}
+use Rattle.staging.specs.Staging.{Ready, Staging}
+use Rattle.staging.proofs.Settling.{settled-none, settled-clashed, settled-large, settled-full, settled-put}
+use Rattle.staging.proofs.WorkWays.{long-is}
+
+-- ---- how the work ended
+
+ends-refused : (x : Result (Option Table)) (o : Outcome) (n : ℕ) (p b : List ℕ) → o ≡ Refused n → Ends x o p b → x ≡ refused (record { number = n; place = none })
+ends-refused x o n p b e d = sym (rw e at (d .rule))
+
+ends-done : (x : Result (Option Table)) (o : Outcome) (p b : List ℕ) → o ≡ Done → Ends x o p b → x ≡ ok (workIn p b)
+ends-done x o p b e d = sym (rw e at (d .rule))
+
+pub found-inside : (g k : ℕ) (xs : List ℕ) → Found g xs (Free k) → k < slots
+found-inside g k xs f = found-free g k xs (Free k) f refl .inside
+
+-- the area's long stretch, as it is lent
+pub lent-used : (xs : List ℕ) (b : _) → b ≡ isUsed (take (length xs - 13509) (drop 13509 xs)) → b ≡ isUsed (drop 13509 xs)
+lent-used xs b e = rw (part-to-end xs 13509) at e
+
+made-some : (t : Table) → made (some t) ≡ t
+unfolding made orElse
+made-some t = refl
+
+module _ (at : ℕ → Result (Option Table)) (g : ℕ) (f : Flags) (xs bs : List ℕ) (r : Ready xs bs) where
+  abbrev p : List ℕ
+  p = drop 13509 xs
+
+  abbrev b : List ℕ
+  b = drop 28672 bs
+
+  -- ---- a spare stretch is free
+
+  module _ (k : ℕ) (found : Found g (drop 4688 xs) (Free k)) where
+    free : FreeSlot g (drop 4688 xs) k
+    free = found-free g k (drop 4688 xs) (Free k) found refl
+
+    pub free-clashed : (o : Outcome) (n : ℕ) → o ≡ Refused n → Ends (at g) o p b → Staging at (g ∷ []) f xs bs (record { clashed = true; passed = f .passed }) xs bs
+    free-clashed o n e d = settled-clashed at g f xs bs r (free .absent) _ (ends-refused (at g) o n p b e d)
+
+    pub free-none : (o : Outcome) → o ≡ Done → isUsed p ≡ false → Ends (at g) o p b → Staging at (g ∷ []) f xs bs f xs bs
+    free-none o e u d = settled-none at g f xs bs r (free .absent) (ends-done (at g) o p b e d ∙ ap ok (work-none p b u))
+
+    pub free-done : (o : Outcome) → o ≡ Done → Ends (at g) o p b → at g ≡ ok (workIn p b)
+    free-done o e d = ends-done (at g) o p b e d
+
+    module _ (u : isUsed p ≡ true) (e : at g ≡ ok (workIn p b)) where
+      abbrev t : Table
+      t = made (workIn p b)
+
+      is-some : workIn p b ≡ some t
+      is-some = let s = work-some p b u in s ∙ ap some (sym (ap made s ∙ made-some (tableAt longKeysAt p b)))
+
+      pub put-large : tableFits t ≡ false → Staging at (g ∷ []) f xs bs (record { clashed = f .clashed; passed = true }) xs bs
+      put-large n = settled-large at g f xs bs r (free .absent) t (e ∙ ap ok is-some) n
+
+      pub put-fits : tableFits t ≡ true → length xs ≡ 17231 → length bs ≡ 38912 → (xs′ bs′ : List ℕ) → moves.Unloaded k g xs bs xs′ bs′ → Staging at (g ∷ []) f xs bs f xs′ bs′
+      unfolding moves.longIn moves.longBytesIn
+      put-fits y n m xs′ bs′ l =
+          settled-put at g f xs bs r (free .absent) t (e ∙ ap ok is-some) k xs′ bs′ free y (l .cell ∙ rw (long-is 13509 3722 xs n, long-is 28672 10240 bs m)) (l .wf) (l .only)
+
+  -- ---- none is free
+
+  module _ (found : Found g (drop 4688 xs) Full) where
+    full : NoSlot g (drop 4688 xs)
+    full = found-full g (drop 4688 xs) Full found refl
+
+    pub full-clashed : (o : Outcome) (n : ℕ) → o ≡ Refused n → Ends (at g) o p b → Staging at (g ∷ []) f xs bs (record { clashed = true; passed = f .passed }) xs bs
+    full-clashed o n e d = settled-clashed at g f xs bs r (full .absent) _ (ends-refused (at g) o n p b e d)
+
+    pub full-none : (o : Outcome) → o ≡ Done → isUsed p ≡ false → Ends (at g) o p b → Staging at (g ∷ []) f xs bs f xs bs
+    full-none o e u d = settled-none at g f xs bs r (full .absent) (ends-done (at g) o p b e d ∙ ap ok (work-none p b u))
+
+    pub full-passed : (o : Outcome) → o ≡ Done → isUsed p ≡ true → Ends (at g) o p b → Staging at (g ∷ []) f xs bs (record { clashed = f .clashed; passed = true }) xs bs
+    full-passed o e u d = settled-full at g f xs bs r (full .absent) _ (ends-done (at g) o p b e d ∙ ap ok (work-some p b u)) full
+
+-- ---- what the work table asks to be put into a spare stretch
+
+pub work-fitting : (xs bs : List ℕ) → length xs ≡ 17231 → length bs ≡ 38912 → work.Wf (drop 13509 xs) (drop 28672 bs) → isUsed (drop 13509 xs) ≡ true → tableFits (made (workIn (drop 13509 xs) (drop 28672 bs))) ≡ true → moves.Fitting xs bs
+unfolding moves.longIn moves.longBytesIn
+work-fitting xs bs n m w u y =
+    let a = long-is 13509 3722 xs n in
+    let c = long-is 28672 10240 bs m in
+    record { wf = rw (a, c) w; used = rw a u; fits = rw (a, c) y }
