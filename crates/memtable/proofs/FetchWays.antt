@@ -1,7 +1,7 @@
 -- Each way through the fetches gives what its contract says. Assumes nothing.
 use mathlib.Core.Bool.{Bool, true, false, _&&_}
 use mathlib.Core.List.{List, _++_, append-nil}
-use mathlib.Core.Path.{_≡_, refl, sym, ap}
+use mathlib.Core.Path.{_≡_, sym, ap}
 use Prim.Native.Nat.{ℕ, _+_, _-_, _*_, _≤_, _<_}
 use native.Mathlib.Nat.{add-zero}
 use native.Mathlib.Omega.{arith}
@@ -13,18 +13,15 @@ use Rattle.pipe_log.specs.declared.Bound.{Bound}
 use Rattle.pipe_log.specs.declared.Bound.the-variants as size
 use Rattle.pipe_log.specs.Numbers.{boundOf}
 use Rattle.pipe_log.specs.Rows.{withIndex, window}
-use Rattle.rules.specs.Causes.{Result, ok, refuse, andThen, entryCompacted, entryNotFound}
+use Rattle.rules.specs.Causes.{ok}
 use Rattle.rules.specs.Items.{EntryIndex}
 use Rattle.rules.specs.Table.{firstIndex}
 use Rattle.rules.specs.TableQueries.{within, sized, fetchEntriesTo, fetchEntryIndexesBefore, fetchRewrittenEntryIndexes}
 use Rattle.maps.specs.BoolLaws.{and-false}
 use Rattle.memtable.specs.declared.Head.{Head}
-use Rattle.memtable.specs.declared.Fetched.{Fetched}
-use Rattle.memtable.specs.declared.Fetched.the-variants as answer
-use Rattle.memtable.specs.declared.Range.{Range, the-variants.Rows, the-variants.EntryCompacted, the-variants.EntryNotFound}
 use Rattle.memtable.specs.Views.{tableOf, rowAt, AnyRows, Wf}
-use Rattle.memtable.specs.Columns.{Columns, judged, columnsAfter, Answered}
-use Rattle.memtable.specs.Fetches.{entriesAt, rangeOf, RangeAnswer}
+use Rattle.memtable.specs.declared.Range.{the-variants.Rows, the-variants.EntryCompacted, the-variants.EntryNotFound}
+use Rattle.memtable.specs.Fetches.{entriesAt, RangeAnswer}
 use Rattle.memtable.specs.Scans.{countBefore, sizeCount}
 use Rattle.memtable.specs.ListLaws.{select-append, select-all, select-none}
 use Rattle.memtable.specs.RowLaws.{held-row, any-drop}
@@ -155,20 +152,3 @@ module _ (h : Head) (xs : List ℕ) (w : Wf h xs) where
   unfolding fetchRewrittenEntryIndexes tableOf entriesAt
   range-rewritten =
       record { rule = λ keys counted. rw (select-rewrite h xs w, add-zero (h .«first_index»)); within = omega arith }
-
--- ---- the fetches
-
-pub answered-by : {a b : Result (List EntryIndex)} {out : Columns} {r : Fetched} {exits : Columns} → a ≡ b → Answered a out r exits → Answered b out r exits
-answered-by e d = rw e at d
-
-pub range-answer : (h : Head) (xs : List ℕ) {range told : Range} {out : Columns} {r : Fetched} {exits : Columns} → range ≡ told → Answered (rangeOf told h xs) out r exits → Answered (rangeOf range h xs) out r exits
-range-answer h xs e d = rw e d
-
-module _ (out : Columns) where
-  pub compacted-answer : Answered (refuse entryCompacted) out answer.EntryCompacted out
-  unfolding judged columnsAfter andThen
-  compacted-answer = record { number = refl; slices = refl }
-
-  pub not-found-answer : Answered (refuse entryNotFound) out answer.EntryNotFound out
-  unfolding judged columnsAfter andThen
-  not-found-answer = record { number = refl; slices = refl }
