@@ -1,14 +1,13 @@
 #!/usr/bin/env python3
 """Writes the files of crates/index_vectors/data and prints what the program has to write.
 
-Usage, at the repository's root, after oracle/build: tools/index_vectors/make.py
+Usage, at the repository's root, after oracle/build: tools/index_vectors/make.py > crates/index_vectors/stdout
 
 Calls come from oracle/bench and oracle/vectors. They are asked of the Rust (`oracle answer law`), and its answers are laid out as
 numbers; crates/index_vectors/README.md has the layout.
 - bench_N.txt: document 01's bench cases, its open points, and the calls of crates/rules/proofs/Script.antt.
 - tables_N.txt: the scripts of one group's table, as scripts of that group: once in Append contexts, and once in the index.
 - index_N.txt: the scripts of contexts and the index.
-There is no call for a merge of Rewrite contexts. As long as REWRITE_MERGE is False such calls are left out before the Rust is asked.
 """
 import pathlib
 import subprocess
@@ -16,7 +15,6 @@ import subprocess
 ROOT = pathlib.Path(__file__).resolve().parents[2]
 ORACLE = ROOT / 'oracle' / 'target' / 'release' / 'oracle'
 DATA = ROOT / 'crates' / 'index_vectors' / 'data'
-REWRITE_MERGE = False
 
 # the bytes of a file: the program reads files below 262,144 bytes
 MOST = 260000
@@ -56,18 +54,7 @@ def scripts(path, kinds):
 
 def contexts(*paths):
     """The scripts of contexts and the index."""
-    return [words for path in paths for script in scripts(path, 'cq') for words in possible(script)]
-
-
-def possible(script):
-    """The calls that the index has."""
-    kinds = {}
-    for words in script:
-        if words[0] == 'c' and words[2] == 'new':
-            kinds[words[1]] = words[3]
-        if not REWRITE_MERGE and words[0] == 'c' and words[2] == 'merge' and '1' in (kinds[words[1]], kinds[words[3]]):
-            continue
-        yield words
+    return [words for path in paths for script in scripts(path, 'cq') for words in script]
 
 
 class Tables:
@@ -209,7 +196,7 @@ def tables(*paths):
             script = kind()
             for words in (words for one in scripts(path, 't') for words in one):
                 script.take(words)
-            made += possible(script.script)
+            made += script.script
     return made
 
 
@@ -333,6 +320,12 @@ def rows_of_entries(tokens):
     return count, [n for _ in range(count) for n in tokens.entry()]
 
 
+def fields_and_rows_of_entries(tokens):
+    """How many entries; each field of all of them, as a fetch into slices has it, and then each entry."""
+    count, rows = rows_of_entries(tokens)
+    return count, [n for j in range(8) for n in rows[j::8]] + rows
+
+
 def rows_of_numbers(tokens):
     count = tokens.number()
     return count, [tokens.number() for _ in range(count)]
@@ -361,8 +354,11 @@ class File:
         area = self.area(context)
         assert area < 8 and other < 8
         self.lines.append('# %s' % self.name)
-        head = [what, area, other, group, *args, room, len(items), len(entries), len(data), len(want)]
-        assert len(head) == WIDTH
+        ends = [WIDTH]
+        for numbers in (items, entries, data, want):
+            ends.append(ends[-1] + len(numbers))
+        head = [ends[4], what, area, other, group, *args, room, *ends[1:4]]
+        assert len(head) == WIDTH and want
         for numbers, width in ((head, WIDTH), (items, 9), (entries, 8), (list(data), 32), (want, 32)):
             for i in range(0, len(numbers), width):
                 self.lines.append(' '.join(str(n) for n in numbers[i:i + width]))
@@ -476,7 +472,8 @@ class File:
         for j, batch in enumerate(listed):
             if batch.items[1] == 4:
                 batch.items[2] = j * 64
-                self.row(71, c, list(batch.bytes), args=[TOMBSTONE_BYTES + j * 64])
+                if batch.bytes:
+                    self.row(71, c, list(batch.bytes), args=[TOMBSTONE_BYTES + j * 64])
             self.row(70, c, batch.items[:{1: 2, 2: 3, 4: 4}[batch.items[1]]], args=[TOMBSTONES_AT + j * 9])
 
     # -- queries of a group
@@ -514,13 +511,13 @@ class File:
         self.lists(42, c, said[0], rows_of_keys, 16, group=g)
 
     def q_fetch_entries_to(self, c, g, t, said):
-        self.lists(50, c, said[0], rows_of_entries, 0, group=g, args=[t.number(), t.number(), *t.maybe()])
+        self.lists(50, c, said[0], fields_and_rows_of_entries, 0, group=g, args=[t.number(), t.number(), *t.maybe()])
 
     def q_fetch_entry_indexes_before(self, c, g, t, said):
-        self.lists(51, c, said[0], rows_of_entries, 0, group=g, args=[t.number()])
+        self.lists(51, c, said[0], fields_and_rows_of_entries, 0, group=g, args=[t.number()])
 
     def q_fetch_rewritten_entry_indexes(self, c, g, t, said):
-        self.lists(52, c, said[0], rows_of_entries, 0, group=g)
+        self.lists(52, c, said[0], fields_and_rows_of_entries, 0, group=g)
 
     def found(self, what, c, g, said, args=()):
         line = said[0]

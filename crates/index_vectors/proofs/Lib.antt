@@ -1,4 +1,4 @@
 -- The laws that the functions' proofs cite.
-pub mod Moves
 pub mod AreaLaws
 pub mod Agreeing
+pub mod Passing

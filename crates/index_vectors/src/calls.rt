@@ -1,17 +1,42 @@
-// The call that a row names, made on the context of an area, and compared.
+// The call that a row names, made on the context of an area, and what it answers compared with the stored numbers.
+ghost use Prim.Native.Nat.{_≤_};
+ghost use lib.ListN.{length};
 ghost use Rattle.contexts.specs.Contexts.{Wf};
 use crate::asks;
+use crate::compare::ROWS;
+use crate::compare::bytes_are;
 use crate::compare::is_told;
 use crate::compare::numbers_are;
-use crate::fetches;
+use crate::compare::record_is;
+use crate::fetches::entries;
 use crate::keys::keys;
+use crate::row::HEAD;
 use crate::row::Row;
 use crate::told::told_answer;
+use crate::told::told_before;
+use crate::told::told_count;
+use crate::told::told_entry;
+use crate::told::told_fetched;
+use crate::told::told_flag;
+use crate::told::told_number;
 use crate::told::told_taken;
-use crate::whole;
 use crate::writes::recover;
 use crate::writes::write;
+use groups::SLOTS;
+use index::Counted;
+use index::Fetched;
+use index::FoundEntry;
 use index::Taken;
+use queries::Place;
+use stretch::STRETCH;
+
+// Whether an answer is told as stored, and with it as many numbers of a list as it tells.
+fn is_listed(told: [u64; 3], list: &[u64], want: &[u64]) -> bool {
+    if !is_told(told, want) {
+        return false;
+    }
+    numbers_are(list, told[1] as usize, want, ROWS)
+}
 
 // The cleaned numbers into the first `room` places of a list.
 fn cleaned_to(xs: &mut [u64], bs: &[u8], room: usize, list: &mut [u64]) -> Taken
@@ -31,13 +56,128 @@ fn cleaned(row: Row, xs: &mut [u64], bs: &[u8], want: &[u64]) -> bool
 {
     let mut list = [0u64; 64];
     let answer = cleaned_to(xs, bs, row.room as usize, &mut list);
-    if !is_told(told_taken(answer), want) {
+    is_listed(told_taken(answer), &list, want)
+}
+
+fn entry(row: Row, xs: &[u64], bs: &[u8], want: &[u64]) -> bool
+    requires { ⌜ Wf (now xs) (now bs) ⌝ }
+{
+    let found = index::get_entry(xs, bs, row.group, row.a);
+    if !is_told(told_entry(found), want) {
         return false;
     }
-    let Taken::Done(n) = answer else {
+    let FoundEntry::At(e) = found else {
         return true;
     };
-    numbers_are(&list, n, want, 3)
+    record_is(e, want, ROWS)
+}
+
+// The value of a key: what is told, the number of bytes, and the bytes.
+fn value(row: Row, xs: &[u64], bs: &[u8], key: &[u8], want: &[u64]) -> bool
+    requires { ⌜ Wf (now xs) (now bs) ⌝ }
+{
+    let mut told = 0;
+    let got = index::get(xs, bs, row.group, key, &mut told);
+    let n = got.len();
+    if !is_told([told, n as u64, 0], want) {
+        return false;
+    }
+    bytes_are(got, n, want, ROWS)
+}
+
+// 30 get_entry, 31 has_at_least_some_entries_before, otherwise get.
+fn one(row: Row, xs: &[u64], bs: &[u8], bytes: &[u8], want: &[u64]) -> bool
+    requires { ⌜ Wf (now xs) (now bs) ⌝ }
+{
+    if row.what == 30 {
+        return entry(row, xs, bs, want);
+    }
+    if row.what == 31 {
+        let before = index::has_at_least_some_entries_before(
+            xs,
+            bs,
+            row.group,
+            row.a,
+            row.b as usize,
+        );
+        return is_told(told_before(before), want);
+    }
+    value(row, xs, bs, bytes, want)
+}
+
+// The numbers of all groups into the first `room` places of a list.
+fn groups_to(xs: &[u64], bs: &[u8], room: usize, list: &mut [u64]) -> Fetched
+    requires { ⌜ Wf (now xs) (now bs) ⌝ }
+{
+    if list.len() < room {
+        return Fetched::ListTooShort;
+    }
+    index::group_numbers(xs, bs, &mut list[..room])
+}
+
+// 60 group_numbers, 61 is_empty, otherwise the live count of a queue.
+fn all(row: Row, xs: &[u64], bs: &[u8], want: &[u64]) -> bool
+    requires { ⌜ Wf (now xs) (now bs) ⌝ }
+{
+    if row.what == 60 {
+        let mut list = [0u64; SLOTS];
+        let answer = groups_to(xs, bs, row.room as usize, &mut list);
+        return is_listed(told_fetched(answer), &list, want);
+    }
+    if row.what == 61 {
+        return is_told(told_flag(index::is_empty(xs, bs)), want);
+    }
+    let live = index::live_entries(xs, bs, pipe_log::queue_at(row.a));
+    is_told(told_count(Counted::Is(live)), want)
+}
+
+// Whether the stored numbers stand in an area from a place on.
+fn numbers_from(xs: &[u64], from: usize, want: &[u64]) -> bool {
+    if xs.len() < from {
+        return false;
+    }
+    numbers_are(&xs[from..], want.len(), want, 0)
+}
+
+// The same of bytes.
+fn bytes_from(bs: &[u8], from: usize, want: &[u64]) -> bool {
+    if bs.len() < from {
+        return false;
+    }
+    bytes_are(&bs[from..], want.len(), want, 0)
+}
+
+// Whether the stored numbers stand in the stretch of a group.
+fn stretch_is(row: Row, xs: &[u64], bs: &[u8], want: &[u64]) -> bool
+    requires { ⌜ Wf (now xs) (now bs) ⌝ }
+{
+    let Place::At(k) = queries::place_of(xs, row.group) else {
+        return false;
+    };
+    let at = row.a as usize;
+    if SLOTS <= k {
+        return false;
+    }
+    if STRETCH < at {
+        return false;
+    }
+    numbers_from(xs, k * STRETCH + at, want)
+}
+
+// 70 the numbers of an area, 71 its bytes, otherwise the numbers of a group's stretch.
+fn area_is(row: Row, xs: &[u64], bs: &[u8], want: &[u64]) -> bool
+    requires { ⌜ Wf (now xs) (now bs) ⌝ }
+{
+    if want.len() == 0 {
+        return false;
+    }
+    if row.what == 70 {
+        return numbers_from(xs, row.a as usize, want);
+    }
+    if row.what == 71 {
+        return bytes_from(bs, row.a as usize, want);
+    }
+    stretch_is(row, xs, bs, want)
 }
 
 // The queries, by the tens of their numbers.
@@ -45,33 +185,61 @@ fn ask(row: Row, xs: &[u64], bs: &[u8], bytes: &[u8], want: &[u64]) -> bool
     requires { ⌜ Wf (now xs) (now bs) ⌝ }
 {
     match row.what / 10 {
-        1 => is_told(asks::number(row, xs, bs), want),
-        2 => is_told(asks::count(row, xs, bs), want),
-        3 => asks::one(row, xs, bs, bytes, want),
+        1 => is_told(told_number(asks::number(row, xs, bs)), want),
+        2 => is_told(told_count(asks::count(row, xs, bs)), want),
+        3 => one(row, xs, bs, bytes, want),
         4 => keys(row, xs, bs, bytes, want),
-        5 => fetches::entries(row, xs, bs, want),
-        6 => whole::all(row, xs, bs, want),
-        7 => whole::area(row, xs, bs, want),
+        5 => entries(row, xs, bs, want),
+        6 => all(row, xs, bs, want),
+        7 => area_is(row, xs, bs, want),
         _ => false,
     }
 }
 
-// The calls by their numbers: below 4 recovery, 4 and 5 the live writes, 9 the cleaned numbers, and above it the queries.
-pub fn call(
+// The numbers from place a to place b, or none where there are no such places.
+fn between(numbers: &[u64], a: usize, b: usize) -> &[u64] {
+    if numbers.len() < b {
+        return &numbers[..0];
+    }
+    if b < a {
+        return &numbers[..0];
+    }
+    &numbers[a..b]
+}
+
+// The numbers of a list as bytes, as many as there is room for; of a higher number the last eight bits.
+fn narrow(list: &[u64], out: &mut [u8]) -> usize
+    ensures { λ r. ⌜ r ≤ length (now (out .entry)) ⌝ }
+{
+    let mut i = 0;
+    while i < list.len() {
+        if out.len() <= i {
+            return i;
+        }
+        out[i] = (list[i] % 256) as u8;
+        i += 1;
+    }
+    i
+}
+
+// Makes a call with its lists. The calls by their numbers: below 4 recovery, 4 and 5 the live writes, 9 the cleaned numbers, and above
+// it the queries.
+fn make(
     row: Row,
     xs: &mut [u64],
     bs: &mut [u8],
     ys: &[u64],
     cs: &[u8],
-    items: &[u64],
-    entries: &[u64],
+    numbers: &[u64],
     bytes: &[u8],
-    want: &[u64],
 ) -> bool
     requires { ⌜ Wf (now xs) (now bs) × Wf (now ys) (now cs) ⌝ }
     ensures { λ _. ⌜ Wf (now (xs .exit)) (now (bs .exit)) ⌝ }
 {
     let what = row.what;
+    let items = between(numbers, HEAD, row.items as usize);
+    let entries = between(numbers, row.items as usize, row.entries as usize);
+    let want = between(numbers, row.bytes as usize, numbers.len());
     if what < 4 {
         let answer = recover(row, xs, bs, ys, cs, items, entries, bytes);
         return is_told(told_answer(answer), want);
@@ -84,4 +252,15 @@ pub fn call(
         return cleaned(row, xs, bs, want);
     }
     ask(row, xs, bs, bytes, want)
+}
+
+// Makes the call that stands in some numbers, and says whether it is answered as stored.
+pub fn call(row: Row, xs: &mut [u64], bs: &mut [u8], ys: &[u64], cs: &[u8], numbers: &[u64]) -> bool
+    requires { ⌜ Wf (now xs) (now bs) × Wf (now ys) (now cs) ⌝ }
+    ensures { λ _. ⌜ Wf (now (xs .exit)) (now (bs .exit)) ⌝ }
+{
+    let mut buffer = [0u8; 512];
+    let lent = between(numbers, row.entries as usize, row.bytes as usize);
+    let n = narrow(lent, &mut buffer);
+    make(row, xs, bs, ys, cs, numbers, &buffer[..n])
 }

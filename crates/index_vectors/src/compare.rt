@@ -1,34 +1,11 @@
 // What a call answered, compared with the stored numbers.
 ghost use mathlib.Core.Path.{_≡_};
-ghost use Prim.Native.Nat.{_≤_, _<_};
-ghost use Rattle.index_vectors.specs.Agreement.{IsAt, SameTold, SameNumbers, SameColumn};
-use crate::told::Told;
+ghost use Rattle.index_vectors.specs.Agreement.{SameNumbers, rowOf};
 use pipe_log::EntryBlock;
 use pipe_log::EntryIndex;
-use pipe_log::FileBlockHandle;
 
-// Whether the stored number at a place is the given one.
-pub fn is_at(want: &[u64], at: usize, number: u64) -> bool
-    ensures { λ r. ⌜ IsAt (now (want .entry)) at number r ⌝ }
-{
-    if want.len() <= at {
-        return false;
-    }
-    want[at] == number
-}
-
-// Whether the three numbers of an answer are the first stored ones.
-pub fn is_told(told: Told, want: &[u64]) -> bool
-    ensures { λ r. ⌜ SameTold told (now (want .entry)) r ⌝ }
-{
-    if !is_at(want, 0, told.number) {
-        return false;
-    }
-    if !is_at(want, 1, told.count) {
-        return false;
-    }
-    is_at(want, 2, told.value)
-}
+// Where what follows the three numbers of an answer is stored.
+pub const ROWS: usize = 3;
 
 // Whether the first `n` numbers of a list are the stored ones from place `at` on.
 pub fn numbers_are(got: &[u64], n: usize, want: &[u64], at: usize) -> bool
@@ -45,12 +22,19 @@ pub fn numbers_are(got: &[u64], n: usize, want: &[u64], at: usize) -> bool
     }
     let mut i = 0;
     while i < n {
-        if !is_at(want, at + i, got[i]) {
+        if want[at + i] != got[i] {
             return false;
         }
         i += 1;
     }
     true
+}
+
+// Whether the three numbers of an answer are the first stored ones.
+pub fn is_told(told: [u64; 3], want: &[u64]) -> bool
+    ensures { λ r. ⌜ SameNumbers told 3 (now (want .entry)) 0 r ⌝ }
+{
+    numbers_are(&told, 3, want, 0)
 }
 
 // A byte as a number.
@@ -75,7 +59,7 @@ pub fn bytes_are(got: &[u8], n: usize, want: &[u64], at: usize) -> bool
     }
     let mut i = 0;
     while i < n {
-        if !is_at(want, at + i, wide(got[i])) {
+        if want[at + i] != wide(got[i]) {
             return false;
         }
         i += 1;
@@ -83,66 +67,47 @@ pub fn bytes_are(got: &[u8], n: usize, want: &[u64], at: usize) -> bool
     true
 }
 
-// Whether the first `n` numbers of a list are those at place `j` of the stored rows of entries, which begin at place 3.
-pub fn column_is(got: &[u64], n: usize, want: &[u64], j: usize) -> bool
-    requires { ⌜ j < 8 ⌝ }
-    ensures { λ r. ⌜ SameColumn (now (got .entry)) n (now (want .entry)) j r ⌝ }
+// The row of a record; one without a block has the queue 2.
+fn row_of(entry: EntryIndex) -> [u64; 8]
+    ensures { λ r. ⌜ r ≡ rowOf entry ⌝ }
 {
-    if got.len() < n {
-        return false;
-    }
-    if 64 < n {
-        return false;
-    }
-    let mut i = 0;
-    while i < n {
-        if !is_at(want, 3 + i * 8 + j, got[i]) {
-            return false;
+    let compression_type = entry.compression_type;
+    let compression = compression_type.to_u64();
+    let entry_offset = entry.entry_offset as u64;
+    let entry_len = entry.entry_len as u64;
+    let entries = entry.entries;
+    match entries {
+        EntryBlock::Absent => [
+            entry.index,
+            2,
+            0,
+            0,
+            0,
+            compression,
+            entry_offset,
+            entry_len,
+        ],
+        EntryBlock::At(block) => {
+            let id = block.id;
+            let queue = id.queue;
+            [
+                entry.index,
+                queue.to_u64(),
+                id.seq,
+                block.offset,
+                block.len as u64,
+                compression,
+                entry_offset,
+                entry_len,
+            ]
         }
-        i += 1;
     }
-    true
 }
 
-// Whether a block is stored from place `at` on: its file, offset and length.
-fn block_is(block: FileBlockHandle, want: &[u64], at: usize) -> bool
-    requires { ⌜ at ≤ 1024 ⌝ }
+// Whether the row of a record is stored from place `at` on.
+pub fn record_is(entry: EntryIndex, want: &[u64], at: usize) -> bool
+    ensures { λ r. ⌜ SameNumbers (rowOf entry) 8 (now (want .entry)) at r ⌝ }
 {
-    let file = block.id;
-    let queue = file.queue;
-    if !is_at(want, at, queue.to_u64()) {
-        return false;
-    }
-    if !is_at(want, at + 1, file.seq) {
-        return false;
-    }
-    if !is_at(want, at + 2, block.offset) {
-        return false;
-    }
-    is_at(want, at + 3, block.len as u64)
-}
-
-// Whether a record is the stored row `i`.
-pub fn record_is(entry: EntryIndex, want: &[u64], i: usize) -> bool
-    requires { ⌜ i ≤ 64 ⌝ }
-{
-    let at = 3 + i * 8;
-    if !is_at(want, at, entry.index) {
-        return false;
-    }
-    let block = entry.entries;
-    let EntryBlock::At(handle) = block else {
-        return false;
-    };
-    if !block_is(handle, want, at + 1) {
-        return false;
-    }
-    let compression = entry.compression_type;
-    if !is_at(want, at + 5, compression.to_u64()) {
-        return false;
-    }
-    if !is_at(want, at + 6, entry.entry_offset as u64) {
-        return false;
-    }
-    is_at(want, at + 7, entry.entry_len as u64)
+    let row = row_of(entry);
+    numbers_are(&row, 8, want, at)
 }

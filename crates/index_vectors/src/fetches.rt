@@ -1,244 +1,161 @@
-// The fetches of entry records, in both forms: into parallel slices, and into a list of records.
-ghost use mathlib.Core.Path.{_≡_};
-ghost use Prim.Native.Nat.{_<_};
+// The fetches of entry records, in both forms: into parallel slices, and into a list of records. The records are stored twice: field by
+// field as the slices have them, and then record by record.
+ghost use Prim.Native.Nat.{_≤_};
 ghost use Rattle.contexts.specs.Contexts.{Wf};
-ghost use Rattle.index_vectors.specs.Arguments.{boundAs, fetchAs, rowsOf};
-use crate::compare::column_is;
+ghost use Rattle.index_vectors.specs.Agreement.{Stored};
+use crate::asks;
+use crate::compare::ROWS;
 use crate::compare::is_told;
+use crate::compare::numbers_are;
 use crate::compare::record_is;
 use crate::row::Row;
 use crate::told::told_fetched;
-use index::Fetch;
 use index::Fetched;
-use pipe_log::Bound;
 use pipe_log::CompressionType;
 use pipe_log::EntryBlock;
 use pipe_log::EntryIndex;
 
-// The bound of a fetch: none, or a size.
-fn bound_of(bounded: u64, size: u64) -> Bound
-    ensures { λ r. ⌜ r ≡ boundAs bounded size ⌝ }
-{
-    if bounded == 0 {
-        return Bound::None;
-    }
-    Bound::At(size)
-}
+// The rows of the lent lists.
+const MOST_ENTRIES: usize = 64;
 
-// The number of rows that a fetch filled; a refused one filled none.
-pub fn rows_of(answer: Fetched) -> usize
-    ensures { λ r. ⌜ r ≡ rowsOf answer ⌝ }
-{
-    match answer {
-        Fetched::Done(n) => n,
-        Fetched::GroupAbsent => 0,
-        Fetched::BadRange => 0,
-        Fetched::EntryCompacted => 0,
-        Fetched::EntryNotFound => 0,
-        Fetched::ListTooShort => 0,
-    }
-}
-
-// Whether the first `n` numbers of four slices are those of the stored rows from place `j` of a row on.
-fn four_are(n: usize, want: &[u64], j: usize, a: &[u64], b: &[u64], c: &[u64], d: &[u64]) -> bool
-    requires { ⌜ j < 5 ⌝ }
-{
-    if !column_is(a, n, want, j) {
-        return false;
-    }
-    if !column_is(b, n, want, j + 1) {
-        return false;
-    }
-    if !column_is(c, n, want, j + 2) {
-        return false;
-    }
-    column_is(d, n, want, j + 3)
-}
-
-// Whether a fetch filled the slices as stored.
-fn columns_are(
-    answer: Fetched,
-    want: &[u64],
-    index: &[u64],
-    queue: &[u64],
-    seq: &[u64],
-    offset: &[u64],
-    len: &[u64],
-    compression: &[u64],
-    entry_offset: &[u64],
-    entry_len: &[u64],
-) -> bool {
-    if !is_told(told_fetched(answer), want) {
-        return false;
-    }
-    let n = rows_of(answer);
-    if !four_are(n, want, 0, index, queue, seq, offset) {
-        return false;
-    }
-    four_are(n, want, 4, len, compression, entry_offset, entry_len)
-}
-
-// Whether `fetch_entries_to` into slices is answered as stored.
-fn entries_to(row: Row, xs: &[u64], bs: &[u8], want: &[u64]) -> bool
+// The fetch of `asks::fetch_of` into slices, one for each field of a record.
+fn fetch(
+    row: Row,
+    xs: &[u64],
+    bs: &[u8],
+    index: &mut [u64],
+    queue: &mut [u64],
+    seq: &mut [u64],
+    offset: &mut [u64],
+    len: &mut [u64],
+    compression: &mut [u64],
+    entry_offset: &mut [u64],
+    entry_len: &mut [u64],
+) -> Fetched
     requires { ⌜ Wf (now xs) (now bs) ⌝ }
 {
-    let mut index = [0u64; 64];
-    let mut queue = [0u64; 64];
-    let mut seq = [0u64; 64];
-    let mut offset = [0u64; 64];
-    let mut len = [0u64; 64];
-    let mut compression = [0u64; 64];
-    let mut entry_offset = [0u64; 64];
-    let mut entry_len = [0u64; 64];
-    let answer = index::fetch_entries_to(
+    let group = row.group;
+    if row.what == 50 {
+        return index::fetch_entries_to(
+            xs,
+            bs,
+            group,
+            row.a,
+            row.b,
+            asks::bound_of(row.c, row.d),
+            index,
+            queue,
+            seq,
+            offset,
+            len,
+            compression,
+            entry_offset,
+            entry_len,
+        );
+    }
+    if row.what == 51 {
+        return index::fetch_entry_indexes_before(
+            xs,
+            bs,
+            group,
+            row.a,
+            index,
+            queue,
+            seq,
+            offset,
+            len,
+            compression,
+            entry_offset,
+            entry_len,
+        );
+    }
+    index::fetch_rewritten_entry_indexes(
         xs,
         bs,
-        row.group,
-        row.a,
-        row.b,
-        bound_of(row.c, row.d),
-        &mut index,
-        &mut queue,
-        &mut seq,
-        &mut offset,
-        &mut len,
-        &mut compression,
-        &mut entry_offset,
-        &mut entry_len,
-    );
-    columns_are(
-        answer,
-        want,
-        &index,
-        &queue,
-        &seq,
-        &offset,
-        &len,
-        &compression,
-        &entry_offset,
-        &entry_len,
+        group,
+        index,
+        queue,
+        seq,
+        offset,
+        len,
+        compression,
+        entry_offset,
+        entry_len,
     )
 }
 
-// Whether `fetch_entry_indexes_before` into slices is answered as stored.
-fn indexes_before(row: Row, xs: &[u64], bs: &[u8], want: &[u64]) -> bool
-    requires { ⌜ Wf (now xs) (now bs) ⌝ }
+// Whether the first `n` numbers of four slices are stored one behind another.
+fn four_are(n: usize, want: &[u64], at: usize, a: &[u64], b: &[u64], c: &[u64], d: &[u64]) -> bool
+    requires { ⌜ (n ≤ 64) × (at ≤ 512) ⌝ }
 {
-    let mut index = [0u64; 64];
-    let mut queue = [0u64; 64];
-    let mut seq = [0u64; 64];
-    let mut offset = [0u64; 64];
-    let mut len = [0u64; 64];
-    let mut compression = [0u64; 64];
-    let mut entry_offset = [0u64; 64];
-    let mut entry_len = [0u64; 64];
-    let answer = index::fetch_entry_indexes_before(
-        xs,
-        bs,
-        row.group,
-        row.a,
-        &mut index,
-        &mut queue,
-        &mut seq,
-        &mut offset,
-        &mut len,
-        &mut compression,
-        &mut entry_offset,
-        &mut entry_len,
-    );
-    columns_are(
-        answer,
-        want,
-        &index,
-        &queue,
-        &seq,
-        &offset,
-        &len,
-        &compression,
-        &entry_offset,
-        &entry_len,
-    )
+    if !numbers_are(a, n, want, at) {
+        return false;
+    }
+    if !numbers_are(b, n, want, at + n) {
+        return false;
+    }
+    if !numbers_are(c, n, want, at + n * 2) {
+        return false;
+    }
+    numbers_are(d, n, want, at + n * 3)
 }
 
-// Whether `fetch_rewritten_entry_indexes` into slices is answered as stored.
-fn rewritten(row: Row, xs: &[u64], bs: &[u8], want: &[u64]) -> bool
-    requires { ⌜ Wf (now xs) (now bs) ⌝ }
-{
-    let mut index = [0u64; 64];
-    let mut queue = [0u64; 64];
-    let mut seq = [0u64; 64];
-    let mut offset = [0u64; 64];
-    let mut len = [0u64; 64];
-    let mut compression = [0u64; 64];
-    let mut entry_offset = [0u64; 64];
-    let mut entry_len = [0u64; 64];
-    let answer = index::fetch_rewritten_entry_indexes(
-        xs,
-        bs,
-        row.group,
-        &mut index,
-        &mut queue,
-        &mut seq,
-        &mut offset,
-        &mut len,
-        &mut compression,
-        &mut entry_offset,
-        &mut entry_len,
-    );
-    columns_are(
-        answer,
-        want,
-        &index,
-        &queue,
-        &seq,
-        &offset,
-        &len,
-        &compression,
-        &entry_offset,
-        &entry_len,
-    )
-}
-
-// Whether a fetch into slices is answered as stored: 50 fetch_entries_to, 51 fetch_entry_indexes_before, otherwise
-// fetch_rewritten_entry_indexes.
+// Whether a fetch into slices is answered as stored.
 fn in_slices(row: Row, xs: &[u64], bs: &[u8], want: &[u64]) -> bool
     requires { ⌜ Wf (now xs) (now bs) ⌝ }
 {
-    if row.what == 50 {
-        return entries_to(row, xs, bs, want);
+    let mut index = [0u64; MOST_ENTRIES];
+    let mut queue = [0u64; MOST_ENTRIES];
+    let mut seq = [0u64; MOST_ENTRIES];
+    let mut offset = [0u64; MOST_ENTRIES];
+    let mut len = [0u64; MOST_ENTRIES];
+    let mut compression = [0u64; MOST_ENTRIES];
+    let mut entry_offset = [0u64; MOST_ENTRIES];
+    let mut entry_len = [0u64; MOST_ENTRIES];
+    let answer = fetch(
+        row,
+        xs,
+        bs,
+        &mut index,
+        &mut queue,
+        &mut seq,
+        &mut offset,
+        &mut len,
+        &mut compression,
+        &mut entry_offset,
+        &mut entry_len,
+    );
+    let told = told_fetched(answer);
+    if !is_told(told, want) {
+        return false;
     }
-    if row.what == 51 {
-        return indexes_before(row, xs, bs, want);
+    let n = told[1] as usize;
+    if MOST_ENTRIES < n {
+        return false;
     }
-    rewritten(row, xs, bs, want)
+    if !four_are(n, want, ROWS, &index, &queue, &seq, &offset) {
+        return false;
+    }
+    four_are(
+        n,
+        want,
+        ROWS + n * 4,
+        &len,
+        &compression,
+        &entry_offset,
+        &entry_len,
+    )
 }
 
-// The fetch that a row names.
-fn fetch_of(row: Row) -> Fetch
-    ensures { λ r. ⌜ r ≡ fetchAs row ⌝ }
-{
-    if row.what == 50 {
-        return Fetch::EntriesTo {
-            begin: row.a,
-            end: row.b,
-            max_size: bound_of(row.c, row.d),
-        };
-    }
-    if row.what == 51 {
-        return Fetch::EntryIndexesBefore { gate: row.a };
-    }
-    Fetch::RewrittenEntryIndexes
-}
-
-// Whether the first `n` records of a list are the stored rows.
-fn records_are(list: [EntryIndex; 64], n: usize, want: &[u64]) -> bool {
-    if 64 < n {
+// Whether the first `n` records of a list are the stored ones.
+fn records_are(list: [EntryIndex; MOST_ENTRIES], n: usize, want: &[u64]) -> bool {
+    if MOST_ENTRIES < n {
         return false;
     }
     let mut i = 0;
     while i < n {
         let e = list[i];
-        if !record_is(e, want, i) {
+        if !record_is(e, want, ROWS + n * 8 + i * 8) {
             return false;
         }
         i += 1;
@@ -249,6 +166,7 @@ fn records_are(list: [EntryIndex; 64], n: usize, want: &[u64]) -> bool {
 // Whether a fetch into a list of records is answered as stored.
 fn in_records(row: Row, xs: &[u64], bs: &[u8], want: &[u64]) -> bool
     requires { ⌜ Wf (now xs) (now bs) ⌝ }
+    ensures { λ r. ⌜ Stored (now (want .entry)) r ⌝ }
 {
     let empty = EntryIndex {
         index: 0,
@@ -257,19 +175,21 @@ fn in_records(row: Row, xs: &[u64], bs: &[u8], want: &[u64]) -> bool
         entry_offset: 0,
         entry_len: 0,
     };
-    let list = [empty; 64];
-    let listed = index::fetch_listed(xs, bs, row.group, fetch_of(row), list);
+    let list = [empty; MOST_ENTRIES];
+    let listed = index::fetch_listed(xs, bs, row.group, asks::fetch_of(row), list);
     let answer = listed.answer;
-    if !is_told(told_fetched(answer), want) {
+    let told = told_fetched(answer);
+    if !is_told(told, want) {
         return false;
     }
     let records = listed.list;
-    records_are(records, rows_of(answer), want)
+    records_are(records, told[1] as usize, want)
 }
 
-// Whether both forms of a fetch are answered as stored.
+// Whether a fetch is answered as stored in both forms.
 pub fn entries(row: Row, xs: &[u64], bs: &[u8], want: &[u64]) -> bool
     requires { ⌜ Wf (now xs) (now bs) ⌝ }
+    ensures { λ r. ⌜ Stored (now (want .entry)) r ⌝ }
 {
     if !in_slices(row, xs, bs, want) {
         return false;

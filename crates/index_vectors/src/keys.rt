@@ -1,12 +1,16 @@
 // The queries of keys into lent lists: two numbers a row for the lengths, and 64 bytes a row.
 ghost use Rattle.contexts.specs.Contexts.{Wf};
+ghost use Rattle.index_vectors.specs.Agreement.{Stored};
+use crate::compare::ROWS;
 use crate::compare::bytes_are;
 use crate::compare::is_told;
 use crate::compare::numbers_are;
-use crate::fetches::rows_of;
 use crate::row::Row;
 use crate::told::told_fetched;
 use index::Fetched;
+
+// The rows of the lent lists.
+const MOST_KEYS: usize = 16;
 
 // A scan whose start is the first bytes of a list, and whose end the rest.
 fn scan(row: Row, xs: &[u64], bs: &[u8], bytes: &[u8], lens: &mut [u64], out: &mut [u8]) -> Fetched
@@ -56,7 +60,7 @@ fn fetch_to(
 ) -> Fetched
     requires { ⌜ Wf (now xs) (now bs) ⌝ }
 {
-    if 16 < room {
+    if MOST_KEYS < room {
         return Fetched::ListTooShort;
     }
     let l = room * 2;
@@ -70,26 +74,30 @@ fn fetch_to(
     fetch(row, xs, bs, bytes, &mut lens[..l], &mut out[..o])
 }
 
-// Whether the rows of keys that a query filled are the stored ones: their lengths, and then their bytes.
-fn rows_are(n: usize, lens: &[u64], out: &[u8], want: &[u64]) -> bool {
-    if 16 < n {
+// Whether as many rows of keys as an answer tells are the stored ones: their lengths, and then their bytes.
+fn keys_are(told: [u64; 3], lens: &[u64], out: &[u8], want: &[u64]) -> bool
+    ensures { λ r. ⌜ Stored (now (want .entry)) r ⌝ }
+{
+    if !is_told(told, want) {
         return false;
     }
-    if !numbers_are(lens, n * 2, want, 3) {
+    let n = told[1] as usize;
+    if MOST_KEYS < n {
         return false;
     }
-    bytes_are(out, n * 64, want, 3 + n * 2)
+    if !numbers_are(lens, n * 2, want, ROWS) {
+        return false;
+    }
+    bytes_are(out, n * 64, want, ROWS + n * 2)
 }
 
 // Whether a query of keys is answered as stored, with room for so many rows.
 pub fn keys(row: Row, xs: &[u64], bs: &[u8], bytes: &[u8], want: &[u64]) -> bool
     requires { ⌜ Wf (now xs) (now bs) ⌝ }
+    ensures { λ r. ⌜ Stored (now (want .entry)) r ⌝ }
 {
     let mut lens = [0u64; 32];
     let mut out = [0u8; 1024];
     let answer = fetch_to(row, xs, bs, bytes, row.room as usize, &mut lens, &mut out);
-    if !is_told(told_fetched(answer), want) {
-        return false;
-    }
-    rows_are(rows_of(answer), &lens, &out, want)
+    keys_are(told_fetched(answer), &lens, &out, want)
 }

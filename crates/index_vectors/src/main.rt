@@ -1,23 +1,22 @@
 // Makes the calls of the files of data/ on the index, and writes of each file how many answers are other than the Rust's.
 mod asks;
 mod calls;
-mod case;
 mod compare;
 mod fetches;
 mod keys;
+mod reading;
 mod row;
 mod store;
 mod told;
-mod whole;
 mod writes;
 
 ghost use mathlib.Core.Path.{_≡_};
-ghost use Prim.Native.Nat.{_*_};
+ghost use Prim.Native.Nat.{_+_, _*_, _≤_, _<_};
 ghost use lib.ListN.{length};
 ghost use Rattle.contexts.specs.Contexts.{areaNumbers, areaBytes};
-use case::Outcome;
-use case::front_bytes;
 use libc::STDOUT_FILENO;
+use reading::Read;
+use row::HEAD;
 use store::ALL_BYTES;
 use store::ALL_NUMBERS;
 
@@ -43,57 +42,66 @@ fn say_counts(name: &[u8], calls: u64, differ: u64) {
     say(b" differ\n");
 }
 
+// How many numbers the call at a place has by its first number, or 0 where there are not so many.
+fn length_at(numbers: &[u64], at: usize) -> usize
+    requires { ⌜ at < length (now numbers) ⌝ }
+    ensures { λ r. ⌜ at + r ≤ length (now (numbers .entry)) ⌝ }
+{
+    let n = numbers[at] as usize;
+    if numbers.len() - at < n {
+        return 0;
+    }
+    n
+}
+
+// 1 where a call differs, which is said, and else 0.
+fn difference(same: bool, name: &[u8], number: u64) -> u64
+    ensures { λ r. ⌜ r ≤ 1 ⌝ }
+{
+    if same {
+        return 0;
+    }
+    say_call(name, b": other answer in call ", number);
+    1
+}
+
 // Compares the calls one after another, each on what those before it left.
-fn compare_all(name: &[u8], text: &[u8], xs: &mut [u64], bs: &mut [u8])
+fn compare_all(name: &[u8], numbers: &[u64], xs: &mut [u64], bs: &mut [u8])
     requires { ⌜ (length (now xs) ≡ 8 * areaNumbers) × (length (now bs) ≡ 8 * areaBytes) ⌝ }
 {
     store::fresh_all(xs, bs);
     let mut at = 0;
     let mut calls: u64 = 0;
     let mut differ: u64 = 0;
-    while at < text.len() {
+    while at < numbers.len() {
+        let n = length_at(numbers, at);
         calls += 1;
-        let outcome = case::run_at(text, at, xs, bs);
-        match outcome {
-            Outcome::Same(end) => {
-                at = end;
-            }
-            Outcome::Differs(end) => {
-                say_call(name, b": other answer in call ", calls);
-                differ += 1;
-                at = end;
-            }
-            Outcome::Malformed => {
-                say_call(name, b": malformed call ", calls);
-                return;
-            }
+        if n < HEAD {
+            say_call(name, b": malformed call ", calls);
+            return;
         }
+        let end = at + n;
+        differ += difference(store::run(&numbers[at..end], xs, bs), name, calls);
+        at = end;
     }
     say_counts(name, calls, differ);
 }
 
-// Compares the calls if the areas have their lengths.
-fn compare_in(name: &[u8], text: &[u8], xs: &mut [u64], bs: &mut [u8]) {
-    if xs.len() < ALL_NUMBERS {
-        return;
-    }
-    if ALL_NUMBERS < xs.len() {
-        return;
-    }
-    if bs.len() < ALL_BYTES {
-        return;
-    }
-    if ALL_BYTES < bs.len() {
-        return;
-    }
-    compare_all(name, text, xs, bs);
-}
-
-// Compares the calls of a text on areas of its own.
-fn compare_text(name: &[u8], text: &[u8]) {
+// Compares the calls that stand in some numbers on areas of their own.
+fn compare_numbers(name: &[u8], numbers: &[u64]) {
     let mut xs = [0u64; ALL_NUMBERS];
     let mut bs = [0u8; ALL_BYTES];
-    compare_in(name, text, &mut xs, &mut bs);
+    compare_all(name, numbers, &mut xs, &mut bs);
+}
+
+// Compares the calls of a text, whose numbers go to the front of a list.
+fn compare_text(name: &[u8], text: &[u8], list: &mut [u64]) {
+    let Read::UpTo(n) = reading::read_all(text, list) else {
+        say(name);
+        say(b": malformed\n");
+        return;
+    };
+    compare_numbers(name, &list[..n]);
 }
 
 // Compares the calls that a file holds, if it is shorter than the buffer.
@@ -105,7 +113,8 @@ fn compare_read(name: &[u8], fd: i32, text: &mut [u8]) {
         say(b": too long\n");
         return;
     }
-    compare_text(name, front_bytes(text, length));
+    let mut list = [0u64; 131072];
+    compare_text(name, &text[..length], &mut list);
 }
 
 // Compares the calls of a file.
@@ -129,4 +138,5 @@ fn main() {
     compare_file(b"index_1.txt");
     compare_file(b"index_2.txt");
     compare_file(b"index_3.txt");
+    compare_file(b"index_4.txt");
 }

@@ -1,9 +1,15 @@
 // The first line of a call.
 ghost use mathlib.Core.Path.{_≡_};
+ghost use Prim.Native.Nat.{_≤_};
+ghost use lib.ListN.{length};
 ghost use Rattle.index_vectors.specs.Arguments.{rowAs};
 
+// The numbers of the line; the first is how many numbers the call has.
+pub const HEAD: usize = 14;
+
 // Which call, of which context, with which other context, of which group; five arguments, which each call reads in its own way;
-// how many rows a lent list has; and how many numbers the four lists behind the line have.
+// how many rows a lent list has; and where the items, the entries and the bytes end, which stand one behind another from HEAD on. The
+// stored answer is what stands behind them.
 pub struct Row {
     pub what: u64,
     pub area: u64,
@@ -18,27 +24,26 @@ pub struct Row {
     pub items: u64,
     pub entries: u64,
     pub bytes: u64,
-    pub want: u64,
 }
 
-// The fourteen numbers by their names.
-pub fn row_of(head: [u64; 14]) -> Row
-    ensures { λ r. ⌜ r ≡ rowAs head ⌝ }
+// The numbers of a call's first line by their names.
+pub fn row_of(call: &[u64]) -> Row
+    requires { ⌜ 14 ≤ length (now call) ⌝ }
+    ensures { λ r. ⌜ r ≡ rowAs (now (call .entry)) ⌝ }
 {
     Row {
-        what: head[0],
-        area: head[1],
-        other: head[2],
-        group: head[3],
-        a: head[4],
-        b: head[5],
-        c: head[6],
-        d: head[7],
-        e: head[8],
-        room: head[9],
-        items: head[10],
-        entries: head[11],
-        bytes: head[12],
-        want: head[13],
+        what: call[1],
+        area: call[2],
+        other: call[3],
+        group: call[4],
+        a: call[5],
+        b: call[6],
+        c: call[7],
+        d: call[8],
+        e: call[9],
+        room: call[10],
+        items: call[11],
+        entries: call[12],
+        bytes: call[13],
     }
 }

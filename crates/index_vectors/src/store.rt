@@ -1,11 +1,12 @@
 // The areas of a script's contexts, one behind another.
 ghost use mathlib.Core.Path.{_≡_};
-ghost use Prim.Native.Nat.{_+_, _*_, _<_};
+ghost use Prim.Native.Nat.{_+_, _*_, _≤_, _<_};
 ghost use lib.ListN.{length};
 ghost use Rattle.contexts.specs.Contexts.{areaNumbers, areaBytes, Wf};
 ghost use Rattle.index_vectors.specs.Areas.{Areas};
 use crate::calls::call;
 use crate::row::Row;
+use crate::row::row_of;
 use index::BYTES;
 use index::NUMBERS;
 use pipe_log::LogQueue;
@@ -65,10 +66,7 @@ fn call_at(
     bs: &mut [u8],
     ys: &[u64],
     cs: &[u8],
-    items: &[u64],
-    entries: &[u64],
-    bytes: &[u8],
-    want: &[u64],
+    numbers: &[u64],
 ) -> bool
     requires { ⌜ k < 8 ⌝ }
     requires { ⌜ Areas 8 (now xs) (now bs) × Wf (now ys) (now cs) ⌝ }
@@ -78,32 +76,16 @@ fn call_at(
     let e = a + NUMBERS;
     let c = k * BYTES;
     let d = c + BYTES;
-    call(
-        row,
-        &mut xs[a..e],
-        &mut bs[c..d],
-        ys,
-        cs,
-        items,
-        entries,
-        bytes,
-        want,
-    )
+    call(row, &mut xs[a..e], &mut bs[c..d], ys, cs, numbers)
 }
 
-// Makes the call of a row on the area that it names, and says whether the answer is as stored.
-pub fn run(
-    row: Row,
-    xs: &mut [u64],
-    bs: &mut [u8],
-    items: &[u64],
-    entries: &[u64],
-    bytes: &[u8],
-    want: &[u64],
-) -> bool
+// Makes the call that stands in some numbers on the area that it names, and says whether the answer is as stored.
+pub fn run(numbers: &[u64], xs: &mut [u64], bs: &mut [u8]) -> bool
+    requires { ⌜ 14 ≤ length (now numbers) ⌝ }
     requires { ⌜ Areas 8 (now xs) (now bs) ⌝ }
     ensures { λ _. ⌜ Areas 8 (now (xs .exit)) (now (bs .exit)) ⌝ }
 {
+    let row = row_of(numbers);
     let k = row.area as usize;
     let other = row.other as usize;
     if AREAS <= k {
@@ -115,5 +97,5 @@ pub fn run(
     let mut ys = [0u64; NUMBERS];
     let mut cs = [0u8; BYTES];
     copy_area(xs, bs, other, &mut ys, &mut cs);
-    call_at(k, row, xs, bs, &ys, &cs, items, entries, bytes, want)
+    call_at(k, row, xs, bs, &ys, &cs, numbers)
 }

@@ -1,6 +1,6 @@
 // Every answer as three numbers: document 01's number of the refusal, 0 for none, and what else is told.
 ghost use mathlib.Core.Path.{_≡_};
-ghost use Rattle.index_vectors.specs.Told.{three, toldPlace, toldAnswer, toldNumber, toldCount, toldEntry, toldFlag, toldBefore, toldFetched, toldTaken};
+ghost use Rattle.index_vectors.specs.Told.{toldPlace, toldAnswer, toldNumber, toldCount, toldEntry, toldFlag, toldBefore, toldFetched, toldTaken};
 use index::Answer;
 use index::Counted;
 use index::Fetched;
@@ -10,213 +10,100 @@ use index::Position;
 use index::SomeBefore;
 use index::Taken;
 
-pub struct Told {
-    pub number: u64,
-    pub count: u64,
-    pub value: u64,
-}
-
 // A refusal with its position.
-fn told_place(number: u64, place: Position) -> Told
+fn told_place(number: u64, place: Position) -> [u64; 3]
     ensures { λ r. ⌜ r ≡ toldPlace number place ⌝ }
 {
     match place {
-        Position::None => Told {
-            number: number,
-            count: 0,
-            value: 0,
-        },
-        Position::At(i) => Told {
-            number,
-            count: 1,
-            value: i as u64,
-        },
+        Position::None => [number, 0, 0],
+        Position::At(i) => [number, 1, i as u64],
     }
 }
 
 // What a call that writes tells.
-pub fn told_answer(answer: Answer) -> Told
+pub fn told_answer(answer: Answer) -> [u64; 3]
     ensures { λ r. ⌜ r ≡ toldAnswer answer ⌝ }
 {
     match answer {
-        Answer::Accepted => Told {
-            number: 0,
-            count: 0,
-            value: 0,
-        },
+        Answer::Accepted => [0, 0, 0],
         Answer::Refused { number, place } => told_place(number, place),
     }
 }
 
 // A number that may be absent.
-pub fn told_number(found: FoundNumber) -> Told
+pub fn told_number(found: FoundNumber) -> [u64; 3]
     ensures { λ r. ⌜ r ≡ toldNumber found ⌝ }
 {
     match found {
-        FoundNumber::GroupAbsent => Told {
-            number: 9,
-            count: 0,
-            value: 0,
-        },
-        FoundNumber::Absent => Told {
-            number: 0,
-            count: 0,
-            value: 0,
-        },
-        FoundNumber::At(n) => Told {
-            number: 0,
-            count: 1,
-            value: n,
-        },
+        FoundNumber::GroupAbsent => [9, 0, 0],
+        FoundNumber::Absent => [0, 0, 0],
+        FoundNumber::At(n) => [0, 1, n],
     }
 }
 
 // A count of a group.
-pub fn told_count(counted: Counted) -> Told
+pub fn told_count(counted: Counted) -> [u64; 3]
     ensures { λ r. ⌜ r ≡ toldCount counted ⌝ }
 {
     match counted {
-        Counted::GroupAbsent => Told {
-            number: 9,
-            count: 0,
-            value: 0,
-        },
-        Counted::Is(n) => Told {
-            number: 0,
-            count: n as u64,
-            value: 0,
-        },
+        Counted::GroupAbsent => [9, 0, 0],
+        Counted::Is(n) => [0, n as u64, 0],
     }
 }
 
 // Whether there is an entry record.
-pub fn told_entry(found: FoundEntry) -> Told
+pub fn told_entry(found: FoundEntry) -> [u64; 3]
     ensures { λ r. ⌜ r ≡ toldEntry found ⌝ }
 {
     match found {
-        FoundEntry::GroupAbsent => Told {
-            number: 9,
-            count: 0,
-            value: 0,
-        },
-        FoundEntry::Absent => Told {
-            number: 0,
-            count: 0,
-            value: 0,
-        },
-        FoundEntry::At(_) => Told {
-            number: 0,
-            count: 1,
-            value: 0,
-        },
+        FoundEntry::GroupAbsent => [9, 0, 0],
+        FoundEntry::Absent => [0, 0, 0],
+        FoundEntry::At(_) => [0, 1, 0],
     }
 }
 
 // 1 for true, and 0 for false.
-pub fn told_flag(answer: bool) -> Told
+pub fn told_flag(answer: bool) -> [u64; 3]
     ensures { λ r. ⌜ r ≡ toldFlag answer ⌝ }
 {
     if answer {
-        return Told {
-            number: 0,
-            count: 1,
-            value: 0,
-        };
+        return [0, 1, 0];
     }
-    Told {
-        number: 0,
-        count: 0,
-        value: 0,
-    }
+    [0, 0, 0]
 }
 
 // What `has_at_least_some_entries_before` tells.
-pub fn told_before(answer: SomeBefore) -> Told
+pub fn told_before(answer: SomeBefore) -> [u64; 3]
     ensures { λ r. ⌜ r ≡ toldBefore answer ⌝ }
 {
     match answer {
-        SomeBefore::GroupAbsent => Told {
-            number: 9,
-            count: 0,
-            value: 0,
-        },
-        SomeBefore::BadRange => Told {
-            number: 10,
-            count: 0,
-            value: 0,
-        },
+        SomeBefore::GroupAbsent => [9, 0, 0],
+        SomeBefore::BadRange => [10, 0, 0],
         SomeBefore::Is(b) => told_flag(b),
     }
 }
 
 // How many rows of a lent list were filled.
-pub fn told_fetched(answer: Fetched) -> Told
+pub fn told_fetched(answer: Fetched) -> [u64; 3]
     ensures { λ r. ⌜ r ≡ toldFetched answer ⌝ }
 {
     match answer {
-        Fetched::Done(n) => Told {
-            number: 0,
-            count: n as u64,
-            value: 0,
-        },
-        Fetched::GroupAbsent => Told {
-            number: 9,
-            count: 0,
-            value: 0,
-        },
-        Fetched::BadRange => Told {
-            number: 10,
-            count: 0,
-            value: 0,
-        },
-        Fetched::EntryCompacted => Told {
-            number: 11,
-            count: 0,
-            value: 0,
-        },
-        Fetched::EntryNotFound => Told {
-            number: 12,
-            count: 0,
-            value: 0,
-        },
-        Fetched::ListTooShort => Told {
-            number: 19,
-            count: 0,
-            value: 0,
-        },
+        Fetched::Done(n) => [0, n as u64, 0],
+        Fetched::GroupAbsent => [9, 0, 0],
+        Fetched::BadRange => [10, 0, 0],
+        Fetched::EntryCompacted => [11, 0, 0],
+        Fetched::EntryNotFound => [12, 0, 0],
+        Fetched::ListTooShort => [19, 0, 0],
     }
 }
 
 // How many cleaned numbers were handed out.
-pub fn told_taken(answer: Taken) -> Told
+pub fn told_taken(answer: Taken) -> [u64; 3]
     ensures { λ r. ⌜ r ≡ toldTaken answer ⌝ }
 {
     match answer {
-        Taken::Done(n) => Told {
-            number: 0,
-            count: n as u64,
-            value: 0,
-        },
-        Taken::WrongKind => Told {
-            number: 1,
-            count: 0,
-            value: 0,
-        },
-        Taken::ListTooShort => Told {
-            number: 19,
-            count: 0,
-            value: 0,
-        },
-    }
-}
-
-// A live count.
-pub fn told_live(count: usize) -> Told
-    ensures { λ r. ⌜ r ≡ three 0 count 0 ⌝ }
-{
-    Told {
-        number: 0,
-        count: count as u64,
-        value: 0,
+        Taken::Done(n) => [0, n as u64, 0],
+        Taken::WrongKind => [1, 0, 0],
+        Taken::ListTooShort => [19, 0, 0],
     }
 }

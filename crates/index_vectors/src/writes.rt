@@ -1,26 +1,13 @@
 // The calls that write. Each gives back a well-formed area.
 ghost use mathlib.Core.Path.{_≡_};
 ghost use Rattle.contexts.specs.Contexts.{Wf};
-ghost use Rattle.index_vectors.specs.Arguments.{queueAs, gateAs};
+ghost use Rattle.index_vectors.specs.Arguments.{gateAs};
 use crate::row::Row;
 use index::Answer;
-use index::Position;
 use pipe_log::FileId;
 use pipe_log::Gate;
 use pipe_log::LogQueue;
-
-// Where an area has its kind; an Append context has 0.
-const KIND: usize = groups::NUMBERS;
-
-// The queue of a number: 0 Append, otherwise Rewrite.
-pub fn queue_of(number: u64) -> LogQueue
-    ensures { λ r. ⌜ r ≡ queueAs number ⌝ }
-{
-    if number == 0 {
-        return LogQueue::Append;
-    }
-    LogQueue::Rewrite
-}
+use pipe_log::queue_at;
 
 // The gate of a rewrite: none, or a sequence number.
 fn gate_of(gated: u64, seq: u64) -> Gate
@@ -41,30 +28,6 @@ fn fresh(xs: &mut [u64], bs: &mut [u8], queue: LogQueue) -> Answer
     Answer::Accepted
 }
 
-// The answer to a merge of other kinds.
-fn wrong_kind() -> Answer
-    ensures { λ r. ⌜ r ≡ Answer.Refused 1 Position.None ⌝ }
-{
-    Answer::Refused {
-        number: 1,
-        place: Position::None,
-    }
-}
-
-// Merges a newer Append context into an older one; other kinds are refused.
-fn merge(xs: &mut [u64], bs: &mut [u8], ys: &[u64], cs: &[u8]) -> Answer
-    requires { ⌜ Wf (now xs) (now bs) × Wf (now ys) (now cs) ⌝ }
-    ensures { λ _. ⌜ Wf (now (xs .exit)) (now (bs .exit)) ⌝ }
-{
-    if 0 < xs[KIND] {
-        return wrong_kind();
-    }
-    if 0 < ys[KIND] {
-        return wrong_kind();
-    }
-    merging::merge_append(xs, bs, ys, cs)
-}
-
 // The calls of recovery: 0 fresh, 1 replay, 2 merge, otherwise join.
 pub fn recover(
     row: Row,
@@ -81,16 +44,16 @@ pub fn recover(
 {
     let what = row.what;
     if what == 0 {
-        return fresh(xs, bs, queue_of(row.a));
+        return fresh(xs, bs, queue_at(row.a));
     }
     if what == 1 {
-        let file = FileId::new(queue_of(row.a), row.b);
+        let file = FileId::new(queue_at(row.a), row.b);
         return index::replay(xs, bs, file, items, entries, bytes);
     }
     if what == 2 {
-        return merge(xs, bs, ys, cs);
+        return index::merge(xs, bs, ys, cs);
     }
-    merging::join(xs, bs, ys, cs)
+    index::join(xs, bs, ys, cs)
 }
 
 // The live writes: 4 append, otherwise rewrite.
@@ -105,7 +68,7 @@ pub fn write(
     requires { ⌜ Wf (now xs) (now bs) ⌝ }
     ensures { λ _. ⌜ Wf (now (xs .exit)) (now (bs .exit)) ⌝ }
 {
-    let file = FileId::new(queue_of(row.a), row.b);
+    let file = FileId::new(queue_at(row.a), row.b);
     if row.what == 4 {
         return index::append(xs, bs, file, items, entries, bytes);
     }

@@ -22,6 +22,18 @@ mul-e c = search needs
 array-copy-out-e : tie.Need-array-copy-out-e Inv-loop μ-loop
 array-copy-out-e c = search needs
 
+mul-record-is : tie.Need-mul-record-is Inv-loop μ-loop
+mul-record-is c = search needs
+
+add-record-is : tie.Need-add-record-is Inv-loop μ-loop
+add-record-is c = search needs
+
+mul-record-is-2 : tie.Need-mul-record-is-2 Inv-loop μ-loop
+mul-record-is-2 c = search needs
+
+add-record-is-2 : tie.Need-add-record-is-2 Inv-loop μ-loop
+add-record-is-2 c = search needs
+
 record-is-requires : tie.Need-record-is-requires Inv-loop μ-loop
 record-is-requires c κs = search needs
 
@@ -50,6 +62,10 @@ records-are-spec =
     loop-holds
     mul-e
     array-copy-out-e
+    mul-record-is
+    add-record-is
+    mul-record-is-2
+    add-record-is-2
     record-is-requires
     returns-2
     add-i

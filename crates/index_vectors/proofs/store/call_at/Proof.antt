@@ -39,7 +39,7 @@ part-call-end-2 c = search needs
 
 call-requires : tie.Need-call-requires
 call-requires c κs =
-    let start = c .before .before .before .before .before .before .before .before .before .before in
+    let start = c .before .before .before .before .before .before .before in
     (lent-wf (start .args .k) (start .args .xs .now) (start .args .bs .now) (start .pre .1 .0) (start .pre .0), start .pre .1 .1)
 
 same-length : tie.Need-same-length
@@ -50,7 +50,7 @@ same-length-2 c = search needs
 
 returns : tie.Need-returns
 returns c =
-    let start = c .before .before .before .before .before .before .before .before .before .before .before .before .before .before .before in
+    let start = c .before .before .before .before .before .before .before .before .before .before .before .before in
     let call = c .before .before .before .before .call in
     one-changed (start .args .k) (start .args .xs .now) (start .args .bs .now) _ _ (start .pre .0) (start .pre .1 .0) (call .ensures)
 

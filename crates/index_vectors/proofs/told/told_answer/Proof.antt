@@ -21,4 +21,11 @@ returns-2 c =
     rw (answer .given .1) (c .told-place .ensures)
 
 pub told-answer-spec : {M : Type 1} → statement M
-told-answer-spec = tie.close (tie.spec enum-told enum-known-answer told-place-requires returns returns-2)
+told-answer-spec =
+    tie.close
+    (tie.spec
+    enum-told
+    enum-known-answer
+    told-place-requires
+    returns
+    returns-2)

@@ -24,4 +24,12 @@ returns-3 c =
     rw (found .given .1)
 
 pub told-number-spec : {M : Type 1} → statement M
-told-number-spec = tie.close (tie.spec enum-told enum-told-2 enum-known-found returns returns-2 returns-3)
+told-number-spec =
+    tie.close
+    (tie.spec
+    enum-told
+    enum-told-2
+    enum-known-found
+    returns
+    returns-2
+    returns-3)

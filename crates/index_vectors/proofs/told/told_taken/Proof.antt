@@ -24,4 +24,12 @@ returns-3 : tie.Need-returns-3
 returns-3 c = rw (c .enum-told2 .given .1)
 
 pub told-taken-spec : {M : Type 1} → statement M
-told-taken-spec = tie.close (tie.spec enum-known-answer enum-told enum-told-2 returns returns-2 returns-3)
+told-taken-spec =
+    tie.close
+    (tie.spec
+    enum-known-answer
+    enum-told
+    enum-told-2
+    returns
+    returns-2
+    returns-3)
