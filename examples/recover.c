@@ -1,5 +1,5 @@
-/* Recovers a run of the Append queue into a context, which is joined to a Rewrite context. The index that this makes takes a live batch, and
- * what it holds is read. */
+/* Recovers two runs of the Append queue, each into a context of its own; the newer one is merged into the older one, which is joined to
+ * a Rewrite context. The index that this makes takes a live batch, and what it holds is read. */
 #include "galdnyrr.h"
 
 #include <inttypes.h>
@@ -11,7 +11,7 @@ struct area {
     uint8_t bytes[GALDNYRR_BYTES];
 };
 
-static struct area run, all;
+static struct area older, newer, all;
 
 /* A batch in the making, with room for what a call takes at most. */
 struct batch {
@@ -99,6 +99,13 @@ static void append(struct area *a, uint64_t seq, const struct batch *b) {
     tell("append", number, place);
 }
 
+static void merge(struct area *a, const struct area *its) {
+    uint64_t place;
+    uint64_t number = galdnyrr_merge(a->numbers, GALDNYRR_NUMBERS, a->bytes, GALDNYRR_BYTES, its->numbers,
+                                     GALDNYRR_NUMBERS, its->bytes, GALDNYRR_BYTES, &place);
+    tell("merge", number, place);
+}
+
 static void join(struct area *a, const struct area *its) {
     uint64_t place;
     uint64_t number = galdnyrr_join(a->numbers, GALDNYRR_NUMBERS, a->bytes, GALDNYRR_BYTES, its->numbers,
@@ -144,30 +151,39 @@ static void get(const struct area *a, uint64_t group, const char *key, size_t ke
 }
 
 int main(void) {
-    fresh(&run, GALDNYRR_APPEND);
+    fresh(&older, GALDNYRR_APPEND);
     struct batch first = {.items_len = 0};
     add_entries(&first, 7, 1, 10, 1, 100);
     add_put(&first, 7, "key", 3, "value", 5, 1);
-    replay(&run, 1, &first);
+    replay(&older, 1, &first);
 
     /* A gap: the group ends at 10. Nothing of this batch stays. */
     struct batch gap = {.items_len = 0};
     add_put(&gap, 8, "key", 3, "", 0, 2);
     add_entries(&gap, 7, 12, 1, 2, 100);
-    replay(&run, 2, &gap);
+    replay(&older, 2, &gap);
 
+    /* The run behind it, in a context of its own: its entries take the place of those from 9 on. */
+    fresh(&newer, GALDNYRR_APPEND);
+    struct batch second = {.items_len = 0};
+    add_entries(&second, 7, 9, 3, 3, 50);
+    replay(&newer, 3, &second);
+
+    merge(&older, &newer);
     printf("live entries: %zu\n",
-           galdnyrr_live_entries(run.numbers, GALDNYRR_NUMBERS, run.bytes, GALDNYRR_BYTES, GALDNYRR_APPEND));
+           galdnyrr_live_entries(older.numbers, GALDNYRR_NUMBERS, older.bytes, GALDNYRR_BYTES, GALDNYRR_APPEND));
+
+    /* A context of the other queue is joined, not merged. */
     fresh(&all, GALDNYRR_REWRITE);
-    join(&run, &all);
-    join(&all, &run);
+    merge(&older, &all);
+    join(&all, &older);
 
     struct batch live = {.items_len = 0};
-    add_entries(&live, 7, 11, 1, 3, 50);
-    append(&all, 3, &live);
+    add_entries(&live, 7, 12, 1, 4, 50);
+    append(&all, 4, &live);
 
-    fetch(&all, 7, 9, 12);
-    fetch(&all, 7, 9, 13);
+    fetch(&all, 7, 8, 13);
+    fetch(&all, 7, 9, 14);
     get(&all, 7, "key", 3);
     get(&all, 7, "other", 5);
     get(&all, 8, "key", 3);

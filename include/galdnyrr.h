@@ -113,6 +113,11 @@ uint64_t galdnyrr_replay(uint64_t *numbers, size_t numbers_len, uint8_t *bytes, 
                          uint64_t seq, const uint64_t *items, size_t items_len, const uint64_t *entries,
                          size_t entries_len, const uint8_t *batch_bytes, size_t batch_bytes_len, uint64_t *place);
 
+/* Merges the newer context of the same queue, which is only read, into the older one. Refused, without a place: 1, 8, 14, 18. */
+uint64_t galdnyrr_merge(uint64_t *numbers, size_t numbers_len, uint8_t *bytes, size_t bytes_len,
+                        const uint64_t *newer_numbers, size_t newer_numbers_len, const uint8_t *newer_bytes,
+                        size_t newer_bytes_len, uint64_t *place);
+
 /* Joins an Append context, which is only read, to a Rewrite context, which becomes the index. Refused, without a place: 1, 18. */
 uint64_t galdnyrr_join(uint64_t *numbers, size_t numbers_len, uint8_t *bytes, size_t bytes_len,
                        const uint64_t *append_numbers, size_t append_numbers_len, const uint8_t *append_bytes,

@@ -81,6 +81,26 @@ impl Area {
         told(number, place)
     }
 
+    /// Merges a newer context of the same queue, which is only read, into this one.
+    pub fn merge(&mut self, newer: &Area) -> Result<(), Refusal> {
+        let mut place = NO_PLACE;
+        // SAFETY: both areas are ones that the calls made; `self` is borrowed mutably, so they are not one.
+        let number = unsafe {
+            ffi::galdnyrr_merge(
+                self.numbers.as_mut_ptr(),
+                NUMBERS,
+                self.bytes.as_mut_ptr(),
+                BYTES,
+                newer.numbers.as_ptr(),
+                NUMBERS,
+                newer.bytes.as_ptr(),
+                BYTES,
+                &mut place,
+            )
+        };
+        told(number, place)
+    }
+
     /// Joins an Append context, which is only read, to this Rewrite context, which becomes the index.
     pub fn join(&mut self, append: &Area) -> Result<(), Refusal> {
         let mut place = NO_PLACE;

@@ -36,6 +36,11 @@ impl Context {
         self.area.replay(batch.file(), batch.rows())
     }
 
+    /// Merges the context of the run behind this one's, of the same queue. Refused: 1, 8, 14 and 18.
+    pub fn merge(&mut self, newer: &Context) -> Result<(), Refusal> {
+        self.area.merge(&newer.area)
+    }
+
     /// The index of this Rewrite context and an Append context. Refused, with this context as it was: 1 and 18.
     pub fn join(mut self, append: &Context) -> Result<Index, (Context, Refusal)> {
         match self.area.join(&append.area) {

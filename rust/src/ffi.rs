@@ -9,6 +9,18 @@ extern "C" {
         queue: u64,
     );
 
+    pub fn galdnyrr_merge(
+        numbers: *mut u64,
+        numbers_len: usize,
+        bytes: *mut u8,
+        bytes_len: usize,
+        newer_numbers: *const u64,
+        newer_numbers_len: usize,
+        newer_bytes: *const u8,
+        newer_bytes_len: usize,
+        place: *mut u64,
+    ) -> u64;
+
     pub fn galdnyrr_join(
         numbers: *mut u64,
         numbers_len: usize,

@@ -155,3 +155,36 @@ fn a_join_makes_the_index() {
     assert_eq!((index.last_index(7), index.rewrite_count(7)), (Ok(Some(4)), Ok(2)));
     assert!(Index::new().is_empty());
 }
+
+#[test]
+fn runs_merged_are_one_pass() {
+    let of = |first, last, seq| {
+        let mut b = Batch::new(Queue::Append, seq);
+        b.entries(7, &entries(first, last, seq));
+        b
+    };
+    let batches = [of(1, 4, 1), of(3, 6, 2), of(7, 8, 3)];
+    let whole = replayed(&batches);
+    let mut older = replayed(&batches[..1]);
+    older.merge(&replayed(&batches[1..])).unwrap();
+    let fetched = |c: &Context| {
+        let mut list = Records::with_room(64);
+        c.fetch_entries_to(7, 1, 9, None, &mut list).unwrap();
+        list.iter().map(|e| (e.index, e.file.seq)).collect::<Vec<_>>()
+    };
+    assert_eq!(fetched(&older), fetched(&whole));
+    assert_eq!(older.live_entries(Queue::Append), 8);
+}
+
+#[test]
+fn a_refused_merge_leaves_both() {
+    let mut b = batch();
+    b.entries(7, &entries(1, 4, 1));
+    let mut older = replayed(&[b]);
+    let mut b = batch();
+    b.entries(7, &entries(9, 9, 2));
+    let newer = replayed(&[b]);
+    assert_eq!(older.merge(&newer).unwrap_err().cause(), Some(Cause::AboveLast));
+    assert_eq!(older.merge(&Context::new(Queue::Rewrite)).unwrap_err().cause(), Some(Cause::WrongKind));
+    assert_eq!((older.last_index(7), newer.first_index(7)), (Ok(Some(4)), Ok(Some(9))));
+}

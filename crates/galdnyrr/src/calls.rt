@@ -39,6 +39,23 @@ pub extern "C" fn galdnyrr_replay(
     tell(answer, place)
 }
 
+// Merges a newer context, which is only read, into an older one of the same queue.
+#[no_mangle]
+pub extern "C" fn galdnyrr_merge(
+    xs: &mut [u64],
+    bs: &mut [u8],
+    ys: &[u64],
+    cs: &[u8],
+    place: &mut u64,
+) -> u64
+    requires { ⌜ Wf (now xs) (now bs) ⌝ }
+    requires { ⌜ Wf (now ys) (now cs) ⌝ }
+    ensures { λ r. ⌜ Told (rules·calls.merge (contextOf (now (ys .entry)) (now (cs .entry)))) (now (xs .entry)) (now (bs .entry)) r (now (place .exit)) (now (xs .exit)) (now (bs .exit)) ⌝ }
+{
+    let answer = index::merge(xs, bs, ys, cs);
+    tell(answer, place)
+}
+
 // Joins an Append context, which is only read, to a Rewrite context, which becomes the index.
 #[no_mangle]
 pub extern "C" fn galdnyrr_join(
@@ -52,7 +69,7 @@ pub extern "C" fn galdnyrr_join(
     requires { ⌜ Wf (now ys) (now cs) ⌝ }
     ensures { λ r. ⌜ Told (rules·calls.join (contextOf (now (ys .entry)) (now (cs .entry)))) (now (xs .entry)) (now (bs .entry)) r (now (place .exit)) (now (xs .exit)) (now (bs .exit)) ⌝ }
 {
-    let answer = merging::join(xs, bs, ys, cs);
+    let answer = index::join(xs, bs, ys, cs);
     tell(answer, place)
 }
 
