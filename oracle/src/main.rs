@@ -90,7 +90,11 @@ fn main() {
         ["vectors", "index", seed, n] => vectors::index(number(seed), number(n)),
         ["vectors", "takes", seed, n] => vectors::takes(number(seed), number(n)),
         ["vectors", "mix", seed, n] => vectors::mix(number(seed), number(n)),
-        ["cuttings", n] => exit_with(cuttings::run(number(n))),
+        ["cuttings", n] => exit_with(cuttings::run(number(n), || Box::new(Driver::new(true)))),
+        #[cfg(feature = "port")]
+        ["port", "cuttings", n] => {
+            exit_with(cuttings::run(number(n), || Box::new(port::Port::default())))
+        }
         #[cfg(feature = "port")]
         ["port", n] => exit_with(port::run::run(1, number(n))),
         #[cfg(feature = "port")]

@@ -3,6 +3,7 @@
 use super::dump::dump;
 use super::query::{ask, queue};
 use super::rows::Lent;
+use crate::cuttings::Answers;
 use crate::text::{Line, Read, Tokens};
 use galdnyrr::{Area, Queue, Refusal};
 use raft_engine::env::FileId;
@@ -19,6 +20,12 @@ pub struct Port {
     pub changed_by_refusal: bool,
     /// Whether the last call wrote more of a lent list than its answer.
     pub spilt: bool,
+}
+
+impl Answers for Port {
+    fn answer(&mut self, line: &str) -> Read<Answer> {
+        self.line(line)?.ok_or_else(|| "the library has no such call".to_string())
+    }
 }
 
 impl Port {
@@ -86,14 +93,10 @@ impl Port {
                 t.end()?;
                 self.batch(n, word, file, gate, &Lent::of(&items))
             }
-            "merge" => {
-                self.objects.insert(n, None);
-                Ok(None)
-            }
-            "join" => {
+            "merge" | "join" => {
                 let other = t.number()?;
                 t.end()?;
-                self.join(n, other)
+                self.combine(n, word, other)
             }
             "cleaned" => {
                 t.end()?;
@@ -118,8 +121,8 @@ impl Port {
         }
     }
 
-    /// A join, of any kinds.
-    fn join(&mut self, n: u64, other: u64) -> Read<Option<Answer>> {
+    /// A merge or a join, of any kinds.
+    fn combine(&mut self, n: u64, word: &str, other: u64) -> Read<Option<Answer>> {
         let (mut area, newer) = match (self.object(n)?, self.object(other)?) {
             (Some(a), Some(b)) => (a.clone(), b.clone()),
             _ => {
@@ -128,7 +131,7 @@ impl Port {
             }
         };
         let before = dump(&area);
-        let answer = area.join(&newer);
+        let answer = if word == "merge" { area.merge(&newer) } else { area.join(&newer) };
         self.changed_by_refusal = answer.is_err() && before != dump(&area);
         self.objects.insert(n, Some(area));
         Ok(match answer {
