@@ -55,6 +55,13 @@ fn main() {
     }
 }
 
+/// Recovery of 10,000 batches, a batch's share of the time.
+const RECOVERIES: [(&str, usize); 3] = [
+    ("recovery of 10,000 batches in 1 run, a batch", 1),
+    ("recovery of 10,000 batches in 4 runs, a batch", 4),
+    ("recovery of 10,000 batches in 16 runs, a batch", 16),
+];
+
 fn rows() -> Vec<Row> {
     let mut out = Vec::new();
     for (name, before, work) in work::replays().into_iter().chain(work::key_replays()) {
@@ -65,13 +72,28 @@ fn rows() -> Vec<Row> {
         let (rust, port) = (rust::live(&before, &work, live), port::live(&before, &work, live));
         out.push(Row { name, calls, rust, port });
     }
-    let run = work::entries_32();
+    let (older, newer) = work::two_runs();
+    out.push(Row {
+        name: "merge of 8 groups of 32 entries",
+        calls: 1,
+        rust: rust::merge(&older, &newer),
+        port: port::merge(&older, &newer),
+    });
     out.push(Row {
         name: "join of 8 groups of 32 entries",
         calls: 1,
-        rust: rust::join(&run),
-        port: port::join(&run),
+        rust: rust::join(&older),
+        port: port::join(&older),
     });
+    let batches = work::recovery();
+    for (name, runs) in RECOVERIES {
+        out.push(Row {
+            name,
+            calls: batches.batches.len() as u32,
+            rust: rust::recover(&batches, runs),
+            port: port::recover(&batches, runs),
+        });
+    }
     out.extend(work::queries().into_iter().map(|(name, query)| query_row(name, 16, query)));
     out.extend(work::key_queries().into_iter().map(|(name, keys, query)| query_row(name, keys, query)));
     out

@@ -122,6 +122,10 @@ fn index(before: &[Batch]) -> Index {
     }
 }
 
+pub fn index_of(before: &Work) -> Index {
+    index(&batches(before))
+}
+
 /// A rewrite of the entries of a batch, in a file of the Rewrite queue.
 fn rewrite(items: &[Item]) -> Batch {
     let mut b = Batch::new(Queue::Rewrite, 1);
@@ -156,6 +160,16 @@ pub fn live(before: &Work, work: &Work, live: Live) -> Side {
     })
 }
 
+pub fn merge(older: &Work, newer: &Work) -> Side {
+    let (older, newer) = (context(&batches(older)), context(&batches(newer)));
+    Box::new(move || {
+        let mut c = older.clone();
+        let start = Instant::now();
+        c.merge(&newer).unwrap();
+        start.elapsed()
+    })
+}
+
 pub fn join(append: &Work) -> Side {
     let append = context(&batches(append));
     Box::new(move || {
@@ -165,5 +179,23 @@ pub fn join(append: &Work) -> Side {
         let took = start.elapsed();
         assert!(joined.is_ok());
         took
+    })
+}
+
+/// Batches cut into runs of one length, each replayed into a context and merged behind the ones before it.
+pub fn recover(work: &Work, runs: usize) -> Side {
+    let lent = batches(work);
+    let mut whole = Context::new(Queue::Append);
+    let mut run = Context::new(Queue::Append);
+    Box::new(move || {
+        let start = Instant::now();
+        whole.reset();
+        for part in lent.chunks(lent.len().div_ceil(runs)) {
+            run.reset();
+            replay_all(&mut run, part);
+            whole.merge(&run).unwrap();
+        }
+        black_box(&whole);
+        start.elapsed()
     })
 }

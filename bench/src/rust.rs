@@ -114,7 +114,7 @@ pub fn query(before: &Work, query: Query) -> Side {
     })
 }
 
-fn index(before: &Work) -> Index {
+pub fn index(before: &Work) -> Index {
     probe::join(probe::new_context(), context(before))
 }
 
@@ -157,12 +157,43 @@ pub fn live(before: &Work, work: &Work, live: Live) -> Side {
     })
 }
 
+pub fn merge(older: &Work, newer: &Work) -> Side {
+    let (older, newer) = (older.clone(), newer.clone());
+    Box::new(move || {
+        let (mut a, b) = (context(&older), context(&newer));
+        let start = Instant::now();
+        probe::merge(&mut a, b, APPEND);
+        start.elapsed()
+    })
+}
+
 pub fn join(append: &Work) -> Side {
     let append = append.clone();
     Box::new(move || {
         let (a, b) = (probe::new_context(), context(&append));
         let start = Instant::now();
         black_box(probe::join(a, b));
+        start.elapsed()
+    })
+}
+
+/// Batches cut into runs of one length, each replayed into a context and merged behind the ones before it.
+pub fn recover(work: &Work, runs: usize) -> Side {
+    let work = work.clone();
+    Box::new(move || {
+        let mut lent = batches(&work);
+        let length = lent.len().div_ceil(runs);
+        let start = Instant::now();
+        let mut whole = probe::new_context();
+        while !lent.is_empty() {
+            let rest = lent.split_off(length.min(lent.len()));
+            let mut c = probe::new_context();
+            for batch in std::mem::replace(&mut lent, rest) {
+                probe::replay(&mut c, batch, FileId::new(APPEND, 1));
+            }
+            probe::merge(&mut whole, c, APPEND);
+        }
+        black_box(&whole);
         start.elapsed()
     })
 }

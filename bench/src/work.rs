@@ -54,7 +54,7 @@ fn over_groups(n: u64, batch: impl Fn(u64, u64) -> Batch) -> Work {
 }
 
 /// Eight groups with 32 entries each.
-pub fn entries_32() -> Work {
+fn entries_32() -> Work {
     over_groups(1, |_, g| vec![Item::Entries(g, 1, 32, 1)])
 }
 
@@ -157,6 +157,27 @@ pub fn live() -> Vec<(&'static str, Work, Work, Live)> {
             over_groups(1, |_, g| vec![Item::Entries(g, 1, 32, 1)]),
             Live::Rewrite,
         ),
+    ]
+}
+
+/// Two runs of eight groups with 32 entries each, the second behind the first.
+pub fn two_runs() -> (Work, Work) {
+    (entries_32(), over_groups(1, |_, g| vec![Item::Entries(g, 33, 32, 2)]))
+}
+
+/// 10,000 batches of one entry over eight groups, which go over 64 indexes again and again.
+pub fn recovery() -> Work {
+    over_groups(1250, |i, g| vec![Item::Entries(g, i % 64 + 1, 1, i / 100 + 1)])
+}
+
+/// What indexes hold whose memory is measured.
+pub fn indexes() -> Vec<(&'static str, Work)> {
+    let mut full = filled(16);
+    full.batches.extend(over_groups(1, |_, g| vec![Item::Entries(g, 33, 32, 1)]).batches);
+    vec![
+        ("no group", Work::default()),
+        ("8 groups of 32 entries and 16 keys", filled(16)),
+        ("8 groups of 64 entries and 16 keys", full),
     ]
 }
 
