@@ -43,7 +43,7 @@ fn replay_all(c: &mut Context, batches: &[Batch]) {
     }
 }
 
-fn batches(work: &Work) -> Vec<Batch> {
+pub fn batches(work: &Work) -> Vec<Batch> {
     work.batches.iter().map(|b| batch(b)).collect()
 }
 
@@ -115,15 +115,11 @@ fn context(batches: &[Batch]) -> Context {
     c
 }
 
-fn index(before: &[Batch]) -> Index {
+pub fn index(before: &[Batch]) -> Index {
     match Context::new(Queue::Rewrite).join(&context(before)) {
         Ok(index) => index,
         Err((_, refusal)) => panic!("{refusal}"),
     }
-}
-
-pub fn index_of(before: &Work) -> Index {
-    index(&batches(before))
 }
 
 /// A rewrite of the entries of a batch, in a file of the Rewrite queue.

@@ -170,17 +170,6 @@ pub fn recovery() -> Work {
     over_groups(1250, |i, g| vec![Item::Entries(g, i % 64 + 1, 1, i / 100 + 1)])
 }
 
-/// What indexes hold whose memory is measured.
-pub fn indexes() -> Vec<(&'static str, Work)> {
-    let mut full = filled(16);
-    full.batches.extend(over_groups(1, |_, g| vec![Item::Entries(g, 33, 32, 1)]).batches);
-    vec![
-        ("no group", Work::default()),
-        ("8 groups of 32 entries and 16 keys", filled(16)),
-        ("8 groups of 64 entries and 16 keys", full),
-    ]
-}
-
 pub fn queries() -> Vec<(&'static str, Query)> {
     vec![
         ("first_index", Query::FirstIndex),

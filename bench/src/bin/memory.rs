@@ -12,6 +12,7 @@ mod work;
 use std::alloc::{GlobalAlloc, Layout, System};
 use std::sync::atomic::{AtomicUsize, Ordering};
 use std::time::Duration;
+use work::Work;
 
 pub type Side = Box<dyn FnMut() -> Duration>;
 
@@ -44,11 +45,27 @@ fn held<T>(make: impl FnOnce() -> T) -> usize {
     after - before
 }
 
+/// What the indexes hold.
+fn indexes() -> [(&'static str, Work); 3] {
+    let mut full = work::filled(16);
+    full.batches.extend(work::two_runs().1.batches);
+    [
+        ("no group", Work::default()),
+        ("8 groups of 32 entries and 16 keys", work::filled(16)),
+        ("8 groups of 64 entries and 16 keys", full),
+    ]
+}
+
+fn port_held(work: &Work) -> usize {
+    let batches = port::batches(work);
+    held(|| port::index(&batches))
+}
+
 fn main() {
     println!("| memory of an index | Rust, bytes | port, bytes | port / Rust |");
     println!("|---|---|---|---|");
-    for (name, work) in work::indexes() {
-        let (rust, port) = (held(|| rust::index(&work)), held(|| port::index_of(&work)));
+    for (name, work) in indexes() {
+        let (rust, port) = (held(|| rust::index(&work)), port_held(&work));
         println!("| {} | {} | {} | {:.2} |", name, rust, port, port as f64 / rust as f64);
     }
 }
