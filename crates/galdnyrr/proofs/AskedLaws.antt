@@ -18,8 +18,9 @@ use Rattle.queries.specs.declared.Taken.{Taken}
 use Rattle.queries.specs.Answers.{fetchedAs, takenAs}
 use Rattle.queries.specs.Cleaned.{CleanedTaken}
 use Rattle.queries.specs.Fetches.{EntriesFetched, KeysFetched, NumbersFetched}
+use Rattle.records.specs.Rows.{rowOf, RowsFetched}
 use Rattle.galdnyrr.specs.Told as told
-use Rattle.galdnyrr.specs.Asked.{absent, numberOrAbsent, valueAfter, foundAfter, flagOf, flagged, rowOf, inRow, rowAfter, ValueTold, FoundTold, EntryTold, EntriesTold, KeysTold, NumbersTold, CleanedTold}
+use Rattle.galdnyrr.specs.Asked.{absent, numberOrAbsent, valueAfter, foundAfter, flagOf, flagged, inRow, rowAfter, ValueTold, FoundTold, EntryTold, EntriesTold, RowsTold, KeysTold, NumbersTold, CleanedTold}
 
 -- ---- a number
 
@@ -91,6 +92,9 @@ entry-same {row = row} {n = n} {row′ = row′} e = subst (λ r. EntryTold r ro
 pub entries-told : {answer : Result (List EntryIndex)} {out : Columns} {r : Fetched} {exits : Columns} {k n k′ : ℕ} → EntriesFetched answer out r exits → ValueTold (fetchedAs r) k n k′ → EntriesTold answer out k n k′ exits
 entries-told f t = record { told = value-same (f .number) t; slices = f .slices; records-are = f .records-are }
 
+pub rows-told : {answer : Result (List EntryIndex)} {out : List ℕ} {r : Fetched} {exits : List ℕ} {k n k′ : ℕ} → RowsFetched answer out r exits → ValueTold (fetchedAs r) k n k′ → RowsTold answer out k n k′ exits
+rows-told f t = record { told = value-same (f .number) t; rows = f .rows }
+
 pub keys-told : {answer : Result (List KeyValue)} {lens out : List ℕ} {r : Fetched} {lens′ out′ : List ℕ} {k n k′ : ℕ} → KeysFetched answer lens out r lens′ out′ → ValueTold (fetchedAs r) k n k′ → KeysTold answer lens out k n k′ lens′ out′
 keys-told f t = record { told = value-same (f .number) t; lens-are = f .lens-are; bytes-are = f .bytes-are; rows-are = f .rows-are }
 
@@ -110,3 +114,7 @@ module _ (g : ℕ) (c : Context) where
   pub fetch-told : (begin end : ℕ) {x y : Option ℕ} {out : Columns} {r : Fetched} {exits : Columns} {k n k′ : ℕ} → x ≡ y → EntriesFetched (inGroup g (fetchEntriesTo begin end x) c) out r exits → ValueTold (fetchedAs r) k n k′ → EntriesTold (inGroup g (fetchEntriesTo begin end y) c) out k n k′ exits
   fetch-told begin end {out = out} {exits = exits} {k = k} {n = n} {k′ = k′} e f t =
       subst (λ x. EntriesTold (inGroup g (fetchEntriesTo begin end x) c) out k n k′ exits) e (entries-told f t)
+
+  pub rows-to-told : (begin end : ℕ) {x y : Option ℕ} {out : List ℕ} {r : Fetched} {exits : List ℕ} {k n k′ : ℕ} → x ≡ y → RowsFetched (inGroup g (fetchEntriesTo begin end x) c) out r exits → ValueTold (fetchedAs r) k n k′ → RowsTold (inGroup g (fetchEntriesTo begin end y) c) out k n k′ exits
+  rows-to-told begin end {out = out} {exits = exits} {k = k} {n = n} {k′ = k′} e f t =
+      subst (λ x. RowsTold (inGroup g (fetchEntriesTo begin end x) c) out k n k′ exits) e (rows-told f t)

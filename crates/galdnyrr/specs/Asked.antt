@@ -7,15 +7,15 @@ use Prim.Native.Nat.{ℕ}
 use lib.Dec.{leb}
 use lib.ListN.{length}
 use Rattle.cells.specs.Part.{put}
-use Rattle.pipe_log.specs.Numbers.{queueNumber, compressionNumber}
 use Rattle.rules.specs.Causes.{Result, ok, refused, refuse, listTooShort, andThen}
-use Rattle.rules.specs.Items.{EntryIndex, fileOf}
+use Rattle.rules.specs.Items.{EntryIndex}
 use Rattle.rules.specs.TableQueries.{KeyValue}
 use Rattle.rules.specs.Queries.{answered, lentAfter, takeCleaned, afterTaking}
 use Rattle.kvs.specs.Lists.{lentList, lensAfter, bytesAfter}
-use Rattle.memtable.specs.Columns.{Columns, blockOffset, blockLen, columnsAfter}
+use Rattle.memtable.specs.Columns.{Columns, columnsAfter}
 use Rattle.contexts.specs.Contexts.{contextOf, Wf}
 use Rattle.queries.specs.Slices.{recordsIn}
+use Rattle.records.specs.Rows.{rowOf, lentRows, rowsAfter}
 use Rattle.galdnyrr.specs.Told.{numberOf}
 
 -- what is returned for an answer that is absent; no cause has this number
@@ -54,19 +54,7 @@ flagOf b = cond b 1 0
 unfoldable pub flagged : Result Bool → Result ℕ
 flagged r = andThen r (λ b. ok (flagOf b))
 
--- ---- a record, as a row of eight numbers
-
-unfoldable pub rowOf : EntryIndex → List ℕ
-rowOf e =
-    e .index
-    ∷ queueNumber (fileOf e .queue)
-    ∷ fileOf e .seq
-    ∷ blockOffset (e .entries)
-    ∷ blockLen (e .entries)
-    ∷ compressionNumber (e .«compression_type»)
-    ∷ e .«entry_offset»
-    ∷ e .«entry_len»
-    ∷ []
+-- ---- a record, as a row of eight numbers (`rowOf`)
 
 -- a record that finds no room in the lent row
 unfoldable pub inRow : List ℕ → Result (Option EntryIndex) → Result (Option EntryIndex)
@@ -90,6 +78,11 @@ pub record EntriesTold (answer : Result (List EntryIndex)) (out : Columns) (coun
   pub slices : exits ≡ columnsAfter out (answered (recordsIn out) answer)
   -- the records of the list at exit are those that the rules leave there
   pub records-are : recordsIn exits ≡ lentAfter (recordsIn out) (answered (recordsIn out) answer)
+
+-- the same in one list of rows
+pub record RowsTold (answer : Result (List EntryIndex)) (out : List ℕ) (count number count′ : ℕ) (exits : List ℕ) : Type 0 where
+  pub told : ValueTold (andThen (answered (lentRows out) answer) (λ es. ok (length es))) count number count′
+  pub rows : exits ≡ rowsAfter out (answered (lentRows out) answer)
 
 pub record KeysTold (answer : Result (List KeyValue)) (lens out : List ℕ) (count number count′ : ℕ) (lens′ out′ : List ℕ) : Type 0 where
   pub told : ValueTold (andThen (answered (lentList lens out) answer) (λ rows. ok (length rows))) count number count′

@@ -8,3 +8,4 @@ mod cleaned;
 mod fetches;
 mod keys;
 mod numbers;
+mod rows;

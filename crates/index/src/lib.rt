@@ -45,6 +45,9 @@ pub use records::Fetch;
 pub use records::Listed;
 pub use records::fetch_listed;
 pub use records::fetch_records;
+pub use records::fetch_rewritten_rows;
+pub use records::fetch_rows_before;
+pub use records::fetch_rows_to;
 pub use replays::replay;
 
 // Where the room of the waiting parts begins in an area's numbers and in its bytes.

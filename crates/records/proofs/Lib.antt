@@ -1,3 +1,4 @@
 pub mod FillWays
 pub mod RangeWays
 pub mod PlanWays
+pub mod RowWays

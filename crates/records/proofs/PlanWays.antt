@@ -119,11 +119,14 @@ module _ {g : ℕ} {xs bs : List ℕ} {k : ℕ} (w : Wf xs bs) (s : StandsAt g x
         let r = own-wf .room in
         omega (arith, e, r, l)
 
-    records-at : window (h .«first_index» + a) n (drop (k * 586 + 10 + a * 8) xs) ≡ entriesAt a n h rows
+    pub records-at : window (h .«first_index» + a) n (drop (k * 586 + 10 + a * 8) xs) ≡ entriesAt a n h rows
     unfolding entriesAt
     records-at =
         let b = last-row in
         window-same (h .«first_index» + a) n (drop (k * 586 + 10 + a * 8) xs) (drop (a * 8) rows) (λ j m. numbers-at a j (omega (arith, b, m)))
+
+    pub length-records : length (entriesAt a n h rows) ≡ n
+    length-records = rw (← records-at) (length-window (h .«first_index» + a) n (drop (k * 586 + 10 + a * 8) xs))
 
     row-at : (i : ℕ) → i < n → AnyRow (drop (k * 586 + 10 + a * 8) xs) i
     row-at i m =
@@ -136,7 +139,7 @@ module _ {g : ℕ} {xs bs : List ℕ} {k : ℕ} (w : Wf xs bs) (s : StandsAt g x
           len = rw (numbers-at a (i * 8 + 7) (omega (arith, b, m))) (r .len);
         }
 
-    fillable-at : (room : ℕ) → n ≤ room → Fillable (k * 586 + 10 + a * 8) (h .«first_index» + a) n xs room
+    pub fillable-at : (room : ℕ) → n ≤ room → Fillable (k * 586 + 10 + a * 8) (h .«first_index» + a) n xs room
     fillable-at room m =
         let b = last-row in
         let i = own-wf .index in
@@ -159,7 +162,7 @@ module _ {g : ℕ} {xs bs : List ℕ} {k : ℕ} (w : Wf xs bs) (s : StandsAt g x
   unfolding planOf
   planned query (Rows a n) room r =
       let d = range-there query (Rows a n) r in
-      let e : length (entriesAt a n h rows) ≡ n = rw (← records-at a n (r .within)) (length-window (h .«first_index» + a) n (drop (k * 586 + 10 + a * 8) xs)) in
+      let e = length-records a n (r .within) in
       elim (decLe n room) [
         | yes l ↦
             rw (le-leb n room l)
@@ -185,3 +188,7 @@ module _ {g : ℕ} {xs bs : List ℕ} {k : ℕ} (w : Wf xs bs) (s : StandsAt g x
 
     pub planned-at : (query : Table → Result (List EntryIndex)) (range : Range) (room : ℕ) {p : Plan} → RangeAnswer head lent query range → p ≡ planOf k head range room → Planned query g xs bs room p
     planned-at query range room a f = rw (f, e) (planned query range room (rw (e, d) at a))
+
+    -- what the range answers, the group answers
+    pub range-answers : (query : Table → Result (List EntryIndex)) (range : Range) → RangeAnswer head lent query range → rangeOf range head rows ≡ inGroup g query (contextOf xs bs)
+    range-answers query range a = rw e (range-there query range (rw (e, d) at a))

@@ -39,7 +39,7 @@ window-one : (f : ℕ) (p : List ℕ) → window f 1 p ≡ withIndex f (entryOf 
 unfolding window
 window-one f p = refl
 
-window-snoc : (f n : ℕ) (p : List ℕ) → window f n p ++ (rowAt f p n ∷ []) ≡ window f (suc n) p
+pub window-snoc : (f n : ℕ) (p : List ℕ) → window f n p ++ (rowAt f p n ∷ []) ≡ window f (suc n) p
 unfolding rowAt
 window-snoc f n p = ap (λ es. window f n p ++ es) (sym (window-one (f + n) (drop (n * 8) p))) ∙ sym (window-append f n 1 p) ∙ ap (λ k. window f k p) (add-one n)
 

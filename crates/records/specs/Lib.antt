@@ -3,3 +3,4 @@ pub mod Filling
 pub mod FillingLaws
 pub mod Fetches
 pub mod Plans
+pub mod Rows

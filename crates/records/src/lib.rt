@@ -1,14 +1,18 @@
-// The thin fetch: a group's entry records of a context or the index, fetched into a lent list of records.
+// The thin fetch: a group's entry records of a context or the index, fetched into a lent list of records, or of rows of numbers.
 mod fetching;
 mod fill;
 mod listing;
 mod planning;
+mod rows;
 
 pub use fetching::fetch_records;
 pub use listing::fetch_listed;
 use pipe_log::Bound;
 use pipe_log::EntryIndex;
 use queries::Fetched;
+pub use rows::fetch_rewritten_rows;
+pub use rows::fetch_rows_before;
+pub use rows::fetch_rows_to;
 
 // A fetch of entry records, with document 01's arguments.
 pub enum Fetch {

@@ -1,7 +1,7 @@
 -- `galdnyrr::answers::row_of` meets its contract. Assumes nothing.
 use Rattle.rules.specs.Items.{fileOf, blockFile}
 use Rattle.memtable.specs.Columns.{blockOffset, blockLen}
-use Rattle.galdnyrr.specs.Asked.{rowOf}
+use Rattle.records.specs.Rows.{rowOf}
 use borrow.Author.Needs.{needs}
 use Rattle.galdnyrr.proofs.answers.row_of.Statement.{statement}
 use Rattle.galdnyrr.proofs.answers.row_of.Tie as tie
