@@ -113,24 +113,22 @@ static void join(struct area *a, const struct area *its) {
     tell("join", number, place);
 }
 
-/* A list of records for a fetch: eight arrays. */
+/* A list of records for a fetch; its length is counted in numbers. */
 #define ROOM 64
-static uint64_t record_index[ROOM], record_queue[ROOM], record_seq[ROOM], block_offset[ROOM], block_length[ROOM];
-static uint64_t compression[ROOM], entry_offset[ROOM], entry_length[ROOM];
+static struct galdnyrr_record records[ROOM];
 
 static void fetch(const struct area *a, uint64_t group, uint64_t begin, uint64_t end) {
     uint64_t count;
-    uint64_t number = galdnyrr_fetch_entries_to(
-        a->numbers, GALDNYRR_NUMBERS, a->bytes, GALDNYRR_BYTES, group, begin, end, false, 0, record_index, ROOM, record_queue,
-        ROOM, record_seq, ROOM, block_offset, ROOM, block_length, ROOM, compression, ROOM, entry_offset, ROOM,
-        entry_length, ROOM, &count);
+    uint64_t number = galdnyrr_fetch_records_to(a->numbers, GALDNYRR_NUMBERS, a->bytes, GALDNYRR_BYTES, group, begin, end,
+                                                false, 0, &records[0].index, ROOM * GALDNYRR_RECORD_WIDTH, &count);
     if (number != GALDNYRR_OK) {
         printf("fetch [%" PRIu64 ", %" PRIu64 ") refused: %" PRIu64 "\n", begin, end, number);
         return;
     }
     for (uint64_t i = 0; i < count; i++) {
-        printf("entry %" PRIu64 ": file %" PRIu64 ", %" PRIu64 " bytes at %" PRIu64 "\n", record_index[i],
-               record_seq[i], entry_length[i], entry_offset[i]);
+        const struct galdnyrr_record *r = &records[i];
+        printf("entry %" PRIu64 ": file %" PRIu64 ", %" PRIu64 " bytes at %" PRIu64 "\n", r->index, r->seq, r->entry_len,
+               r->entry_offset);
     }
 }
 

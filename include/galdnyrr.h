@@ -210,8 +210,41 @@ uint64_t galdnyrr_fetch_rewritten_kvs(const uint64_t *numbers, size_t numbers_le
                                       size_t bytes_len, uint64_t group, uint64_t *lens, size_t lens_len, uint8_t *out,
                                       size_t out_len, uint64_t *count);
 
-/* A list of records: eight arrays, one for each field of a row of entries. The list is as long as the shortest of them; what lies
- * behind that in a longer one is never written. A group has at most 64 entries. */
+/* A record is a row of eight numbers. The length of a list of records is counted in numbers; those behind the last whole record are
+ * never written. A group has at most 64 entries. */
+#define GALDNYRR_RECORD_WIDTH 8
+
+struct galdnyrr_record {
+    uint64_t index;
+    /* 0 for Append, 1 for Rewrite. */
+    uint64_t queue;
+    uint64_t seq;
+    uint64_t block_offset;
+    uint64_t block_len;
+    /* 0 for none, 1 for Lz4. */
+    uint64_t compression;
+    uint64_t entry_offset;
+    uint64_t entry_len;
+};
+
+/* The entries with indexes in [begin, end); with a size, up to the record with which their lengths would sum above it. `out` may be a
+ * list of galdnyrr_record, and `count` gets how many. Refused: 9, 11, 12, 19. */
+uint64_t galdnyrr_fetch_records_to(const uint64_t *numbers, size_t numbers_len, const uint8_t *bytes, size_t bytes_len,
+                                   uint64_t group, uint64_t begin, uint64_t end, bool sized, uint64_t max_size,
+                                   uint64_t *out, size_t out_len, uint64_t *count);
+
+/* The Append entries from the front while their file is at most the gate. Refused: 9, 19. */
+uint64_t galdnyrr_fetch_records_before(const uint64_t *numbers, size_t numbers_len, const uint8_t *bytes,
+                                       size_t bytes_len, uint64_t group, uint64_t gate, uint64_t *out, size_t out_len,
+                                       uint64_t *count);
+
+/* All Rewrite entries. Refused: 9, 19. */
+uint64_t galdnyrr_fetch_rewritten_records(const uint64_t *numbers, size_t numbers_len, const uint8_t *bytes,
+                                          size_t bytes_len, uint64_t group, uint64_t *out, size_t out_len,
+                                          uint64_t *count);
+
+/* The same three fetches into eight arrays, one for each field of a record. The list is as long as the shortest of them; what lies
+ * behind that in a longer one is never written. */
 
 /* The entries with indexes in [begin, end); with a size, up to the record with which their lengths would sum above it. Refused: 9,
  * 11, 12, 19. */

@@ -2,7 +2,7 @@
 
 use crate::work::{key, Item, Live, Query, Work, ASKED, GROUPS};
 use crate::Side;
-use galdnyrr::{Batch, Compression, Context, Entry, FileId, Index, Pairs, Queue, Records};
+use galdnyrr::{Batch, Columns, Compression, Context, Entry, FileId, Index, Pairs, Queue, Records};
 use std::hint::black_box;
 use std::time::Instant;
 
@@ -66,8 +66,8 @@ pub fn query(before: &Work, query: Query) -> Side {
     let mut c = Context::new(Queue::Append);
     replay_all(&mut c, &batches(before));
     let keys: Vec<Vec<u8>> = (0..16).map(key).collect();
-    let mut list = Records::with_room(64);
-    let mut records: Vec<Entry> = Vec::with_capacity(64);
+    let mut columns = Columns::with_room(64);
+    let mut records = Records::with_room(64);
     let mut pairs = Pairs::with_room(16);
     let mut out = [0; 32];
     Box::new(move || {
@@ -84,14 +84,12 @@ pub fn query(before: &Work, query: Query) -> Side {
                 }
                 Query::Fetch(n) => {
                     let begin = i % (33 - n) + 1;
-                    area.fetch_entries_to(group, begin, begin + n, None, &mut list).unwrap();
-                    black_box(&list);
+                    area.fetch_columns_to(group, begin, begin + n, None, &mut columns).unwrap();
+                    black_box(&columns);
                 }
                 Query::FetchRecords(n) => {
                     let begin = i % (33 - n) + 1;
-                    area.fetch_entries_to(group, begin, begin + n, None, &mut list).unwrap();
-                    records.clear();
-                    records.extend(list.iter());
+                    area.fetch_entries_to(group, begin, begin + n, None, &mut records).unwrap();
                     black_box(&records);
                 }
                 Query::Scan => {
@@ -122,6 +120,15 @@ pub fn index(before: &[Batch]) -> Index {
     }
 }
 
+/// The entries of a batch from index 0 on, below every group's first: refused once they are checked.
+fn below_first(items: &[Item]) -> Batch {
+    let lower = |item: &Item| match item {
+        Item::Entries(group, _, count, seq) => Item::Entries(*group, 0, *count, *seq),
+        other => other.clone(),
+    };
+    batch(&items.iter().map(lower).collect::<Vec<_>>())
+}
+
 /// A rewrite of the entries of a batch, in a file of the Rewrite queue.
 fn rewrite(items: &[Item]) -> Batch {
     let mut b = Batch::new(Queue::Rewrite, 1);
@@ -144,6 +151,14 @@ pub fn live(before: &Work, work: &Work, live: Live) -> Side {
                 let lent = batches(&work);
                 let start = Instant::now();
                 lent.iter().for_each(|b| i.append(b).unwrap());
+                start.elapsed()
+            }
+            Live::Check => {
+                let lent: Vec<Batch> = work.batches.iter().map(|b| below_first(b)).collect();
+                let start = Instant::now();
+                for b in &lent {
+                    let _ = black_box(i.append(b).unwrap_err());
+                }
                 start.elapsed()
             }
             Live::Rewrite => {

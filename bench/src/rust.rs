@@ -138,7 +138,7 @@ pub fn live(before: &Work, work: &Work, live: Live) -> Side {
         let i = index(&before);
         let lent = batches(&work);
         match live {
-            Live::Append => {
+            Live::Append | Live::Check => {
                 let start = Instant::now();
                 for batch in lent {
                     i.memtables.apply_append_writes(batch.into_iter());

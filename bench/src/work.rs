@@ -32,8 +32,9 @@ pub enum Query {
     SomeBefore,
     /// Of one of so many keys.
     Get(u64),
+    /// Into parallel slices; the Rust has a list of records alone.
     Fetch(u64),
-    /// The same, and the records in a list of structs.
+    /// The same into a list of records.
     FetchRecords(u64),
     Scan,
     MinFileSeq,
@@ -123,28 +124,24 @@ pub fn key_replays() -> Vec<(&'static str, Work, Work)> {
     ]
 }
 
-/// Live work on the index: batches of the Append queue, or gated rewrites of entries.
+/// Live work on the index: batches of the Append queue, or gated rewrites of entries. A check is what an append of the port does before
+/// it is refused: the batch goes below the first entry. The Rust has no checks, and panics there, so its side appends.
 #[derive(Clone, Copy)]
 pub enum Live {
     Append,
+    Check,
     Rewrite,
 }
 
 /// Each with what was replayed before the join.
 pub fn live() -> Vec<(&'static str, Work, Work, Live)> {
+    let one = || over_groups(30, |i, g| vec![Item::Entries(g, i + 33, 1, 2)]);
+    let many = || over_groups(4, |_, g| vec![Item::Entries(g, 33, 32, 2)]);
     vec![
-        (
-            "live append of 1 entry",
-            entries_32(),
-            over_groups(30, |i, g| vec![Item::Entries(g, i + 33, 1, 2)]),
-            Live::Append,
-        ),
-        (
-            "live append of 32 entries",
-            entries_32(),
-            over_groups(4, |_, g| vec![Item::Entries(g, 33, 32, 2)]),
-            Live::Append,
-        ),
+        ("live append of 1 entry", entries_32(), one(), Live::Append),
+        ("live append of 32 entries", entries_32(), many(), Live::Append),
+        ("check of 1 entry, beside an append", entries_32(), one(), Live::Check),
+        ("check of 32 entries, beside an append", entries_32(), many(), Live::Check),
         (
             "gated rewrite of 1 entry",
             entries_32(),

@@ -1,6 +1,6 @@
 //! The area of a context or index, and the calls on it whatever its kind.
 
-use crate::{ffi, Entry, FileId, Pairs, Queue, Records, Refusal, Rows};
+use crate::{ffi, Columns, Entry, FileId, Pairs, Queue, Records, Refusal, Rows};
 
 /// The length of an area's numbers.
 pub const NUMBERS: usize = 17_231;
@@ -316,6 +316,28 @@ impl Area {
 macro_rules! fill_records {
     ($area:ident, $call:ident, $group:expr, [$($asked:expr),*], $list:ident) => {{
         let mut count = 0;
+        // SAFETY: the area is one that the calls made, and the rows are eight numbers each, one behind the other.
+        let number = unsafe {
+            ffi::$call(
+                $area.numbers.as_ptr(),
+                NUMBERS,
+                $area.bytes.as_ptr(),
+                BYTES,
+                $group,
+                $($asked,)*
+                $list.rows.as_mut_ptr().cast(),
+                $list.rows.len() * 8,
+                &mut count,
+            )
+        };
+        given(number, count).map(|n| $list.filled = n as usize)
+    }};
+}
+
+/// The same for a list of eight slices.
+macro_rules! fill_columns {
+    ($area:ident, $call:ident, $group:expr, [$($asked:expr),*], $list:ident) => {{
+        let mut count = 0;
         let room = $list.room();
         let [index, queue, seq, offset, len, compression, entry_offset, entry_len] =
             &mut $list.columns;
@@ -486,7 +508,7 @@ impl Area {
         list: &mut Records,
     ) -> Result<(), Refusal> {
         let (sized, size) = (max_size.is_some(), max_size.unwrap_or(0));
-        fill_records!(self, galdnyrr_fetch_entries_to, group, [begin, end, sized, size], list)
+        fill_records!(self, galdnyrr_fetch_records_to, group, [begin, end, sized, size], list)
     }
 
     /// The Append entries from the front while their file is at most the gate.
@@ -497,7 +519,7 @@ impl Area {
         gate: u64,
         list: &mut Records,
     ) -> Result<(), Refusal> {
-        fill_records!(self, galdnyrr_fetch_entry_indexes_before, group, [gate], list)
+        fill_records!(self, galdnyrr_fetch_records_before, group, [gate], list)
     }
 
     /// All Rewrite entries.
@@ -507,7 +529,38 @@ impl Area {
         group: u64,
         list: &mut Records,
     ) -> Result<(), Refusal> {
-        fill_records!(self, galdnyrr_fetch_rewritten_entry_indexes, group, [], list)
+        fill_records!(self, galdnyrr_fetch_rewritten_records, group, [], list)
+    }
+
+    /// The same as `fetch_entries_to`, into eight slices.
+    #[inline]
+    pub fn fetch_columns_to(
+        &self,
+        group: u64,
+        begin: u64,
+        end: u64,
+        max_size: Option<u64>,
+        list: &mut Columns,
+    ) -> Result<(), Refusal> {
+        let (sized, size) = (max_size.is_some(), max_size.unwrap_or(0));
+        fill_columns!(self, galdnyrr_fetch_entries_to, group, [begin, end, sized, size], list)
+    }
+
+    /// The same as `fetch_entry_indexes_before`, into eight slices.
+    #[inline]
+    pub fn fetch_columns_before(
+        &self,
+        group: u64,
+        gate: u64,
+        list: &mut Columns,
+    ) -> Result<(), Refusal> {
+        fill_columns!(self, galdnyrr_fetch_entry_indexes_before, group, [gate], list)
+    }
+
+    /// The same as `fetch_rewritten_entry_indexes`, into eight slices.
+    #[inline]
+    pub fn fetch_rewritten_columns(&self, group: u64, list: &mut Columns) -> Result<(), Refusal> {
+        fill_columns!(self, galdnyrr_fetch_rewritten_entry_indexes, group, [], list)
     }
 }
 

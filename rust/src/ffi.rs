@@ -231,6 +231,41 @@ extern "C" {
         count: *mut u64,
     ) -> u64;
 
+    pub fn galdnyrr_fetch_records_to(
+        numbers: *const u64,
+        numbers_len: usize,
+        bytes: *const u8,
+        bytes_len: usize,
+        group: u64,
+        begin: u64,
+        end: u64,
+        sized: bool,
+        max_size: u64,
+        out: *mut u64,
+        out_len: usize,
+        count: *mut u64,
+    ) -> u64;
+    pub fn galdnyrr_fetch_records_before(
+        numbers: *const u64,
+        numbers_len: usize,
+        bytes: *const u8,
+        bytes_len: usize,
+        group: u64,
+        gate: u64,
+        out: *mut u64,
+        out_len: usize,
+        count: *mut u64,
+    ) -> u64;
+    pub fn galdnyrr_fetch_rewritten_records(
+        numbers: *const u64,
+        numbers_len: usize,
+        bytes: *const u8,
+        bytes_len: usize,
+        group: u64,
+        out: *mut u64,
+        out_len: usize,
+        count: *mut u64,
+    ) -> u64;
     pub fn galdnyrr_fetch_entries_to(
         numbers: *const u64,
         numbers_len: usize,

@@ -33,5 +33,5 @@ pub use area::{Area, BYTES, NUMBERS};
 pub use batch::{Batch, Mark, Rows};
 pub use context::{Context, Index};
 pub use entry::{Compression, Entry, FileId, Queue};
-pub use lists::{Pairs, Records};
+pub use lists::{Columns, Pairs, Records};
 pub use refusal::{Cause, Refusal};

@@ -2,17 +2,65 @@
 
 use crate::Entry;
 
-/// A lent list of records: eight slices of one length, one for each field.
+/// A lent list of records: rows of eight numbers.
 #[derive(Clone, Debug)]
 pub struct Records {
-    pub(crate) columns: [Vec<u64>; 8],
+    pub(crate) rows: Vec<[u64; 8]>,
     pub(crate) filled: usize,
 }
 
 impl Records {
     /// A list with room for so many records; what a query gives has at most 64.
     pub fn with_room(room: usize) -> Records {
-        Records { columns: std::array::from_fn(|_| vec![0; room]), filled: 0 }
+        Records { rows: vec![[0; 8]; room], filled: 0 }
+    }
+
+    /// How many records the list has room for.
+    #[inline]
+    pub fn room(&self) -> usize {
+        self.rows.len()
+    }
+
+    /// The number of records that the last query gave.
+    #[inline]
+    pub fn len(&self) -> usize {
+        self.filled
+    }
+
+    pub fn is_empty(&self) -> bool {
+        self.filled == 0
+    }
+
+    /// All rows, also those behind what the last query gave: index, queue, sequence number, block offset, block length, compression type,
+    /// entry offset, entry length.
+    pub fn rows(&self) -> &[[u64; 8]] {
+        &self.rows
+    }
+
+    /// Record i of those that the last query gave.
+    #[inline]
+    pub fn get(&self, i: usize) -> Option<Entry> {
+        self.rows[..self.filled].get(i).map(|row| Entry::of_row(*row))
+    }
+
+    /// The records that the last query gave, in order.
+    #[inline]
+    pub fn iter(&self) -> impl Iterator<Item = Entry> + '_ {
+        self.rows[..self.filled].iter().map(|row| Entry::of_row(*row))
+    }
+}
+
+/// The same as eight slices of one length, one for each field.
+#[derive(Clone, Debug)]
+pub struct Columns {
+    pub(crate) columns: [Vec<u64>; 8],
+    pub(crate) filled: usize,
+}
+
+impl Columns {
+    /// A list with room for so many records; what a query gives has at most 64.
+    pub fn with_room(room: usize) -> Columns {
+        Columns { columns: std::array::from_fn(|_| vec![0; room]), filled: 0 }
     }
 
     /// How many records the list has room for.
@@ -31,7 +79,7 @@ impl Records {
         self.filled == 0
     }
 
-    /// The eight slices: index, queue, sequence number, block offset, block length, compression type, entry offset, entry length.
+    /// The eight slices, with the fields of a row in their order.
     pub fn columns(&self) -> &[Vec<u64>; 8] {
         &self.columns
     }
@@ -43,13 +91,6 @@ impl Records {
             return None;
         }
         Some(Entry::of_row(std::array::from_fn(|j| self.columns[j][i])))
-    }
-
-    /// The records that the last query gave, in order.
-    #[inline]
-    pub fn iter(&self) -> impl Iterator<Item = Entry> + '_ {
-        let columns: [&[u64]; 8] = std::array::from_fn(|j| &self.columns[j][..self.filled]);
-        (0..self.filled).map(move |i| Entry::of_row(std::array::from_fn(|j| columns[j][i])))
     }
 }
 

@@ -1,6 +1,6 @@
 //! The crate's calls, with some of 01's bench cases.
 
-use galdnyrr::{Area, Batch, Cause, Context, Entry, FileId, Index, Mark, Pairs, Queue, Records, Rows};
+use galdnyrr::{Area, Batch, Cause, Columns, Context, Entry, FileId, Index, Mark, Pairs, Queue, Records, Rows};
 
 fn file(seq: u64) -> FileId {
     FileId { queue: Queue::Append, seq }
@@ -65,7 +65,20 @@ fn a_list_that_is_too_short_stays() {
     let mut list = Records::with_room(3);
     let refusal = run.area().fetch_entries_to(7, 5, 9, None, &mut list).unwrap_err();
     assert_eq!(refusal.cause(), Some(Cause::ListTooShort));
-    assert!(list.is_empty() && list.columns().iter().all(|c| c.iter().all(|n| *n == 0)));
+    assert!(list.is_empty() && list.rows().iter().all(|row| row.iter().all(|n| *n == 0)));
+}
+
+#[test]
+fn eight_slices_hold_the_same_records() {
+    let mut b = batch();
+    b.entries(7, &entries(5, 8, 1));
+    let run = replayed(&[b]);
+    let (mut list, mut columns) = (Records::with_room(4), Columns::with_room(4));
+    run.area().fetch_entries_to(7, 6, 9, None, &mut list).unwrap();
+    run.area().fetch_columns_to(7, 6, 9, None, &mut columns).unwrap();
+    assert_eq!(columns.columns()[0], [6, 7, 8, 0]);
+    let told: Vec<_> = (0..4).map(|i| columns.get(i)).collect();
+    assert_eq!(told, (0..4).map(|i| list.get(i)).collect::<Vec<_>>());
 }
 
 #[test]

@@ -1,7 +1,7 @@
 //! Queries of a group, asked of the port.
 
 use crate::text::{Line, Read, Tokens};
-use galdnyrr::{Area, Compression, Entry, Pairs, Queue, Records, Refusal};
+use galdnyrr::{Area, Columns, Compression, Entry, Pairs, Queue, Records, Refusal};
 use raft_engine::env::{CompressionType, EntryIndex, FileBlockHandle, FileId, LogQueue};
 
 /// Room for all that a group holds.
@@ -60,20 +60,26 @@ pub fn ask(area: &Area, group: u64, word: &str, t: &mut Tokens, room: Option<usi
             let (begin, end, size) = (t.number()?, t.number()?, t.maybe_number()?);
             let mut list = Records::with_room(room.unwrap_or(ALL_ENTRIES));
             let r = area.fetch_entries_to(group, begin, end, size, &mut list);
-            spilt = records_spilt(&list);
+            let mut columns = Columns::with_room(list.room());
+            let s = area.fetch_columns_to(group, begin, end, size, &mut columns);
+            spilt = records_spilt(&list) || !agree(&list, &r, &columns, &s);
             answered(r, |()| records(&list))
         }
         "fetch_entry_indexes_before" => {
             let gate = t.number()?;
             let mut list = Records::with_room(room.unwrap_or(ALL_ENTRIES));
             let r = area.fetch_entry_indexes_before(group, gate, &mut list);
-            spilt = records_spilt(&list);
+            let mut columns = Columns::with_room(list.room());
+            let s = area.fetch_columns_before(group, gate, &mut columns);
+            spilt = records_spilt(&list) || !agree(&list, &r, &columns, &s);
             answered(r, |()| records(&list))
         }
         "fetch_rewritten_entry_indexes" => {
             let mut list = Records::with_room(room.unwrap_or(ALL_ENTRIES));
             let r = area.fetch_rewritten_entry_indexes(group, &mut list);
-            spilt = records_spilt(&list);
+            let mut columns = Columns::with_room(list.room());
+            let s = area.fetch_rewritten_columns(group, &mut columns);
+            spilt = records_spilt(&list) || !agree(&list, &r, &columns, &s);
             answered(r, |()| records(&list))
         }
         "min_file_seq" => {
@@ -152,7 +158,18 @@ fn pairs(list: &Pairs) -> Line {
 
 /// The lists are lent filled with zeros: behind the answer they must be zeros still.
 fn records_spilt(list: &Records) -> bool {
-    list.columns().iter().any(|c| c[list.len()..].iter().any(|n| *n != 0))
+    list.rows()[list.len()..].iter().any(|row| row.iter().any(|n| *n != 0))
+}
+
+/// Whether the fetch into eight slices gave what the fetch into rows did, to the last number that was lent.
+fn agree(
+    list: &Records,
+    r: &Result<(), Refusal>,
+    columns: &Columns,
+    s: &Result<(), Refusal>,
+) -> bool {
+    let same = |(i, row): (usize, &[u64; 8])| (0..8).all(|j| row[j] == columns.columns()[j][i]);
+    r == s && list.len() == columns.len() && list.rows().iter().enumerate().all(same)
 }
 
 fn pairs_spilt(list: &Pairs) -> bool {
