@@ -46,8 +46,3 @@ pub use records::Listed;
 pub use records::fetch_listed;
 pub use records::fetch_records;
 pub use replays::replay;
-
-// Where the room of the waiting parts begins in an area's numbers and in its bytes.
-pub const WAITING_AT: usize = 10019;
-
-pub const WAITING_BYTES_AT: usize = 20480;

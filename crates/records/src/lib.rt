@@ -9,6 +9,7 @@ pub use listing::fetch_listed;
 use pipe_log::Bound;
 use pipe_log::EntryIndex;
 use queries::Fetched;
+use stretch::MAX_ENTRIES;
 
 // A fetch of entry records, with document 01's arguments.
 pub enum Fetch {
@@ -33,7 +34,7 @@ pub struct Plan {
 }
 
 // How many records a list by value has: as many as a group can have entries.
-pub const LISTED: usize = 64;
+pub const LISTED: usize = MAX_ENTRIES;
 
 // What a fetch into a list by value answers, with the list.
 pub struct Listed {
