@@ -4,9 +4,18 @@ ghost use lib.ListN.{length};
 ghost use Rattle.batch_cases.specs.Reading.{movesOn, movesTo, outcomeMovesOn, outcomeMovesTo};
 use log_batch::Call;
 use log_batch::Checked;
+use log_batch::open::ITEM_WIDTH;
+use pipe_log::ENTRY_WIDTH;
 use pipe_log::Gate;
 use text::Number;
 use text::number_at;
+
+// The numbers of a case's own line, the bytes in a row of bytes, and the longest slice of a case.
+const HEAD: usize = 6;
+
+const BYTES_IN_ROW: usize = 32;
+
+const SLICE_MOST: usize = 512;
 
 // Where reading goes on.
 pub enum Read {
@@ -75,7 +84,7 @@ fn read_bytes(text: &[u8], at: usize, count: usize, out: &mut [u8]) -> Read
     let mut next = at;
     let mut i = 0;
     while i < count {
-        let Number::Value(value, end) = number_at(text, next, end_of(i, count, 32)) else {
+        let Number::Value(value, end) = number_at(text, next, end_of(i, count, BYTES_IN_ROW)) else {
             return Read::Malformed;
         };
         out[i] = (value % 256) as u8;
@@ -129,7 +138,7 @@ fn answer_of(
 fn run(
     text: &[u8],
     at: usize,
-    head: [u64; 6],
+    head: [u64; HEAD],
     items: &mut [u64],
     entries: &mut [u64],
     bytes: &mut [u8],
@@ -149,10 +158,16 @@ fn run(
     if bytes.len() < bytes_len {
         return Outcome::Malformed;
     }
-    let Read::UpTo(after_items) = read_numbers(text, at, items_len, 9, items) else {
+    let Read::UpTo(after_items) = read_numbers(text, at, items_len, ITEM_WIDTH, items) else {
         return Outcome::Malformed;
     };
-    let Read::UpTo(after_entries) = read_numbers(text, after_items, entries_len, 8, entries) else {
+    let Read::UpTo(after_entries) = read_numbers(
+        text,
+        after_items,
+        entries_len,
+        ENTRY_WIDTH,
+        entries,
+    ) else {
         return Outcome::Malformed;
     };
     let Read::UpTo(end) = read_bytes(text, after_entries, bytes_len, bytes) else {
@@ -182,12 +197,12 @@ pub fn run_at(text: &[u8], at: usize) -> Outcome
     let Read::UpTo(named) = skip_line(text, at) else {
         return Outcome::Malformed;
     };
-    let mut head = [0u64; 6];
-    let Read::UpTo(headed) = read_numbers(text, named, 6, 6, &mut head) else {
+    let mut head = [0u64; HEAD];
+    let Read::UpTo(headed) = read_numbers(text, named, HEAD, HEAD, &mut head) else {
         return Outcome::Malformed;
     };
-    let mut items = [0u64; 512];
-    let mut entries = [0u64; 512];
-    let mut bytes = [0u8; 512];
+    let mut items = [0u64; SLICE_MOST];
+    let mut entries = [0u64; SLICE_MOST];
+    let mut bytes = [0u8; SLICE_MOST];
     run(text, headed, head, &mut items, &mut entries, &mut bytes)
 }

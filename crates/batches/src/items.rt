@@ -20,7 +20,7 @@ use deeds::rows_in;
 use deeds::value_in;
 use log_batch::Call;
 use log_batch::item::LogItem;
-use stretch::LIMIT_PASSED;
+use pipe_log::causes::LIMIT_PASSED;
 use stretch::Outcome;
 
 // Carries out what an item does to its group.

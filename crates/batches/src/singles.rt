@@ -36,18 +36,15 @@ use log_batch::item::KeyValue;
 use log_batch::item::LogItemContent;
 use log_batch::item::OpType;
 use log_batch::item::Value;
+use log_batch::mark::RESERVED_LEN;
+use log_batch::open::HAS_VALUE;
 use log_batch::open::ITEM_WIDTH;
+use log_batch::open::LIST;
+use log_batch::open::PUT;
 use log_batch::plain::is_plain_content;
 use pipe_log::ENTRY_WIDTH;
 use pipe_log::FileId;
 use stretch::Outcome;
-
-// The tags of rows, and the length of the reserved key.
-const LIST: u64 = 0;
-
-const PUT: u64 = 3;
-
-const RESERVED_LEN: usize = 3;
 
 // Whether a batch is one list of entries that meets none of the checks.
 pub fn is_single_list(call: Call, items: &[u64], entries: &[u64]) -> bool
@@ -95,7 +92,7 @@ fn is_plain_put(call: Call, row: &[u64], bytes: &[u8]) -> bool
     ensures { λ r. ⌜ ((entries : List ℕ) → r ≡ true → Single call (putItem call (now (row .entry))) (now (row .entry)) entries (now (bytes .entry))) ⌝ }
 {
     let key_len = row[3] as usize;
-    if row[4] != 1 {
+    if row[4] != HAS_VALUE {
         return false;
     }
     if row[7] != call.writes().to_u64() {

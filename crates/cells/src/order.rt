@@ -4,6 +4,9 @@ ghost use Prim.Native.Nat.{_+_, _*_, _≤_};
 ghost use lib.ListN.{length, drop};
 ghost use Rattle.cells.specs.Bytes.{byteOrder, wordAt};
 
+// The bytes that are compared as one number.
+const WORD: usize = 8;
+
 // How one run of bytes stands to another.
 pub enum Order {
     Less,
@@ -83,7 +86,7 @@ pub fn compare_u8(a: &[u8], b: &[u8]) -> Order
 {
     let both = lesser(a.len(), b.len());
     let mut i = 0;
-    while 8 <= both - i {
+    while WORD <= both - i {
         let x = word_at(a, i);
         let y = word_at(b, i);
         if x < y {
@@ -92,7 +95,7 @@ pub fn compare_u8(a: &[u8], b: &[u8]) -> Order
         if y < x {
             return Order::Greater;
         }
-        i += 8;
+        i += WORD;
     }
     compare_from(a, b, i)
 }

@@ -8,14 +8,18 @@ use pipe_log::LogQueue;
 use stretch::STRETCH;
 
 // The lengths of an area: its numbers and its bytes.
-pub const NUMBERS: usize = 17231;
+pub const NUMBERS: usize = groups::NUMBERS + lists::NUMBERS;
 
-pub const BYTES: usize = 38912;
+pub const BYTES: usize = groups::BYTES + lists::BYTES;
 
-// Where the numbers of the waiting parts stand.
-pub const WAITING_FROM: usize = 10019;
+// Where the numbers and the bytes of the waiting parts stand.
+pub const WAITING_FROM: usize = groups::NUMBERS + lists::ROWS_TO;
 
-pub const WAITING_TO: usize = 13509;
+pub const WAITING_TO: usize = WAITING_FROM + waiting::NUMBERS;
+
+pub const WAITING_BYTES_FROM: usize = groups::BYTES + lists::ROW_BYTES;
+
+pub const WAITING_BYTES_TO: usize = WAITING_BYTES_FROM + waiting::BYTES;
 
 // Where a refusal was met: at no item, or at the item with this position, counted from 0.
 pub enum Position {

@@ -7,8 +7,15 @@ ghost use Rattle.queries.specs.Answers.{numberAs, countAs, entryAs, someBeforeA
 ghost use Rattle.records.specs.Rows.{rowOf};
 ghost use Rattle.galdnyrr.specs.Asked.{flagged, flagOf, FoundTold, ValueTold, EntryTold};
 use cells::copy_in_u64;
+use pipe_log::ENTRY_WIDTH;
 use pipe_log::EntryBlock;
 use pipe_log::EntryIndex;
+use pipe_log::causes::BAD_RANGE;
+use pipe_log::causes::ENTRY_COMPACTED;
+use pipe_log::causes::ENTRY_NOT_FOUND;
+use pipe_log::causes::GROUP_ABSENT;
+use pipe_log::causes::LIST_TOO_SHORT;
+use pipe_log::causes::WRONG_KIND;
 use queries::Counted;
 use queries::Fetched;
 use queries::FoundEntry;
@@ -18,19 +25,6 @@ use queries::Taken;
 
 // What is returned for an answer that is absent; no cause has this number.
 pub const ABSENT: u64 = 0xffff_ffff_ffff_ffff;
-
-// Document 01's numbers.
-pub const WRONG_KIND: u64 = 1;
-
-pub const GROUP_ABSENT: u64 = 9;
-
-pub const BAD_RANGE: u64 = 10;
-
-pub const ENTRY_COMPACTED: u64 = 11;
-
-pub const ENTRY_NOT_FOUND: u64 = 12;
-
-pub const LIST_TOO_SHORT: u64 = 19;
 
 // Tells a number of a group, which may be absent.
 pub fn tell_found(found: FoundNumber, value: &mut u64) -> u64
@@ -114,7 +108,7 @@ pub fn tell_some_before(answer: SomeBefore, value: &mut u64) -> u64
 }
 
 // The row of a record.
-fn row_of(entry: EntryIndex) -> [u64; 8]
+fn row_of(entry: EntryIndex) -> [u64; ENTRY_WIDTH]
     ensures { λ r. ⌜ r ≡ rowOf entry ⌝ }
 {
     let index = entry.index;
@@ -167,7 +161,7 @@ pub fn tell_entry(found: FoundEntry, row: &mut [u64]) -> u64
         FoundEntry::GroupAbsent => GROUP_ABSENT,
         FoundEntry::Absent => ABSENT,
         FoundEntry::At(entry) => {
-            if row.len() < 8 {
+            if row.len() < ENTRY_WIDTH {
                 return LIST_TOO_SHORT;
             }
             lay(entry, row);

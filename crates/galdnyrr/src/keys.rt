@@ -10,12 +10,12 @@ ghost use Rattle.pipe_log.specs.Rows.{queueAt};
 ghost use Rattle.contexts.specs.Contexts.{contextOf, Wf};
 ghost use Rattle.galdnyrr.specs.Asked.{ValueTold, FoundTold, KeysTold, GotTold};
 use crate::answers::ABSENT;
-use crate::answers::GROUP_ABSENT;
-use crate::answers::LIST_TOO_SHORT;
 use crate::answers::tell_count;
 use crate::answers::tell_fetched;
 use crate::answers::tell_found;
 use cells::copy_in_u8;
+use pipe_log::causes::GROUP_ABSENT;
+use pipe_log::causes::LIST_TOO_SHORT;
 use pipe_log::queue_at;
 use queries::KEY_ABSENT;
 

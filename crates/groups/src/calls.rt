@@ -11,10 +11,10 @@ ghost use Rattle.stretch.specs.Changes.{ruleOf, Ready};
 ghost use Rattle.groups.specs.Area.{stretchAt, bytesAt, groupsOf, Wf, Found};
 ghost use Rattle.groups.specs.Calls.{ChangedAt, ChangedGroup, RemovedGroup, LeavesStretch, LeavesSlot};
 use crate::Slot;
+use pipe_log::causes::LIMIT_PASSED;
 use stretch::BYTES;
 use stretch::Change;
 use stretch::KEYS_AT;
-use stretch::LIMIT_PASSED;
 use stretch::Outcome;
 use stretch::STRETCH;
 

@@ -16,9 +16,12 @@ pub use undoing::undo;
 pub const SLOTS: usize = 8;
 
 // The numbers and the bytes that the stretches and the spare ones take.
-pub const NUMBERS: usize = 9376;
+pub const NUMBERS: usize = 2 * SPARES_AT;
 
-pub const BYTES: usize = 16384;
+pub const BYTES: usize = 2 * SLOTS * stretch::BYTES;
+
+// Where the spare stretches begin in the numbers.
+pub const SPARES_AT: usize = SLOTS * stretch::STRETCH;
 
 // Where a group stands: at a stretch, or nowhere with a free stretch for it, or nowhere and all are used.
 pub enum Slot {

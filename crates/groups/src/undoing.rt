@@ -24,7 +24,7 @@ use stretch::KEYS_AT;
 use stretch::STRETCH;
 
 // The numbers of a header behind its first one, in whose place a spare stretch has its mark.
-const HEADER_REST: usize = 9;
+const HEADER_REST: usize = ENTRIES_AT - 1;
 
 // Clears the marks of the spare stretches.
 pub fn begin(xs: &mut [u64])

@@ -17,9 +17,7 @@ use log_batch::entries::same_queue;
 use pipe_log::FileId;
 use pipe_log::Gate;
 use pipe_log::LogQueue;
-
-// Document 01's number of a call on the wrong kind.
-pub const WRONG_KIND: u64 = 1;
+use pipe_log::causes::WRONG_KIND;
 
 // Whether an area is the index.
 fn is_index(kind: Kind) -> bool

@@ -23,20 +23,21 @@ ghost use Rattle.waiting.specs.Accepts.{tagged, headIn, Finishing};
 ghost use Rattle.contexts.specs.Contexts.{waitingNumbers, waitingBytes, contextOf, Formed, Answered};
 ghost use Rattle.batches.specs.Runs.{Keeping};
 ghost use Rattle.index.specs.Finishes.{waitingCount, storedFrom, HasAny, bothItems, bothRun, Ended, finishStored, AnsweredKept, TookWaiting};
-use crate::WAITING_AT;
-use crate::WAITING_BYTES_AT;
 use crate::spans::set_span;
 use crate::stored::holds_any;
 use crate::stored::run_own;
 use crate::stored::run_stored;
 use batches::go_back;
 use contexts::Answer;
+use contexts::WAITING_BYTES_FROM;
+use contexts::WAITING_FROM;
 use log_batch::mark::Mark;
+use waiting::NEWEST_AT;
 
 // Where a cell has the tag and the start of its newest part.
-const TAG: usize = 2;
+const TAG: usize = NEWEST_AT;
 
-const START: usize = 4;
+const START: usize = NEWEST_AT + 2;
 
 // Whether a finished group has an item, one that waited with the tag or one of the batch's own.
 fn has_items(xs: &[u64], tag: u64, items: &[u64], entries: &[u64], bytes: &[u8]) -> bool
@@ -125,9 +126,9 @@ fn take_waiting(xs: &mut [u64], bs: &mut [u8], k: usize)
     requires { ⌜ (k < 16) × (0 < getD (waitingNumbers (now xs)) (2 + k * 10) 0) ⌝ }
     ensures { λ _. ⌜ ((g : ℕ) (p : Part) (ps : List Part) → cellOf (headIn k (waitingNumbers (now (xs .entry))) (waitingBytes (now (bs .entry)))) (tagged (waitingNumbers (now (xs .entry))) (waitingBytes (now (bs .entry)))) ≡ some (pair g (p ∷ ps)) → TookWaiting g ps (now (xs .entry)) (now (bs .entry)) (now (xs .exit)) (now (bs .exit))) ⌝ }
 {
-    let a = WAITING_AT;
+    let a = WAITING_FROM;
     let e = a + waiting::NUMBERS;
-    let c = WAITING_BYTES_AT;
+    let c = WAITING_BYTES_FROM;
     let d = c + waiting::BYTES;
     waiting::take_part(&mut xs[a..e], &mut bs[c..d], waiting::CELLS, k);
 }
@@ -137,7 +138,7 @@ fn head_number(xs: &[u64], k: usize, i: usize) -> u64
     requires { ⌜ (length (now xs) ≡ 17231) × (k < 16) × (i < 10) ⌝ }
     ensures { λ r. ⌜ ((vs : List ℕ) → r ≡ getD (headIn k (waitingNumbers (now (xs .entry))) vs) i 0) ⌝ }
 {
-    xs[WAITING_AT + waiting::HEADS_AT + k * waiting::HEAD_WIDTH + i]
+    xs[WAITING_FROM + waiting::HEADS_AT + k * waiting::HEAD_WIDTH + i]
 }
 
 // Finishes the newest part of cell k by a marked batch that passed the checks.

@@ -49,8 +49,3 @@ pub use records::fetch_rewritten_rows;
 pub use records::fetch_rows_before;
 pub use records::fetch_rows_to;
 pub use replays::replay;
-
-// Where the room of the waiting parts begins in an area's numbers and in its bytes.
-pub const WAITING_AT: usize = 10019;
-
-pub const WAITING_BYTES_AT: usize = 20480;

@@ -12,14 +12,14 @@ ghost use Rattle.waiting.specs.Batches.{unmarked};
 ghost use Rattle.waiting.specs.Parts.{partFor};
 ghost use Rattle.contexts.specs.Contexts.{contextOf, Formed, Answered};
 ghost use Rattle.index.specs.Accepting.{AcceptedIn};
-use crate::WAITING_AT;
-use crate::WAITING_BYTES_AT;
 use crate::finish::finish;
 use contexts::Answer;
 use contexts::Position;
+use contexts::WAITING_BYTES_FROM;
+use contexts::WAITING_FROM;
 use log_batch::mark::Mark;
-use stretch::FILES_GO_BACK;
-use stretch::LIMIT_PASSED;
+use pipe_log::causes::FILES_GO_BACK;
+use pipe_log::causes::LIMIT_PASSED;
 use waiting::Accepted;
 
 // Accepts the part of a marked batch in the room of the waiting parts.
@@ -37,9 +37,9 @@ fn accept(
     requires { ⌜ checks replayRewrite (itemsOf (now items) (now entries) (now bytes)) ≡ none ⌝ }
     ensures { λ r. ⌜ AcceptedIn (mark .«raft_group_id») (partFor (mark .byte) seq (unmarked (itemsOf (now (items .entry)) (now (entries .entry)) (now (bytes .entry))))) (now (xs .entry)) (now (bs .entry)) r (now (xs .exit)) (now (bs .exit)) ⌝ }
 {
-    let a = WAITING_AT;
+    let a = WAITING_FROM;
     let e = a + waiting::NUMBERS;
-    let c = WAITING_BYTES_AT;
+    let c = WAITING_BYTES_FROM;
     let d = c + waiting::BYTES;
     let group = mark.raft_group_id;
     let status = mark.byte as u64;

@@ -16,23 +16,29 @@ ghost use Rattle.waiting.specs.Accepts.{ItemCopied};
 ghost use Rattle.contexts.specs.Contexts.{waitingNumbers, waitingBytes, contextOf, Formed};
 ghost use Rattle.batches.specs.Runs.{Keeping};
 ghost use Rattle.index.specs.Finishes.{waitingCount, storedFrom, runStored, TurnedFrom, Ran, HasAny, TagIs};
-use crate::WAITING_AT;
-use crate::WAITING_BYTES_AT;
 use batches::carry_out;
 use batches::turn;
 use contexts::Answer;
 use contexts::Position;
+use contexts::WAITING_BYTES_FROM;
+use contexts::WAITING_FROM;
 use log_batch::Call;
 use log_batch::item::LogItem;
 use log_batch::open::row_count;
+use pipe_log::ENTRY_WIDTH;
+use stores::row::ITEM_BYTES;
 use stretch::Outcome;
+use waiting::MAX_ENTRIES;
+
+// The numbers of the most entries that wait.
+const ROW_NUMBERS: usize = MAX_ENTRIES * ENTRY_WIDTH;
 
 // The tag of item j of the waiting parts.
 fn stored_tag(xs: &[u64], j: usize) -> u64
     requires { ⌜ (length (now xs) ≡ 17231) × (j < 128) ⌝ }
     ensures { λ r. ⌜ ((bs : List ℕ) → j < waitingCount (now (xs .entry)) → TagIs r j (now (xs .entry)) bs) ⌝ }
 {
-    let a = WAITING_AT;
+    let a = WAITING_FROM;
     let e = a + waiting::NUMBERS;
     waiting::tag_at(&xs[a..e], j)
 }
@@ -45,9 +51,9 @@ fn copy_stored(xs: &[u64], bs: &[u8], j: usize, rows: &mut [u64], text: &mut [u8
     requires { ⌜ (length (now rows) ≡ 1024) × (length (now text) ≡ 64) ⌝ }
     ensures { λ r. ⌜ ItemCopied (waitingNumbers (now (xs .entry))) (waitingBytes (now (bs .entry))) j r (now (rows .exit)) (now (text .exit)) ⌝ }
 {
-    let a = WAITING_AT;
+    let a = WAITING_FROM;
     let e = a + waiting::NUMBERS;
-    let c = WAITING_BYTES_AT;
+    let c = WAITING_BYTES_FROM;
     let d = c + waiting::BYTES;
     waiting::copy_item(&xs[a..e], &bs[c..d], j, rows, text)
 }
@@ -81,7 +87,7 @@ fn stored_count(xs: &[u64]) -> usize
     requires { ⌜ length (now xs) ≡ 17231 ⌝ }
     ensures { λ r. ⌜ r ≡ waitingCount (now (xs .entry)) ⌝ }
 {
-    xs[WAITING_AT] as usize
+    xs[WAITING_FROM] as usize
 }
 
 // Carries out the items that wait with a tag, in order; a refusal has the mark's place.
@@ -123,8 +129,8 @@ pub fn run_stored(xs: &mut [u64], bs: &mut [u8], tag: u64, at: usize) -> Answer
     requires { ⌜ Keeping replayRewrite (contextOf (now xs) (now bs)) ⌝ }
     ensures { λ r. ⌜ Ran (runStored tag 0 (now (xs .entry)) (now (bs .entry)) (some at)) (now (xs .entry)) (now (bs .entry)) r (now (xs .exit)) (now (bs .exit)) ⌝ }
 {
-    let mut rows = [0u64; 1024];
-    let mut text = [0u8; 64];
+    let mut rows = [0u64; ROW_NUMBERS];
+    let mut text = [0u8; ITEM_BYTES];
     run_stored_in(xs, bs, tag, at, &mut rows, &mut text)
 }
 

@@ -3,7 +3,7 @@ ghost use mathlib.Core.Option.{none};
 ghost use mathlib.Core.Path.{_≡_};
 ghost use Rattle.rules.specs.Checks.{checks};
 ghost use Rattle.log_batch.specs.Lent.{itemsOf};
-ghost use Rattle.log_batch.specs.Judged.{callOf, markAs, markFor};
+ghost use Rattle.log_batch.specs.Judged.{callOf};
 ghost use Rattle.contexts.specs.Contexts.{contextOf, Formed, Answered};
 ghost use Rattle.batches.specs.Runs.{Keeping};
 ghost use Rattle.index.specs.Writes.{written};
@@ -18,18 +18,8 @@ use contexts::Position;
 use log_batch::Call;
 use log_batch::Checked;
 use log_batch::check;
+use log_batch::checks::mark_for;
 use log_batch::mark::FirstMark;
-use log_batch::mark::first_mark;
-
-// The mark that a call looks at.
-fn mark_for(call: Call, items: &[u64], entries: &[u64], bytes: &[u8]) -> FirstMark
-    ensures { λ r. ⌜ markAs r ≡ markFor (callOf call) (itemsOf (now (items .entry)) (now (entries .entry)) (now (bytes .entry))) ⌝ }
-{
-    if !call.is_rewrite_replay() {
-        return FirstMark::Absent;
-    }
-    first_mark(items, entries, bytes)
-}
 
 // Carries out a batch that passed the checks.
 fn run_checked(

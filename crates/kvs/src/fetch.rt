@@ -3,6 +3,7 @@
 pub mod bounds;
 pub mod copies;
 
+use crate::rows::LENS_WIDTH;
 use crate::rows::ROW_BYTES;
 use bounds::below_bound;
 use bounds::start_above_end;
@@ -56,7 +57,7 @@ fn fill_list(
     ensures { λ r. ⌜ Fetches (ok (take count (inList which backwards (keysIn n (now (rows .entry)) (now (bytes .entry)))))) (now (lens .entry)) (now (out .entry)) r (now (lens .exit)) (now (out .exit)) ⌝ }
 {
     let limit = lesser(count, count_chosen(n, rows, bytes, which));
-    if lens.len() / 2 < limit {
+    if lens.len() / LENS_WIDTH < limit {
         return Fetched::TooShort;
     }
     if out.len() / ROW_BYTES < limit {
@@ -83,10 +84,10 @@ fn fill_stretch(
     ensures { λ r. ⌜ Fetches (ok (take count (stretch low high backwards (keysIn n (now (rows .entry)) (now (bytes .entry)))))) (now (lens .entry)) (now (out .entry)) r (now (lens .exit)) (now (out .exit)) ⌝ }
 {
     let limit = lesser(count, high - low);
-    if lens.len() / 2 < limit {
+    if lens.len() / LENS_WIDTH < limit {
         return Fetched::TooShort;
     }
-    if out.len() / 64 < limit {
+    if out.len() / ROW_BYTES < limit {
         return Fetched::TooShort;
     }
     copy_stretch(n, rows, bytes, low, high, backwards, limit, lens, out);

@@ -1,6 +1,7 @@
 // The files of a group's keys: how many keys a queue has, and its least sequence number. Only the numbers of the rows are read.
 use crate::Least;
 use crate::rows::ROW_WIDTH;
+use pipe_log::APPEND;
 use pipe_log::LogQueue;
 ghost use mathlib.Core.Path.{_≡_};
 ghost use mathlib.Core.Bool.{cond};
@@ -17,8 +18,8 @@ pub fn is_of(number: u64, queue: LogQueue) -> bool
     ensures { λ r. ⌜ r ≡ sameQueue (queueAt number) queue ⌝ }
 {
     match queue {
-        LogQueue::Append => number == 0,
-        LogQueue::Rewrite => number != 0,
+        LogQueue::Append => number == APPEND,
+        LogQueue::Rewrite => number != APPEND,
     }
 }
 

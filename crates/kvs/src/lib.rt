@@ -13,6 +13,7 @@ pub use fetch::scan;
 pub use files::count_of;
 pub use files::least_seq;
 pub use merge::merge_keys;
+use pipe_log::APPEND;
 use pipe_log::Gate;
 use pipe_log::LogQueue;
 use rows::ROW_BYTES;
@@ -153,7 +154,7 @@ pub fn rewrite_key(
     };
     let queue = rows[i * ROW_WIDTH + 2];
     let held = rows[i * ROW_WIDTH + 3];
-    if queue == 0 {
+    if queue == APPEND {
         let Gate::Seq(highest) = gate else {
             return Rewritten::Accepted;
         };

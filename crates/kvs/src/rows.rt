@@ -7,13 +7,18 @@ ghost use Rattle.kvs.specs.RowIn.{RowIn};
 ghost use Rattle.kvs.specs.Writes.{writtenRows, writtenBytes, opened, closed};
 ghost use Rattle.kvs.specs.Calls.{heldBy, movedRows};
 use pipe_log::LogQueue;
+use pipe_log::REWRITE;
 
-// Numbers in a row, bytes in a row, and the place of the value among them.
+// Numbers in a row: the lengths of the key and of the value, and the queue and the number of the file.
 pub const ROW_WIDTH: usize = 4;
 
-pub const ROW_BYTES: usize = 64;
+// Bytes in a row, a half for the key and a half for the value, and the place of the value among them.
+pub const ROW_BYTES: usize = 2 * VALUE_AT;
 
 pub const VALUE_AT: usize = 32;
+
+// Numbers in a row of a lent list: the two lengths.
+pub const LENS_WIDTH: usize = 2;
 
 // The key of row `i`, as the part of the area that holds it.
 pub fn key_at<'a>(rows: &[u64], bytes: &'a [u8], i: usize) -> &'a [u8]
@@ -129,6 +134,6 @@ pub fn move_file(rows: &mut [u64], i: usize, seq: u64)
     ensures { λ _. ⌜ now (rows .exit) ≡ movedRows i seq (now (rows .entry)) ⌝ }
 {
     let at = i * ROW_WIDTH + 2;
-    rows[at] = 1;
+    rows[at] = REWRITE;
     rows[at + 1] = seq;
 }

@@ -14,8 +14,12 @@ ghost use Rattle.stores.specs.Written.{Lent, countOf};
 ghost use Rattle.lists.specs.Rest.{kindOf, tombstoneStore, tombstoneArea, tombstonesIn, cleanedIn, restOf, Wf, cutTo};
 ghost use Rattle.lists.specs.Calls.{kindAs, Becomes, TombstonesAdded, TombstoneAdded, AllCleanedAdded, CleanedAdded};
 use log_batch::item::LogItem;
+use log_batch::open::ITEM_WIDTH;
+use pipe_log::APPEND;
 use pipe_log::LogQueue;
+use pipe_log::REWRITE;
 use stores::Store;
+use stores::row::ITEM_BYTES;
 
 // The lengths that an area has behind its groups.
 pub const NUMBERS: usize = 7855;
@@ -36,13 +40,13 @@ const CLEANED_AT: usize = 2;
 
 const CLEANED_FROM: usize = 3;
 
-pub const ROWS_FROM: usize = 67;
+pub const ROWS_FROM: usize = CLEANED_FROM + MAX_CLEANED;
 
-pub const ROWS_TO: usize = 643;
+pub const ROWS_TO: usize = ROWS_FROM + MAX_TOMBSTONES * ITEM_WIDTH;
 
-pub const ROW_BYTES: usize = 4096;
+pub const ROW_BYTES: usize = MAX_TOMBSTONES * ITEM_BYTES;
 
-// The number of the index's kind.
+// The number of the index's kind; a context has that of its queue.
 const INDEX: u64 = 2;
 
 // What an area stands for.
@@ -63,8 +67,8 @@ pub fn kind_in(ys: &[u64]) -> Kind
     ensures { λ r. ⌜ kindAs r ≡ kindOf (getD (now (ys .entry)) 0 0) ⌝ }
 {
     match ys[KIND_AT] {
-        0 => Kind::Context(LogQueue::Append),
-        1 => Kind::Context(LogQueue::Rewrite),
+        APPEND => Kind::Context(LogQueue::Append),
+        REWRITE => Kind::Context(LogQueue::Rewrite),
         _ => Kind::Index,
     }
 }

@@ -22,6 +22,10 @@ use crate::item::entries_of;
 use crate::plain::is_plain_content;
 use pipe_log::Gate;
 use pipe_log::LogQueue;
+use pipe_log::causes::INCOMPLETE;
+use pipe_log::causes::NOT_REWRITABLE;
+use pipe_log::causes::OUT_OF_RANGE;
+use pipe_log::causes::WRONG_QUEUE;
 
 // The bounds of cause 2.
 pub const MAX_ITEMS: usize = 32;
@@ -29,6 +33,9 @@ pub const MAX_ITEMS: usize = 32;
 pub const MAX_LIST_ENTRIES: usize = 32;
 
 pub const MAX_BYTES: usize = 32;
+
+// What stands for the number of a content that meets none of 3 to 6.
+pub const NONE_OF_CONTENT: u64 = 7;
 
 // The four calls that take a batch; a live rewrite has its gate and the batch's sequence number.
 pub enum Call {
@@ -270,18 +277,18 @@ fn least_of_tests(call: Call, content: LogItemContent, entries: &[u64]) -> u64
     ensures { λ r. ⌜ ((bytes : List ℕ) → r ≡ leastContent (callOf call) (contentOf content (now (entries .entry)) bytes)) ⌝ }
 {
     if is_incomplete(call, content, entries) {
-        return 3;
+        return INCOMPLETE;
     }
     if is_out_of_range(content, entries) {
-        return 4;
+        return OUT_OF_RANGE;
     }
     if is_other_queue(call, content, entries) {
-        return 5;
+        return WRONG_QUEUE;
     }
     if is_not_rewritable(call, content) {
-        return 6;
+        return NOT_REWRITABLE;
     }
-    7
+    NONE_OF_CONTENT
 }
 
 // The same; a list is first looked at in one pass, which tells most lists that meet none.
@@ -290,7 +297,7 @@ pub fn least_of_content(call: Call, content: LogItemContent, entries: &[u64]) ->
     ensures { λ r. ⌜ ((bytes : List ℕ) → r ≡ leastContent (callOf call) (contentOf content (now (entries .entry)) bytes)) ⌝ }
 {
     if is_plain_content(call, content, entries) {
-        return 7;
+        return NONE_OF_CONTENT;
     }
     least_of_tests(call, content, entries)
 }

@@ -8,10 +8,12 @@ ghost use Rattle.log_batch.specs.Lent.{rowCount, itemOf, itemAt, itemsOf
 ghost use Rattle.log_batch.specs.Judged.{callOf, markOf, markAs, markFor, incompleteMark, leastMark, leastOf, lesserOf, checkedAs};
 use crate::causes::Call;
 use crate::causes::MAX_ITEMS;
+use crate::causes::NONE_OF_CONTENT;
 use crate::causes::is_long;
 use crate::causes::lacks_mark_value;
 use crate::causes::least_of_content;
 use crate::item::LogItem;
+use crate::mark::END;
 use crate::mark::FirstMark;
 use crate::mark::Mark;
 use crate::mark::MarkByte;
@@ -21,9 +23,15 @@ use crate::mark::mark_byte;
 use crate::open::Opened;
 use crate::open::open_item;
 use crate::open::row_count;
+use pipe_log::causes::BAD_MARK;
+use pipe_log::causes::INCOMPLETE;
+use pipe_log::causes::TOO_LONG;
 
 // The highest status of a mark.
-pub const MAX_STATUS: u8 = 2;
+pub const MAX_STATUS: u8 = END;
+
+// What stands for the number of an item that meets none of 2 to 7.
+const NONE_OF_ALL: u64 = 8;
 
 // The answer of the checks: a refusal has 01's number and the item's position.
 pub enum Checked {
@@ -61,15 +69,15 @@ fn least_of_mark(call: Call, mark: FirstMark, i: usize, item: LogItem, bytes: &[
     ensures { λ r. ⌜ ((entries : List ℕ) → r ≡ leastMark (callOf call) (markAs mark) i (itemOf item entries (now (bytes .entry)))) ⌝ }
 {
     if !call.is_rewrite_replay() {
-        return 8;
+        return NONE_OF_ALL;
     }
     let FirstMark::Found(first) = mark else {
-        return 8;
+        return NONE_OF_ALL;
     };
     if breaks_mark(first, i, item, bytes) {
-        return 7;
+        return BAD_MARK;
     }
-    8
+    NONE_OF_ALL
 }
 
 // Whether a reserved item meets 3.
@@ -97,19 +105,19 @@ fn least_of(
 {
     let content = item.content;
     if i == MAX_ITEMS {
-        return 2;
+        return TOO_LONG;
     }
     if is_long(content) {
-        return 2;
+        return TOO_LONG;
     }
     if is_reserved(content, bytes) {
         if is_incomplete_mark(call, item) {
-            return 3;
+            return INCOMPLETE;
         }
         return least_of_mark(call, mark, i, item, bytes);
     }
     let number = least_of_content(call, content, entries);
-    if number < 7 {
+    if number < NONE_OF_CONTENT {
         return number;
     }
     least_of_mark(call, mark, i, item, bytes)
@@ -129,15 +137,15 @@ fn least_at(
 {
     let Opened::Item(item) = open_item(items, entries, bytes, i) else {
         if i == MAX_ITEMS {
-            return 2;
+            return TOO_LONG;
         }
-        return 3;
+        return INCOMPLETE;
     };
     least_of(call, mark, i, item, entries, bytes)
 }
 
 // The first mark, for the one call that looks at marks.
-fn mark_for(call: Call, items: &[u64], entries: &[u64], bytes: &[u8]) -> FirstMark
+pub fn mark_for(call: Call, items: &[u64], entries: &[u64], bytes: &[u8]) -> FirstMark
     ensures { λ r. ⌜ markAs r ≡ markFor (callOf call) (itemsOf (now (items .entry)) (now (entries .entry)) (now (bytes .entry))) ⌝ }
 {
     if !call.is_rewrite_replay() {
@@ -163,22 +171,22 @@ pub fn check(call: Call, items: &[u64], entries: &[u64], bytes: &[u8]) -> Checke
     let mark = mark_for(call, items, entries, bytes);
     let rows = row_count(items);
     let mut best = Best {
-        number: 8,
+        number: NONE_OF_ALL,
         place: 0,
     };
     let mut i = 0;
     while i < rows {
         let number = least_at(call, mark, i, items, entries, bytes);
         best = lesser(best, number, i);
-        if best.number == 2 {
+        if best.number == TOO_LONG {
             return Checked::Refused {
-                number: 2,
+                number: TOO_LONG,
                 place: best.place,
             };
         }
         i += 1;
     }
-    if best.number == 8 {
+    if best.number == NONE_OF_ALL {
         return Checked::Passed;
     }
     Checked::Refused {

@@ -10,12 +10,18 @@ ghost use Rattle.rules.specs.Checks.{consecutive};
 ghost use Rattle.log_batch.specs.Judged.{entryMeets, entriesIncomplete};
 use pipe_log::ENTRY_WIDTH;
 use pipe_log::LogQueue;
+use pipe_log::REWRITE;
 use pipe_log::queue_at;
 
 // The bounds of cause 4.
 pub const MAX_INDEX: u64 = 0x7fff_ffff_ffff_ffff;
 
 pub const MAX_ENTRY_LEN: u64 = 0x200_0000;
+
+// What a record's numbers are bounded by: the highest number of a compression type, and what entry offsets are below.
+pub const MAX_COMPRESSION: u64 = 1;
+
+pub const ENTRY_OFFSETS: u64 = 0x1_0000_0000;
 
 // What an entry is tested for.
 pub enum EntryTest {
@@ -29,13 +35,13 @@ fn is_record(row: &[u64]) -> bool
     requires { ⌜ 8 ≤ length (now row) ⌝ }
     ensures { λ r. ⌜ r ≡ isRecord (now (row .entry)) ⌝ }
 {
-    if 1 < row[1] {
+    if REWRITE < row[1] {
         return false;
     }
-    if 1 < row[5] {
+    if MAX_COMPRESSION < row[5] {
         return false;
     }
-    row[6] < 0x1_0000_0000
+    row[6] < ENTRY_OFFSETS
 }
 
 fn is_append(queue: LogQueue) -> bool

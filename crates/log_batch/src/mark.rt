@@ -18,6 +18,16 @@ use crate::open::Opened;
 use crate::open::open_item;
 use crate::open::row_count;
 
+// The length of the reserved key.
+pub const RESERVED_LEN: usize = 3;
+
+// The bytes of the statuses.
+pub const BEGIN: u8 = 0;
+
+pub const MIDDLE: u8 = 1;
+
+pub const END: u8 = 2;
+
 // The status of a mark.
 pub enum AtomicGroupStatus {
     Begin,
@@ -50,8 +60,8 @@ impl AtomicGroupStatus {
         ensures { λ r. ⌜ statusAs r ≡ statusOf byte ⌝ }
     {
         match byte {
-            0 => AtomicGroupStatus::Begin,
-            1 => AtomicGroupStatus::Middle,
+            BEGIN => AtomicGroupStatus::Begin,
+            MIDDLE => AtomicGroupStatus::Middle,
             _ => AtomicGroupStatus::End,
         }
     }
@@ -61,7 +71,7 @@ impl AtomicGroupStatus {
 pub fn is_internal_key(key: &[u8]) -> bool
     ensures { λ r. ⌜ r ≡ sameBytes (now (key .entry)) reservedKey ⌝ }
 {
-    if key.len() != 3 {
+    if key.len() != RESERVED_LEN {
         return false;
     }
     if key[0] != b'_' {

@@ -12,12 +12,37 @@ use crate::item::LogItem;
 use crate::item::LogItemContent;
 use crate::item::OpType;
 use crate::item::Value;
+use pipe_log::APPEND;
 use pipe_log::ENTRY_WIDTH;
 use pipe_log::FileId;
 use pipe_log::LogQueue;
+use pipe_log::REWRITE;
 
-// Numbers in a row of items.
+// Numbers in a row of items: group, tag, and by the tag the first row and the count of a list, the index of a Compact, or the place and
+// the length of a key; and of a Put whether it has a value, the value's place and length, and the queue and the number of its file.
 pub const ITEM_WIDTH: usize = 9;
+
+// The numbers of a row behind its first one.
+const ITEM_REST: usize = ITEM_WIDTH - 1;
+
+// The tags of rows.
+pub const LIST: u64 = 0;
+
+pub const CLEAN: u64 = 1;
+
+pub const COMPACT: u64 = 2;
+
+pub const PUT: u64 = 3;
+
+pub const DEL: u64 = 4;
+
+// Whether a row has a value.
+pub const NO_VALUE: u64 = 0;
+
+pub const HAS_VALUE: u64 = 1;
+
+// What a row without a file has for the file's queue; any number above the queues' tells the same.
+pub const NO_FILE: u64 = 2;
 
 // An item, or the group of a row that is none, which every call refuses by 3.
 pub enum Opened {
@@ -29,7 +54,7 @@ pub enum Opened {
 pub fn row_count(items: &[u64]) -> usize
     ensures { λ r. ⌜ r ≡ rowCount (now (items .entry)) ⌝ }
 {
-    (items.len() + 8) / ITEM_WIDTH
+    (items.len() + ITEM_REST) / ITEM_WIDTH
 }
 
 // Whether `len` places from `at` are within the first `end`.
@@ -48,10 +73,10 @@ fn value_fits(row: &[u64], bytes: usize) -> bool
     ensures { λ r. ⌜ r ≡ valueFits (now (row .entry)) bytes ⌝ }
 {
     let told = row[4];
-    if told == 0 {
+    if told == NO_VALUE {
         return true;
     }
-    if told == 1 {
+    if told == HAS_VALUE {
         return within(row[5] as usize, row[6] as usize, bytes);
     }
     false
@@ -61,7 +86,7 @@ fn value_at(row: &[u64]) -> Value
     requires { ⌜ 9 ≤ length (now row) ⌝ }
     ensures { λ r. ⌜ r ≡ valueAt (now (row .entry)) ⌝ }
 {
-    if row[4] == 0 {
+    if row[4] == NO_VALUE {
         return Value::Absent;
     }
     Value::At {
@@ -76,13 +101,13 @@ fn file_at(row: &[u64]) -> KeyFile
 {
     let told = row[7];
     let seq = row[8];
-    if told == 0 {
+    if told == APPEND {
         return KeyFile::Of(FileId {
             queue: LogQueue::Append,
             seq,
         });
     }
-    if told == 1 {
+    if told == REWRITE {
         return KeyFile::Of(FileId {
             queue: LogQueue::Rewrite,
             seq,
@@ -179,11 +204,11 @@ fn open_row(row: &[u64], rows: usize, bytes: usize) -> Opened
         return Opened::Refused { raft_group_id };
     }
     match row[1] {
-        0 => open_entries(row, rows),
-        1 => open_command(raft_group_id, Command::Clean),
-        2 => open_command(raft_group_id, Command::Compact { index: row[2] }),
-        3 => open_put(row, bytes),
-        4 => open_del(row, bytes),
+        LIST => open_entries(row, rows),
+        CLEAN => open_command(raft_group_id, Command::Clean),
+        COMPACT => open_command(raft_group_id, Command::Compact { index: row[2] }),
+        PUT => open_put(row, bytes),
+        DEL => open_del(row, bytes),
         _ => Opened::Refused { raft_group_id },
     }
 }

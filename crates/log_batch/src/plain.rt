@@ -7,6 +7,8 @@ ghost use Rattle.log_batch.specs.Lent.{rowsWithin};
 ghost use Rattle.log_batch.specs.Judged.{callOf};
 ghost use Rattle.log_batch.specs.Plain.{plainRow, plainRows, plainList, plainContent};
 use crate::causes::Call;
+use crate::entries::ENTRY_OFFSETS;
+use crate::entries::MAX_COMPRESSION;
 use crate::entries::MAX_ENTRY_LEN;
 use crate::entries::MAX_INDEX;
 use crate::item::LogItemContent;
@@ -24,13 +26,13 @@ fn is_plain(row: &[u64], index: u64, queue: u64) -> bool
     if row[1] != queue {
         return false;
     }
-    if 1 < row[5] {
+    if MAX_COMPRESSION < row[5] {
         return false;
     }
     if MAX_ENTRY_LEN < row[7] {
         return false;
     }
-    row[6] < 0x1_0000_0000
+    row[6] < ENTRY_OFFSETS
 }
 
 // Whether the first `count` rows are such records, at the indexes from `first` on.

@@ -11,6 +11,16 @@ use crate::Fetched;
 use crate::Head;
 use pipe_log::ENTRY_WIDTH;
 
+// How far the next three rows are from a row.
+const NEXT: usize = ENTRY_WIDTH;
+
+const SECOND: usize = 2 * ENTRY_WIDTH;
+
+const THIRD: usize = 3 * ENTRY_WIDTH;
+
+// How many rows are copied at once.
+const AT_ONCE: usize = 4;
+
 // Copies cell `cell` of up to three rows from row `from` on to the places from `at` on.
 fn copy_rest(part: &[u64], from: usize, cell: usize, count: usize, out: &mut [u64], at: usize)
     requires { ⌜ ((from + count) * 8 ≤ length (now part)) × (cell < 8) × (at + count ≤ length (now out)) × (count ≤ 3) ⌝ }
@@ -24,11 +34,11 @@ fn copy_rest(part: &[u64], from: usize, cell: usize, count: usize, out: &mut [u6
     if count == 1 {
         return;
     }
-    out[at + 1] = part[first + 8];
+    out[at + 1] = part[first + NEXT];
     if count == 2 {
         return;
     }
-    out[at + 2] = part[first + 16];
+    out[at + 2] = part[first + SECOND];
 }
 
 // Copies cell `cell` of `count` rows from row `from` on, by four rows and a rest: a loop row by row is compiled with tests for
@@ -38,17 +48,17 @@ fn copy_column(part: &[u64], from: usize, cell: usize, count: usize, out: &mut [
     ensures { λ _. ⌜ now (out .exit) ≡ put (now (out .entry)) 0 (column cell count (drop (from * 8) (now (part .entry)))) ⌝ }
 {
     let mut i = 0;
-    while 4 <= count - i {
+    while AT_ONCE <= count - i {
         let at = (from + i) * ENTRY_WIDTH + cell;
         let a = part[at];
-        let b = part[at + 8];
-        let c = part[at + 16];
-        let d = part[at + 24];
+        let b = part[at + NEXT];
+        let c = part[at + SECOND];
+        let d = part[at + THIRD];
         out[i] = a;
         out[i + 1] = b;
         out[i + 2] = c;
         out[i + 3] = d;
-        i += 4;
+        i += AT_ONCE;
     }
     copy_rest(part, from + i, cell, count - i, out, i);
 }

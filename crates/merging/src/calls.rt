@@ -17,15 +17,13 @@ use contexts::Answer;
 use lists::Kind;
 use log_batch::entries::same_queue;
 use pipe_log::LogQueue;
+use pipe_log::causes::LIMIT_PASSED;
+use pipe_log::causes::WRONG_KIND;
 use staging::Flags;
 use staging::begin;
 use staging::seal;
 use staging::stage_all;
-use stretch::LIMIT_PASSED;
 use worktable::Mode;
-
-// Document 01's number of a call on the wrong kind.
-const WRONG_KIND: u64 = 1;
 
 // Makes the staged groups the groups, and the lists those of both.
 fn take_staged(xs: &mut [u64], bs: &mut [u8], ys: &[u64], cs: &[u8], mode: Mode)

@@ -8,8 +8,8 @@ use contexts::Position;
 use lists::Counts;
 use lists::MAX_CLEANED;
 use lists::MAX_TOMBSTONES;
-use stretch::ABOVE_LAST;
-use stretch::FILES_GO_BACK;
+use pipe_log::causes::ABOVE_LAST;
+use pipe_log::causes::FILES_GO_BACK;
 use worktable::Mode;
 
 // Whether lists of so many elements may become one. A join has no tombstones.

@@ -18,6 +18,8 @@ use crate::ends::lists_fit;
 use crate::ends::refuse;
 use crate::growth::grow_merged;
 use contexts::Answer;
+use contexts::WAITING_BYTES_FROM;
+use contexts::WAITING_BYTES_TO;
 use contexts::WAITING_FROM;
 use contexts::WAITING_TO;
 use lists::MAX_TOMBSTONES;
@@ -25,15 +27,13 @@ use parts::count_finals;
 use parts::keep_finals;
 use parts::room_fits;
 use parts::take_parts;
+use pipe_log::causes::FILES_GO_BACK;
+use pipe_log::causes::LIMIT_PASSED;
 use staging::Flags;
-use staging::ROOM_FROM;
-use staging::ROOM_TO;
 use staging::begin;
 use staging::copy_room;
 use staging::seal;
 use staging::stage_all;
-use stretch::FILES_GO_BACK;
-use stretch::LIMIT_PASSED;
 use worktable::Mode;
 
 // How many tombstones there are among the items that finish.
@@ -45,8 +45,8 @@ fn count_finished(xs: &[u64], bs: &[u8], ys: &[u64], cs: &[u8]) -> usize
 {
     let from = WAITING_FROM;
     let to = WAITING_TO;
-    let start = ROOM_FROM;
-    let end = ROOM_TO;
+    let start = WAITING_BYTES_FROM;
+    let end = WAITING_BYTES_TO;
     count_finals(
         &xs[from..to],
         &bs[start..end],
@@ -82,15 +82,15 @@ fn keep_finished(xs: &mut [u64], bs: &mut [u8], ys: &[u64], cs: &[u8])
     requires { ⌜ getD (drop 9376 (now xs)) 1 0 + length (finishedTombs (waitingOf (part 10019 3490 (now ys)) (part 20480 8192 (now cs))) (waitingOf (part 10019 3490 (now xs)) (part 20480 8192 (now bs)))) ≤ 64 ⌝ }
     ensures { λ _. ⌜ Grown (keptBehind (finishedTombs (waitingOf (part 10019 3490 (now (ys .entry))) (part 20480 8192 (now (cs .entry)))) (waitingOf (part 10019 3490 (now (xs .entry))) (part 20480 8192 (now (bs .entry))))) (now (xs .entry)) (now (bs .entry))) (now (xs .entry)) (now (bs .entry)) (now (xs .exit)) (now (bs .exit)) ⌝ }
 {
-    let mut ws = [0u64; 3490];
-    let mut vs = [0u8; 8192];
+    let mut ws = [0u64; waiting::NUMBERS];
+    let mut vs = [0u8; waiting::BYTES];
     copy_room(xs, bs, &mut ws, &mut vs);
     let a = groups::NUMBERS;
     let c = groups::BYTES;
     let from = WAITING_FROM;
     let to = WAITING_TO;
-    let start = ROOM_FROM;
-    let end = ROOM_TO;
+    let start = WAITING_BYTES_FROM;
+    let end = WAITING_BYTES_TO;
     keep_finals(
         &mut xs[a..],
         &mut bs[c..],
@@ -107,7 +107,7 @@ fn put_room(xs: &mut [u64], bs: &mut [u8], ws: &[u64], vs: &[u8])
     ensures { λ _. ⌜ (now (xs .exit) ≡ put (now (xs .entry)) 10019 (now (ws .entry))) × (now (bs .exit) ≡ put (now (bs .entry)) 20480 (now (vs .entry))) ⌝ }
 {
     cells::copy_in_u64(xs, WAITING_FROM, ws);
-    cells::copy_in_u8(bs, ROOM_FROM, vs);
+    cells::copy_in_u8(bs, WAITING_BYTES_FROM, vs);
 }
 
 // The lists of both, the tombstones that finish behind them, and what waits.
@@ -180,8 +180,8 @@ fn accept_waiting(
     copy_room(xs, bs, ws, vs);
     let from = WAITING_FROM;
     let to = WAITING_TO;
-    let start = ROOM_FROM;
-    let end = ROOM_TO;
+    let start = WAITING_BYTES_FROM;
+    let end = WAITING_BYTES_TO;
     take_parts(ws, vs, &ys[from..to], &cs[start..end])
 }
 
@@ -192,8 +192,8 @@ fn finish_waiting(xs: &mut [u64], bs: &mut [u8], ys: &[u64], cs: &[u8], flags: F
     requires { ⌜ Worked Mode.Rewrite flags (now xs) (now bs) (now ys) (now cs) ⌝ }
     ensures { λ r. ⌜ Answered (callBy Mode.Rewrite (contextOf (now (ys .entry)) (now (cs .entry)))) (now (xs .entry)) (now (bs .entry)) r (now (xs .exit)) (now (bs .exit)) ⌝ }
 {
-    let mut ws = [0u64; 3490];
-    let mut vs = [0u8; 8192];
+    let mut ws = [0u64; waiting::NUMBERS];
+    let mut vs = [0u8; waiting::BYTES];
     if !accept_waiting(xs, bs, ys, cs, &mut ws, &mut vs) {
         return refuse(FILES_GO_BACK);
     }

@@ -19,6 +19,8 @@ use crate::Finishing;
 use waiting::CELLS;
 use waiting::HEAD_WIDTH;
 use waiting::HEADS_AT;
+use waiting::NEWEST_AT;
+use waiting::OLDER_AT;
 use waiting::Place;
 use waiting::Step;
 use waiting::find::find;
@@ -47,9 +49,9 @@ fn oldest_at(us: &[u64], j: usize) -> usize
     let at = HEADS_AT + j * HEAD_WIDTH;
     let count = us[at];
     if count == 1 {
-        return at + 2;
+        return at + NEWEST_AT;
     }
-    at + 6
+    at + OLDER_AT
 }
 
 // What the oldest part of the newer cell j finishes in the older cell k.
@@ -64,7 +66,7 @@ fn finishing_by(ws: &[u64], us: &[u64], k: usize, j: usize) -> Finishing
     }
     let cell = HEADS_AT + k * HEAD_WIDTH;
     Finishing::Of(Ending {
-        older: ws[cell + 2],
+        older: ws[cell + NEWEST_AT],
         newer: us[at],
         start: ws[cell + 4],
         end: us[at + 3],

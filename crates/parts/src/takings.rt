@@ -13,6 +13,8 @@ use waiting::Accepted;
 use waiting::CELLS;
 use waiting::HEAD_WIDTH;
 use waiting::HEADS_AT;
+use waiting::NEWEST_AT;
+use waiting::OLDER_AT;
 use waiting::accept_part;
 
 // Accepts the newer part of a group whose tag is number `at` of the newer room; false if files go back.
@@ -54,12 +56,12 @@ fn accept_cell(ws: &mut [u64], vs: &mut [u8], us: &[u64], ds: &[u8], k: usize) -
     let count = us[at];
     let group = us[at + 1];
     if count == 1 {
-        return accept_at(ws, vs, us, ds, group, at + 2);
+        return accept_at(ws, vs, us, ds, group, at + NEWEST_AT);
     }
-    if !accept_at(ws, vs, us, ds, group, at + 6) {
+    if !accept_at(ws, vs, us, ds, group, at + OLDER_AT) {
         return false;
     }
-    accept_at(ws, vs, us, ds, group, at + 2)
+    accept_at(ws, vs, us, ds, group, at + NEWEST_AT)
 }
 
 // Accepts the newer waiting parts in the older room, groups ascending, the oldest part of a group first; false if files go back.

@@ -1,4 +1,7 @@
 // Queues, files and the entry record (src/pipe_log.rs; the entry record is src/memtable.rs's `EntryIndex`). The pipe is left out.
+// Every code crate depends on this one: document 01's numbers of causes stand here too.
+pub mod causes;
+
 ghost use mathlib.Core.Path.{_≡_};
 ghost use Rattle.pipe_log.specs.Numbers.{queueNumber, compressionNumber};
 ghost use Rattle.pipe_log.specs.Rows.{queueAt};
@@ -48,7 +51,13 @@ pub enum Bound {
     At(u64),
 }
 
-// Numbers in the row of an entry record (`specs/Rows.antt`).
+// The numbers of the queues in rows.
+pub const APPEND: u64 = 0;
+
+pub const REWRITE: u64 = 1;
+
+// Numbers in the row of an entry record (`specs/Rows.antt`): index, queue, sequence number, offset and length of the block,
+// compression type, entry offset, entry length.
 pub const ENTRY_WIDTH: usize = 8;
 
 // Location of a log entry: document 01's entry record.
@@ -65,8 +74,8 @@ impl LogQueue {
         ensures { λ r. ⌜ r ≡ queueNumber self ⌝ }
     {
         match self {
-            LogQueue::Append => 0,
-            LogQueue::Rewrite => 1,
+            LogQueue::Append => APPEND,
+            LogQueue::Rewrite => REWRITE,
         }
     }
 }
@@ -86,7 +95,7 @@ impl CompressionType {
 pub fn queue_at(number: u64) -> LogQueue
     ensures { λ r. ⌜ r ≡ queueAt number ⌝ }
 {
-    if number == 0 {
+    if number == APPEND {
         return LogQueue::Append;
     }
     LogQueue::Rewrite

@@ -30,13 +30,12 @@ pub use keys::get;
 pub use keys::key_count;
 pub use keys::scan;
 use pipe_log::EntryIndex;
+pub use pipe_log::causes::GROUP_ABSENT;
 pub use places::entry_rows;
 pub use places::head_at;
 pub use places::place_of;
 
-// What `get` tells beside the value: document 01's 9, that the key is absent, or that the value is the part handed back.
-pub const GROUP_ABSENT: u64 = 9;
-
+// What `get` tells beside the value if it is not `GROUP_ABSENT`: that the key is absent, or that the value is the part handed back.
 pub const KEY_ABSENT: u64 = 0;
 
 pub const VALUE_FOUND: u64 = 1;

@@ -13,6 +13,7 @@ use queries::Fetched;
 pub use rows::fetch_rewritten_rows;
 pub use rows::fetch_rows_before;
 pub use rows::fetch_rows_to;
+use stretch::MAX_ENTRIES;
 
 // A fetch of entry records, with document 01's arguments.
 pub enum Fetch {
@@ -37,7 +38,7 @@ pub struct Plan {
 }
 
 // How many records a list by value has: as many as a group can have entries.
-pub const LISTED: usize = 64;
+pub const LISTED: usize = MAX_ENTRIES;
 
 // What a fetch into a list by value answers, with the list.
 pub struct Listed {

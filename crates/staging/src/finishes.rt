@@ -21,6 +21,8 @@ ghost use Rattle.staging.specs.Replays.{Replayable};
 ghost use Rattle.staging.specs.Finishings.{finishedAt, PartsGiven, endingItems, endingSpan, EndingGiven};
 ghost use Rattle.staging.specs.Works.{Loaded, WorkedAs};
 use crate::replays::replay_part;
+use contexts::WAITING_BYTES_FROM;
+use contexts::WAITING_BYTES_TO;
 use contexts::WAITING_FROM;
 use contexts::WAITING_TO;
 use parts::Ending;
@@ -31,11 +33,6 @@ use stretch::Outcome;
 use worktable::WORK_AT;
 use worktable::WORK_BYTES_AT;
 
-// Where the bytes of the waiting parts stand.
-pub const ROOM_FROM: usize = 20480;
-
-pub const ROOM_TO: usize = 28672;
-
 // Copies the room of the waiting parts.
 pub fn copy_room(xs: &[u64], bs: &[u8], ws: &mut [u64], vs: &mut [u8])
     requires { ⌜ (length (now xs) ≡ 17231) × (length (now bs) ≡ 38912) × (length (now ws) ≡ 3490) × (length (now vs) ≡ 8192) ⌝ }
@@ -44,8 +41,8 @@ pub fn copy_room(xs: &[u64], bs: &[u8], ws: &mut [u64], vs: &mut [u8])
     let from = WAITING_FROM;
     let to = WAITING_TO;
     cells::copy_in_u64(ws, 0, &xs[from..to]);
-    let start = ROOM_FROM;
-    let end = ROOM_TO;
+    let start = WAITING_BYTES_FROM;
+    let end = WAITING_BYTES_TO;
     cells::copy_in_u8(vs, 0, &bs[start..end]);
 }
 
@@ -57,8 +54,8 @@ fn replay_older(xs: &mut [u64], bs: &mut [u8], tag: u64)
     requires { ⌜ Replayable (itemsWith tag (tagged (part 10019 3490 (now xs)) (part 20480 8192 (now bs)))) (workIn (drop 13509 (now xs)) (drop 28672 (now bs))) ⌝ }
     ensures { λ _. ⌜ Loaded (replayedItems (itemsWith tag (tagged (part 10019 3490 (now (xs .entry))) (part 20480 8192 (now (bs .entry))))) (workIn (drop 13509 (now (xs .entry))) (drop 28672 (now (bs .entry))))) (now (xs .entry)) (now (bs .entry)) (now (xs .exit)) (now (bs .exit)) ⌝ }
 {
-    let mut ws = [0u64; 3490];
-    let mut vs = [0u8; 8192];
+    let mut ws = [0u64; waiting::NUMBERS];
+    let mut vs = [0u8; waiting::BYTES];
     copy_room(xs, bs, &mut ws, &mut vs);
     let a = WORK_AT;
     let c = WORK_BYTES_AT;
@@ -74,8 +71,8 @@ fn close_part(p: &mut [u64], b: &mut [u8], ys: &[u64], cs: &[u8], ending: Ending
 {
     let from = WAITING_FROM;
     let to = WAITING_TO;
-    let start = ROOM_FROM;
-    let end = ROOM_TO;
+    let start = WAITING_BYTES_FROM;
+    let end = WAITING_BYTES_TO;
     replay_part(p, b, &ys[from..to], &cs[start..end], ending.newer);
     worktable::set_span(p, ending.start, ending.end)
 }

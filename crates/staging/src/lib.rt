@@ -8,8 +8,6 @@ mod stages;
 mod tombs;
 mod work;
 
-pub use finishes::ROOM_FROM;
-pub use finishes::ROOM_TO;
 pub use finishes::copy_room;
 pub use marks::begin;
 pub use marks::seal;

@@ -8,15 +8,18 @@ use crate::Number;
 use contexts::WAITING_FROM;
 use contexts::WAITING_TO;
 use groups::SLOTS;
+use lists::MAX_TOMBSTONES;
+use log_batch::open::ITEM_WIDTH;
 use stretch::STRETCH;
+use waiting::CELLS;
 use waiting::HEAD_WIDTH;
 use waiting::HEADS_AT;
 
 // How many places there are: the older stretches, the newer ones, the newer tombstones, the newer cells of waiting parts.
-pub const PLACES: usize = 96;
+pub const PLACES: usize = WAITING_PLACES + CELLS;
 
 // Where those of the waiting parts begin.
-const WAITING_PLACES: usize = 80;
+const WAITING_PLACES: usize = 2 * SLOTS + MAX_TOMBSTONES;
 
 // The group of stretch k, if it is used.
 fn stretch_number(xs: &[u64], k: usize) -> Number
@@ -37,7 +40,7 @@ fn tombstone_number(ys: &[u64], j: usize) -> Number
 {
     let count = ys[lists::TOMBSTONES_AT] as usize;
     if j < count {
-        return Number::Of(ys[lists::ROWS_FROM + j * 9]);
+        return Number::Of(ys[lists::ROWS_FROM + j * ITEM_WIDTH]);
     }
     Number::None
 }

@@ -19,13 +19,11 @@ use crate::Number;
 use crate::numbers::PLACES;
 use crate::numbers::number_at;
 use crate::work::work;
+use groups::SPARES_AT;
 use groups::Slot;
 use stretch::Outcome;
 use worktable::Mode;
 use worktable::WORK_AT;
-
-// Where the spare stretches begin.
-const SPARES_AT: usize = 4688;
 
 // Looks for a group among those that are staged.
 fn find_staged(xs: &[u64], group: u64) -> Slot

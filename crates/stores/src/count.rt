@@ -6,6 +6,7 @@ ghost use Rattle.stores.specs.Stores.{rowEntries, entriesBefore};
 ghost use Rattle.stores.specs.Tags.{countOne, countTag};
 use crate::Store;
 use log_batch::open::ITEM_WIDTH;
+use log_batch::open::LIST;
 
 // How many entries row `j` has.
 fn row_entries(items: &[u64], j: usize) -> usize
@@ -14,7 +15,7 @@ fn row_entries(items: &[u64], j: usize) -> usize
 {
     let at = j * ITEM_WIDTH;
     let told = items[at + 1];
-    if told == 0 {
+    if told == LIST {
         return items[at + 3] as usize;
     }
     0

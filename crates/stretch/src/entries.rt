@@ -11,18 +11,18 @@ ghost use Rattle.memtable.specs.Appends.{Lent};
 ghost use Rattle.stretch.specs.Stretch.{headIn, NumbersAt, WfAt};
 ghost use Rattle.stretch.specs.Changes.{ChangedAt, laidOutcome, laidNumbers, movedOutcome, movedNumbers};
 ghost use Rattle.stretch.specs.Reach.{keptBefore, LeavesRows};
-use crate::ABOVE_LAST;
-use crate::ALREADY_REWRITTEN;
-use crate::APPEND_LEFT;
-use crate::BELOW_FIRST;
 use crate::ENTRIES_AT;
-use crate::LIMIT_PASSED;
 use crate::Outcome;
 use crate::header::head_in;
 use crate::header::write_head;
 use memtable::Appended;
 use memtable::Rewritten;
 use pipe_log::Gate;
+use pipe_log::causes::ABOVE_LAST;
+use pipe_log::causes::ALREADY_REWRITTEN;
+use pipe_log::causes::APPEND_LEFT;
+use pipe_log::causes::BELOW_FIRST;
+use pipe_log::causes::LIMIT_PASSED;
 
 // Writes the head that laying rows over gives, or answers the refusal.
 fn settle_laid(p: &mut [u64], answer: Appended) -> Outcome

@@ -9,13 +9,13 @@ ghost use Rattle.kvs.specs.Calls.{heldBy};
 ghost use Rattle.stretch.specs.Stretch.{entryRowsAt, WfAt, tableIn, Wf};
 ghost use Rattle.stretch.specs.Changes.{ChangedAt, keysLaid};
 use crate::KEY_COUNT;
-use crate::KEY_GOES_BACK;
 use crate::KEYS_AT;
-use crate::LIMIT_PASSED;
 use crate::Outcome;
 use crate::STRETCH;
 use pipe_log::Gate;
 use pipe_log::LogQueue;
+use pipe_log::causes::KEY_GOES_BACK;
+use pipe_log::causes::LIMIT_PASSED;
 
 // Puts a key with its value and file.
 pub fn put(

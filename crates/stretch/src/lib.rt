@@ -16,6 +16,9 @@ pub use header::head_in;
 pub use header::make;
 pub use header::write_head;
 pub use keys::lay_keys;
+use kvs::rows::ROW_BYTES;
+use kvs::rows::ROW_WIDTH;
+use pipe_log::ENTRY_WIDTH;
 use pipe_log::Gate;
 use pipe_log::LogQueue;
 pub use reach::row_from;
@@ -23,19 +26,27 @@ pub use reach::writes_keys;
 pub use spans::set_span;
 pub use spans::write_span;
 
-// Where the header of a group's stretch has the number of entries and of keys.
+// Document 01's limits of a group.
+pub const MAX_ENTRIES: usize = 64;
+
+pub const MAX_KEYS: usize = 16;
+
+// Where the header of a stretch has the number of entries, the number of keys, and whether the live counts have the group. Its numbers
+// are: used, group, first index, entries, Rewrite entries, whether there is a span, its start and its end, keys, counted.
 pub const ENTRY_COUNT: usize = 3;
 
 pub const KEY_COUNT: usize = 8;
 
+pub const COUNTED: usize = 9;
+
 // The layout of a group's stretch.
 pub const ENTRIES_AT: usize = 10;
 
-pub const KEYS_AT: usize = 522;
+pub const KEYS_AT: usize = ENTRIES_AT + MAX_ENTRIES * ENTRY_WIDTH;
 
-pub const STRETCH: usize = 586;
+pub const STRETCH: usize = KEYS_AT + MAX_KEYS * ROW_WIDTH;
 
-pub const BYTES: usize = 1024;
+pub const BYTES: usize = MAX_KEYS * ROW_BYTES;
 
 // What an item does to its group. The rows of entries, the key and the value are lent beside it.
 pub enum Change {
@@ -54,18 +65,3 @@ pub enum Outcome {
     Done,
     Refused(u64),
 }
-
-// Document 01's numbers of the causes that a change meets.
-pub const FILES_GO_BACK: u64 = 8;
-
-pub const BELOW_FIRST: u64 = 13;
-
-pub const ABOVE_LAST: u64 = 14;
-
-pub const APPEND_LEFT: u64 = 15;
-
-pub const ALREADY_REWRITTEN: u64 = 16;
-
-pub const KEY_GOES_BACK: u64 = 17;
-
-pub const LIMIT_PASSED: u64 = 18;

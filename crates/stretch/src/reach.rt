@@ -3,10 +3,8 @@ ghost use mathlib.Core.Path.{_≡_};
 ghost use Prim.Native.Nat.{_+_, _-_, _≤_, _^_};
 ghost use Rattle.stretch.specs.Reach.{keptBefore, rowFrom, writesKeys};
 use crate::Change;
+use crate::MAX_ENTRIES;
 use memtable::Head;
-
-// The rows of entries that a stretch has.
-const ENTRY_MOST: usize = 64;
 
 // How far a number is beyond another.
 fn beyond(a: u64, b: u64) -> usize
@@ -41,10 +39,10 @@ pub fn row_from(head: Head, change: Change) -> usize
         Change::ReplayRewrite { first } => kept_before(head, first),
         Change::Rewrite { first, gate: _ } => beyond(first, head.first_index),
         Change::Compact { index: _ } => 0,
-        Change::Put { queue: _, seq: _ } => ENTRY_MOST,
-        Change::Delete => ENTRY_MOST,
-        Change::RewriteKey { gate: _, seq: _ } => ENTRY_MOST,
-        Change::Make => ENTRY_MOST,
+        Change::Put { queue: _, seq: _ } => MAX_ENTRIES,
+        Change::Delete => MAX_ENTRIES,
+        Change::RewriteKey { gate: _, seq: _ } => MAX_ENTRIES,
+        Change::Make => MAX_ENTRIES,
     }
 }
 

@@ -7,13 +7,13 @@ ghost use Rattle.rules.specs.Table.{spanned, withSpan};
 ghost use Rattle.memtable.specs.Views.{spanOf};
 ghost use Rattle.stretch.specs.Stretch.{WfAt};
 ghost use Rattle.stretch.specs.Changes.{ChangedAt};
-use crate::FILES_GO_BACK;
 use crate::Outcome;
 use crate::header::head_in;
 use crate::header::write_head;
 use memtable::AtomicGroup;
 use memtable::Head;
 use memtable::Spanned;
+use pipe_log::causes::FILES_GO_BACK;
 
 // Sets the span of a finished atomic group; files may not go back.
 pub fn set_span(p: &mut [u64], start: u64, end: u64) -> Outcome

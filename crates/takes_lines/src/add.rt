@@ -59,6 +59,14 @@ fn add_digit(h: LineReader, b: u8, most: u64) -> LineReader
     }
 }
 
+// How many hexadecimal digits there are.
+const HEX_DIGITS: u8 = 16;
+
+// What a letter that is a hexadecimal digit is above its value.
+const UPPER_ABOVE: u8 = b'A' - 10;
+
+const LOWER_ABOVE: u8 = b'a' - 10;
+
 // The value of a hexadecimal digit, and 16 for another byte.
 fn hex_digit(b: u8) -> u8
     ensures { λ r. ⌜ hexDigit b ≡ cond (ltb r 16) (some r) none ⌝ }
@@ -67,12 +75,12 @@ fn hex_digit(b: u8) -> u8
         return b - b'0';
     }
     if between(b, b'A', b'F') {
-        return b - 55;
+        return b - UPPER_ABOVE;
     }
     if between(b, b'a', b'f') {
-        return b - 87;
+        return b - LOWER_ABOVE;
     }
-    16
+    HEX_DIGITS
 }
 
 // A byte of the key or of the value, put behind those before it, if it is kept.
@@ -122,7 +130,7 @@ fn add_hex(h: LineReader, b: u8, is_key: bool, bytes: &mut [u8]) -> LineReader
         return ruin(h);
     }
     if h.begun {
-        return add_byte(h, h.high * 16 + digit, is_key, bytes);
+        return add_byte(h, h.high * HEX_DIGITS + digit, is_key, bytes);
     }
     LineReader {
         begun: true,

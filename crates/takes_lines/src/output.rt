@@ -7,20 +7,23 @@ ghost use Rattle.takes_lines.specs.Fields.{comma};
 ghost use Rattle.takes_lines.specs.Output.{decimal, fieldsText, lineText, groupLine, liveLine, refusalLine, malformedLine};
 ghost use Rattle.takes_lines.specs.Written.{Spelt, WrittenAt, Written};
 
+// The most digits of a number below 2^64.
+const DIGITS_MOST: usize = 20;
+
 // The decimal digits of `n`, at the end of `digits`; the answer is the place of the first.
 fn spell(n: u64, digits: &mut [u8]) -> usize
     requires { ⌜ length (now digits) ≡ 20 ⌝ }
     ensures { λ r. ⌜ Spelt n r (now (digits .exit)) ⌝ }
 {
     let mut rest = n;
-    let mut i = 20;
+    let mut i = DIGITS_MOST;
     while 9 < rest {
         i -= 1;
-        digits[i] = 48 + (rest % 10) as u8;
+        digits[i] = b'0' + (rest % 10) as u8;
         rest /= 10;
     }
     i -= 1;
-    digits[i] = 48 + rest as u8;
+    digits[i] = b'0' + rest as u8;
     i
 }
 
@@ -30,12 +33,12 @@ fn write_number(out: &mut [u8], at: usize, n: u64) -> usize
     ensures { λ r. ⌜ WrittenAt (now (out .entry)) at (comma ∷ decimal n) r (now (out .exit)) ⌝ }
     ensures { λ r. ⌜ r ≤ at + 21 ⌝ }
 {
-    let mut digits = [0u8; 20];
+    let mut digits = [0u8; DIGITS_MOST];
     let first = spell(n, &mut digits);
     out[at] = b',';
     let from = at + 1;
     cells::copy_in_u8(out, from, &digits[first..]);
-    from + (20 - first)
+    from + (DIGITS_MOST - first)
 }
 
 // Numbers, each behind a comma, from place 1 on; the answer is the place behind them.

@@ -11,21 +11,24 @@ use crate::fields::Field;
 use crate::fields::after;
 use crate::fields::is_last;
 use crate::items::item_row;
+use log_batch::causes::MAX_BYTES;
+use log_batch::open::ITEM_WIDTH;
+use pipe_log::ENTRY_WIDTH;
 use pipe_log::FileId;
 use pipe_log::LogQueue;
 
 // What is kept of a list, a key or a value: one more than document 01's bound.
-pub const KEPT_MOST: usize = 33;
+pub const KEPT_MOST: usize = MAX_BYTES + 1;
 
 // Lengths are below 2^32.
 pub const MOST_LENGTH: u64 = 4294967295;
 
 // The lengths of the slices that are lent: the row of one item, the rows of entries, the bytes of a key and a value.
-pub const ITEM_NUMBERS: usize = 9;
+pub const ITEM_NUMBERS: usize = ITEM_WIDTH;
 
-pub const ROW_NUMBERS: usize = 264;
+pub const ROW_NUMBERS: usize = KEPT_MOST * ENTRY_WIDTH;
 
-pub const KEY_VALUE_BYTES: usize = 66;
+pub const KEY_VALUE_BYTES: usize = 2 * KEPT_MOST;
 
 // What has been read of a line. Of a list, a key or a value one more is kept than document 01's bound, since it is
 // refused then whatever it holds: `count` entries in the lent rows, the key's bytes in the lent bytes from place 0 and

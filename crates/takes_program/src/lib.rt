@@ -4,12 +4,23 @@ ghost use mathlib.Core.Path.{_≡_};
 ghost use Prim.Native.Nat.{_+_, _^_, _≤_, _<_};
 ghost use lib.ListN.{length};
 ghost use Rattle.takes_runs.specs.Reading.{Fit};
+use index::BYTES;
+use index::NUMBERS;
 use libc::STDOUT_FILENO;
 use pipe_log::LogQueue;
+use takes_lines::reader::ITEM_NUMBERS;
+use takes_lines::reader::KEY_VALUE_BYTES;
+use takes_lines::reader::ROW_NUMBERS;
+use takes_runs::blocks::LINE_MOST;
 use takes_runs::bytes::Known;
 
 // The reads at most: 2^50, of up to 2^12 bytes each. A proved loop has to end, and nothing says that the input does.
 const MOST_BLOCKS: u64 = 1125899906842624;
+
+// The bytes of a block, and the most that it prints: a line for each byte.
+const BLOCK: usize = 4096;
+
+const PRINTED_MOST: usize = BLOCK * LINE_MOST;
 
 // What follows a block: the next one, the end of the input, or nothing, where a read or a write failed.
 enum Next {
@@ -206,14 +217,14 @@ fn run_over(
 // Reads an open file to its end, and writes what document 01's program prints for it. Where a read fails, a message goes to standard
 // error; where a read or a write fails, nothing more is written.
 pub fn run(fd: i32) {
-    let mut xs = [0u64; 17231];
-    let mut bs = [0u8; 38912];
-    let mut ys = [0u64; 17231];
-    let mut cs = [0u8; 38912];
-    let mut items = [0u64; 9];
-    let mut rows = [0u64; 264];
-    let mut bytes = [0u8; 66];
-    let mut out = [0u8; 180224];
+    let mut xs = [0u64; NUMBERS];
+    let mut bs = [0u8; BYTES];
+    let mut ys = [0u64; NUMBERS];
+    let mut cs = [0u8; BYTES];
+    let mut items = [0u64; ITEM_NUMBERS];
+    let mut rows = [0u64; ROW_NUMBERS];
+    let mut bytes = [0u8; KEY_VALUE_BYTES];
+    let mut out = [0u8; PRINTED_MOST];
     run_over(
         fd,
         &mut xs,

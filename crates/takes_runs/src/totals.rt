@@ -12,6 +12,7 @@ ghost use Rattle.takes_lines.specs.Program.{groupsText};
 ghost use Rattle.takes_runs.specs.Steps.{Says};
 ghost use Rattle.takes_runs.specs.Totals.{numberOr0, countOr0, filledOr0, groupText};
 use crate::blocks::LINE_MOST;
+use groups::SLOTS;
 use pipe_log::LogQueue;
 use queries::Counted;
 use queries::Fetched;
@@ -23,7 +24,7 @@ use takes_lines::output::live_line;
 pub const GROUP_MOST: usize = 86;
 
 // The most bytes that the lines of eight groups and of the live counts take.
-pub const TOTALS_MOST: usize = 732;
+pub const TOTALS_MOST: usize = SLOTS * GROUP_MOST + LINE_MOST;
 
 // The number that was found, or 0.
 fn number_or_0(found: FoundNumber) -> u64
@@ -107,7 +108,7 @@ pub fn totals(xs: &[u64], bs: &[u8], out: &mut [u8]) -> usize
     requires { ⌜ 732 ≤ length (now out) ⌝ }
     ensures { λ r. ⌜ Says (groupsText (contextOf (now (xs .entry)) (now (bs .entry)) .groups) ++ liveLine (liveEntries Append (contextOf (now (xs .entry)) (now (bs .entry)))) (liveEntries Rewrite (contextOf (now (xs .entry)) (now (bs .entry))))) r (now (out .exit)) ⌝ }
 {
-    let mut list = [0u64; 8];
+    let mut list = [0u64; SLOTS];
     let count = filled_or_0(queries::group_numbers(xs, bs, &mut list));
     let at = groups_text(xs, bs, &list[..count], out);
     let e = at + LINE_MOST;

@@ -5,8 +5,11 @@ ghost use lib.ListN.{length};
 ghost use Rattle.cells.specs.Part.{part};
 ghost use Rattle.waiting.specs.Rooms.{headAt};
 ghost use Rattle.waiting.specs.Steps.{isOf, isFree, stepBy, stepOf, FirstOf, Found};
+use crate::BEGIN;
+use crate::END;
 use crate::HEAD_WIDTH;
 use crate::HEADS_AT;
+use crate::MIDDLE;
 use crate::Place;
 use crate::Step;
 
@@ -81,22 +84,22 @@ pub fn find(ws: &[u64], cells: usize, group: u64) -> Place
 fn step_of(status: u64, start: u64, old: u64, end: u64) -> Step
     ensures { λ r. ⌜ r ≡ stepBy status start old end ⌝ }
 {
-    if status == 0 {
-        if old < 2 {
+    if status == BEGIN {
+        if old < END {
             return Step::Replace;
         }
         return Step::Front;
     }
-    if 2 <= old {
+    if END <= old {
         return Step::Drop;
     }
     if start < end {
         return Step::Back;
     }
-    if status == 1 {
+    if status == MIDDLE {
         return Step::Join;
     }
-    if old == 1 {
+    if old == MIDDLE {
         return Step::Join;
     }
     Step::Finish

@@ -20,6 +20,8 @@ use crate::CELLS;
 use crate::Form;
 use crate::HEAD_WIDTH;
 use crate::HEADS_AT;
+use crate::MIDDLE;
+use crate::NEWEST_AT;
 use crate::heads::counts_in;
 use crate::heads::write_part;
 use crate::items::take_out;
@@ -32,7 +34,7 @@ pub fn form_tag(ws: &[u64], cells: usize, k: usize, form: Form) -> u64
     requires { ⌜ Tagging form k (headAt k (part 2 (cells * 10) (now ws))) ⌝ }
     ensures { λ r. ⌜ r ≡ formTag form k (headAt k (part 2 (cells * 10) (now (ws .entry)))) ⌝ }
 {
-    let tag = ws[HEADS_AT + k * HEAD_WIDTH + 2];
+    let tag = ws[HEADS_AT + k * HEAD_WIDTH + NEWEST_AT];
     match form {
         Form::First => k as u64 * 2,
         Form::Front => k as u64 * 4 + 1 - tag,
@@ -50,7 +52,7 @@ fn front_head(
     status: u64,
     start: u64,
     end: u64,
-) -> [u64; 10]
+) -> [u64; HEAD_WIDTH]
     requires { ⌜ (length (now ws) ≡ 2 + cells * 218) × (k < cells) ⌝ }
     requires { ⌜ tag ≡ otherTag k (newestTag (headAt k (part 2 (cells * 10) (now ws)))) ⌝ }
     ensures { λ r. ⌜ r ≡ frontHead k status start end (headAt k (part 2 (cells * 10) (now (ws .entry)))) ⌝ }
@@ -71,7 +73,14 @@ fn front_head(
 }
 
 // The head of cell `k` with other numbers of its newest part.
-fn renewed_head(ws: &[u64], cells: usize, k: usize, status: u64, start: u64, end: u64) -> [u64; 10]
+fn renewed_head(
+    ws: &[u64],
+    cells: usize,
+    k: usize,
+    status: u64,
+    start: u64,
+    end: u64,
+) -> [u64; HEAD_WIDTH]
     requires { ⌜ (length (now ws) ≡ 2 + cells * 218) × (k < cells) ⌝ }
     ensures { λ r. ⌜ r ≡ renewedHead status start end (headAt k (part 2 (cells * 10) (now (ws .entry)))) ⌝ }
 {
@@ -94,14 +103,14 @@ fn renewed_head(ws: &[u64], cells: usize, k: usize, status: u64, start: u64, end
 fn joined_number(old: u64, status: u64) -> u64
     ensures { λ r. ⌜ r ≡ joinedNumber old status ⌝ }
 {
-    if status == 1 {
+    if status == MIDDLE {
         return old;
     }
     status
 }
 
 // The head of cell `k` with a part joined to its newest one, whose start stays.
-fn joined_head(ws: &[u64], cells: usize, k: usize, status: u64, end: u64) -> [u64; 10]
+fn joined_head(ws: &[u64], cells: usize, k: usize, status: u64, end: u64) -> [u64; HEAD_WIDTH]
     requires { ⌜ (length (now ws) ≡ 2 + cells * 218) × (k < cells) ⌝ }
     ensures { λ r. ⌜ r ≡ renewedHead (joinedNumber (getD (headAt k (part 2 (cells * 10) (now (ws .entry)))) 3 0) status) (getD (headAt k (part 2 (cells * 10) (now (ws .entry)))) 4 0) end (headAt k (part 2 (cells * 10) (now (ws .entry)))) ⌝ }
 {
@@ -121,7 +130,7 @@ pub fn form_head(
     status: u64,
     start: u64,
     end: u64,
-) -> [u64; 10]
+) -> [u64; HEAD_WIDTH]
     requires { ⌜ (length (now ws) ≡ 2 + cells * 218) × (k < cells) ⌝ }
     requires { ⌜ tag ≡ formTag form k (headAt k (part 2 (cells * 10) (now ws))) ⌝ }
     ensures { λ r. ⌜ r ≡ formHead form k group status start end (headAt k (part 2 (cells * 10) (now (ws .entry)))) ⌝ }

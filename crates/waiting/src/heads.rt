@@ -15,6 +15,7 @@ ghost use Rattle.waiting.specs.Batches.{unmarked, countsFor};
 ghost use Rattle.waiting.specs.Parts.{leftHead, Settled, WroteIn, TookPart};
 use crate::HEAD_WIDTH;
 use crate::HEADS_AT;
+use crate::NEWEST_AT;
 use crate::batches::push_batch;
 use crate::items::take_out;
 use stores::Store;
@@ -41,7 +42,7 @@ pub fn settle(ws: &mut [u64], cells: usize, k: usize, head: &[u64], store: Store
 }
 
 // The head of cell `k` without its newest part.
-fn left_head(ws: &[u64], cells: usize, k: usize) -> [u64; 10]
+fn left_head(ws: &[u64], cells: usize, k: usize) -> [u64; HEAD_WIDTH]
     requires { ⌜ (length (now ws) ≡ 2 + cells * 218) × (k < cells) ⌝ }
     requires { ⌜ 0 < getD (now ws) (2 + k * 10) 0 ⌝ }
     ensures { λ r. ⌜ r ≡ leftHead (headAt k (part 2 (cells * 10) (now (ws .entry)))) ⌝ }
@@ -72,7 +73,7 @@ pub fn take_part(ws: &mut [u64], vs: &mut [u8], cells: usize, k: usize)
     ensures { λ _. ⌜ TookPart cells k (now (ws .entry)) (now (vs .entry)) (now (ws .exit)) (now (vs .exit)) ⌝ }
 {
     let store = counts_in(ws);
-    let tag = ws[HEADS_AT + k * HEAD_WIDTH + 2];
+    let tag = ws[HEADS_AT + k * HEAD_WIDTH + NEWEST_AT];
     let head = left_head(ws, cells, k);
     let left = take_out(ws, vs, cells, store, tag);
     settle(ws, cells, k, &head, left);

@@ -24,34 +24,50 @@ pub use limits::MAX_GROUPS;
 pub use limits::MAX_ITEMS;
 pub use limits::count_used;
 use log_batch::item::LogItem;
+use log_batch::mark;
+use log_batch::open::ITEM_WIDTH;
 pub use merge::accept_part;
+use pipe_log::ENTRY_WIDTH;
 pub use rooms::clear;
+use stores::row::ITEM_BYTES;
 
 // How many cells the room of a context has: 01's 8 groups twice, since a merge may have the parts of both contexts on the way.
-pub const CELLS: usize = 16;
+pub const CELLS: usize = 2 * MAX_GROUPS;
 
-// The numbers and the bytes of that room.
-pub const NUMBERS: usize = 3490;
-
-pub const BYTES: usize = 8192;
-
-// The numbers of a cell.
+// The numbers of a cell: how many parts it has, the group, and tag, status, start and end of the newest part and of the one before it.
 pub const HEAD_WIDTH: usize = 10;
+
+// Where a cell has its newest part, and the one before it.
+pub const NEWEST_AT: usize = 2;
+
+pub const OLDER_AT: usize = 6;
 
 // Where the parts of a room of n cells stand: each at a place and so many numbers a cell. The counts stand before the cells.
 pub const HEADS_AT: usize = 2;
 
-pub const TAGS_FROM: usize = 10;
+pub const TAGS_FROM: usize = HEAD_WIDTH;
 
-pub const TAGS: usize = 8;
+pub const TAGS: usize = MAX_ITEMS / MAX_GROUPS;
 
-pub const ITEMS_FROM: usize = 18;
+pub const ITEMS_FROM: usize = TAGS_FROM + TAGS;
 
-pub const ITEMS: usize = 72;
+pub const ITEMS: usize = TAGS * ITEM_WIDTH;
 
-pub const ENTRIES_FROM: usize = 90;
+pub const ENTRIES_FROM: usize = ITEMS_FROM + ITEMS;
 
-pub const ENTRIES: usize = 128;
+pub const ENTRIES: usize = MAX_ENTRIES / MAX_GROUPS * ENTRY_WIDTH;
+
+// The numbers and the bytes of the room of a context.
+pub const NUMBERS: usize = HEADS_AT + CELLS * (ENTRIES_FROM + ENTRIES);
+
+pub const BYTES: usize = CELLS * TAGS * ITEM_BYTES;
+
+// The numbers of the statuses, as a mark's byte has them.
+pub const BEGIN: u64 = mark::BEGIN as u64;
+
+pub const MIDDLE: u64 = mark::MIDDLE as u64;
+
+pub const END: u64 = mark::END as u64;
 
 // Where the parts of a group wait: in a cell, or nowhere with a free cell for them, or nowhere and all are used.
 pub enum Place {

@@ -15,6 +15,7 @@ use crate::HEAD_WIDTH;
 use crate::HEADS_AT;
 use crate::ITEMS;
 use crate::ITEMS_FROM;
+use crate::NEWEST_AT;
 use crate::TAGS;
 use crate::TAGS_FROM;
 use crate::heads::counts_in;
@@ -89,7 +90,7 @@ fn counts_without(ws: &[u64], cells: usize, k: usize, store: Store) -> Store
     requires { ⌜ entriesBefore (store .items) (part (2 + cells * 18) (cells * 72) (now ws)) ≡ store .entries ⌝ }
     ensures { λ r. ⌜ Keeps Form.Replace (newestTag (headAt k (part 2 (cells * 10) (now (ws .entry))))) (part (2 + cells * 18) (cells * 72) (now (ws .entry))) (part (2 + cells * 10) (cells * 8) (now (ws .entry))) store r ⌝ }
 {
-    let tag = ws[HEADS_AT + k * HEAD_WIDTH + 2];
+    let tag = ws[HEADS_AT + k * HEAD_WIDTH + NEWEST_AT];
     let freed = count_in(ws, cells, store, tag);
     Store {
         items: store.items - freed.items,

@@ -14,12 +14,14 @@ ghost use Rattle.worktable.specs.Calls.{Ends};
 use crate::acts::provide;
 use stretch::ENTRY_COUNT;
 use stretch::KEY_COUNT;
+use stretch::MAX_ENTRIES;
+use stretch::MAX_KEYS;
 use stretch::Outcome;
 
-// Document 01's limits of a group.
-const MOST_ENTRIES: u64 = 64;
+// The limits of a group, as the header's numbers are compared with them.
+const MOST_ENTRIES: u64 = MAX_ENTRIES as u64;
 
-const MOST_KEYS: u64 = 16;
+const MOST_KEYS: u64 = MAX_KEYS as u64;
 
 // Sets the span of a finished atomic group, whose table is made if it is absent; files may not go back.
 pub fn set_span(p: &mut [u64], start: u64, end: u64) -> Outcome

@@ -20,13 +20,11 @@ use kvs::rows::ROW_BYTES;
 use kvs::rows::ROW_WIDTH;
 use memtable::AtomicGroup;
 use pipe_log::ENTRY_WIDTH;
+use stretch::COUNTED;
 use stretch::ENTRIES_AT;
 use stretch::ENTRY_COUNT;
 use stretch::KEY_COUNT;
 use stretch::Outcome;
-
-// Where the header tells whether the group is counted.
-const COUNTED: usize = 9;
 
 // The rows of entries in use of a group's stretch.
 fn rows_of(q: &[u64], count: usize) -> &[u64]

@@ -9,16 +9,25 @@ pub use acts::clear;
 pub use ends::fits;
 pub use ends::is_there;
 pub use ends::set_span;
+use kvs::rows::ROW_BYTES;
+use kvs::rows::ROW_WIDTH;
 pub use laying::lay_over;
 pub use moves::load;
 pub use moves::unload;
+use pipe_log::ENTRY_WIDTH;
+use stretch::ENTRIES_AT;
+
+// The rows of entries and of keys that the long stretch has.
+const ENTRY_ROWS: usize = 384;
+
+const KEY_ROWS: usize = 160;
 
 // The layout of the long stretch.
-pub const KEYS_AT: usize = 3082;
+pub const KEYS_AT: usize = ENTRIES_AT + ENTRY_ROWS * ENTRY_WIDTH;
 
-pub const NUMBERS: usize = 3722;
+pub const NUMBERS: usize = KEYS_AT + KEY_ROWS * ROW_WIDTH;
 
-pub const BYTES: usize = 10240;
+pub const BYTES: usize = KEY_ROWS * ROW_BYTES;
 
 // Where it stands in an area.
 pub const WORK_AT: usize = 13509;

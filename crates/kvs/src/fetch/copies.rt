@@ -1,6 +1,7 @@
 // The rows that a query asks for, counted and copied to the list.
 use crate::fetch::Which;
 use crate::files::is_of;
+use crate::rows::LENS_WIDTH;
 use crate::rows::ROW_BYTES;
 use crate::rows::ROW_WIDTH;
 use crate::rows::VALUE_AT;
@@ -77,7 +78,7 @@ fn copy_row(rows: &[u64], bytes: &[u8], i: usize, lens: &mut [u64], out: &mut [u
 {
     let key = key_at(rows, bytes, i);
     let value = value_at(rows, bytes, i);
-    let at = j * 2;
+    let at = j * LENS_WIDTH;
     lens[at] = key.len() as u64;
     lens[at + 1] = value.len() as u64;
     cells::copy_in_u8(out, j * ROW_BYTES, key);
