@@ -3,47 +3,49 @@ use mathlib.Core.Bool.{Bool, true, false, cond, not, _&&_}
 use mathlib.Core.List.{List, [], _∷_}
 use mathlib.Core.Option.{Option, none, some}
 use mathlib.Core.Path.{_≡_, refl, sym, ap, _∙_}
-use Prim.Native.Nat.{ℕ, _+_, _/_, _≤_}
+use Prim.Native.Nat.{ℕ, _+_, _*_, _/_, _≤_, _<_}
 use native.Mathlib.Omega.{arith}
-use lib.Dec.{leb}
+use lib.Dec.{leb, ltb}
 use lib.ListN.{length, getD}
-use borrow.Author.Tests.{eq-eqb, leb-true, le-leb, le-ltb}
+use borrow.Author.Tests.{eq-eqb, leb-true, le-leb, le-ltb, ltb-true}
 use Rattle.cells.specs.Part.{part}
 use Rattle.cells.specs.PartLaws.{length-part}
 use Rattle.maps.specs.BoolLaws.{and-false, both-left, both-right}
 use Rattle.maps.specs.Lists.{orElse}
-use Rattle.maps.specs.Maps.{Map, sameBytes}
+use Rattle.maps.specs.Maps.{Map, lookup, numbers, sameBytes}
 use Rattle.maps.specs.Cells.{mapOf}
 use Rattle.pipe_log.specs.Numbers.{queueNumber}
 use Rattle.rules.specs.Limits.{reservedKey}
 use Rattle.rules.specs.Causes.{ok, andThen, placed, left}
 use Rattle.rules.specs.Items.{LogQueue, Append, Rewrite, sameQueue, LogItem, placedFrom, isReserved, isTombstone, isClean, writes, isLiveRewrite, markByte}
 use Rattle.rules.specs.Checks.{Mark, firstMark, long, longChange, lacksValue, lacksFile, otherFile, isIncomplete, isOutOfRange, isOtherQueue, isNotRewritable, isRewriteReplay, meets7}
-use Rattle.rules.specs.Table.{Table}
+use Rattle.rules.specs.Table.{Table, made}
 use Rattle.rules.specs.Context.{Context, withGroups, keeps, limited, run}
 use Rattle.log_batch.specs.declared.causes.Call as call
 use Rattle.log_batch.specs.declared.item.KeyFile as file
 use Rattle.log_batch.specs.declared.item.LogItem as lent
 use Rattle.log_batch.specs.declared.open.Opened.{the-variants.Item}
-use Rattle.log_batch.specs.Lent.{rowCount, itemIf, valueFits, valueAt, fileAt, openedEntries, openedPut, openedRow, valueOf, keyFileOf, changeOf, keyChange, keyContent, contentOf, itemOf, itemAt, itemsFrom, itemsOf}
+use Rattle.log_batch.specs.Lent.{rowCount, rowsWithin, itemIf, valueFits, valueAt, fileAt, openedEntries, openedPut, openedRow, valueOf, keyFileOf, changeOf, keyChange, keyContent, contentOf, itemOf, itemAt, itemsFrom, itemsOf}
 use Rattle.log_batch.specs.OpenLaws.{item-opened, length-entries}
 use Rattle.log_batch.specs.Judged.{callOf, markFor, leastContent, leastMark, leastOf, lesserOf}
-use Rattle.log_batch.specs.Plain.{plainContent}
+use Rattle.log_batch.specs.Plain.{plainList, plainContent}
 use Rattle.log_batch.proofs.ItemLaws.{key-other}
 use Rattle.log_batch.proofs.PlainLaws.{plain-least}
 use Rattle.log_batch.proofs.LeastLaws.{least-rest}
 use Rattle.log_batch.proofs.CheckLaws.{scan-start, scan-more, passed-at-end}
+use Rattle.stretch.specs.declared.Change as change
 use Rattle.stretch.specs.declared.Change.{Change}
 use Rattle.stretch.specs.declared.Outcome.{Outcome}
 use Rattle.stretch.specs.declared.Outcome.the-variants.{Done, Refused}
-use Rattle.stretch.specs.Changes.{ruleOf}
+use Rattle.stretch.specs.Changes.{ruleOf, Ready}
 use Rattle.groups.specs.declared.Slot.{Slot}
+use Rattle.groups.specs.declared.Slot.the-variants.{At}
 use Rattle.groups.specs.Area.{groupsOf, Found, OnlySlot}
 use Rattle.groups.specs.Area as groups
 use Rattle.groups.specs.Calls.{ChangedGroup, RemovedGroup}
 use Rattle.groups.specs.Laws.{slot-behind}
 use Rattle.deeds.specs.declared.Deed as deed
-use Rattle.deeds.specs.Deeds.{rowsIn, keyIn, valueIn, deedOf}
+use Rattle.deeds.specs.Deeds.{rowsIn, keyIn, valueIn, entriesChange, deedOf}
 use Rattle.deeds.specs.DeedLaws.{DeedSays, deed-says}
 use Rattle.contexts.specs.declared.Answer.the-variants as answer
 use Rattle.contexts.specs.declared.Position.the-variants as position
@@ -51,12 +53,14 @@ use Rattle.contexts.specs.Contexts.{contextOf, Formed, answerAs, positionOf, An
 use Rattle.contexts.specs.AreaLaws.{room-wf, context-fits}
 use Rattle.batches.specs.Steps.{addsTombstone, addsCleaned, oneMoreIf, grown, roomIf, listsHaveRoom}
 use Rattle.batches.specs.Acts.{deedOn, BehindKept}
-use Rattle.batches.specs.ActLaws.{done-not-refused}
+use Rattle.batches.specs.ActLaws.{done-not-refused, change-ready}
 use Rattle.batches.specs.ItemLaws.{step-room}
-use Rattle.batches.specs.Runs.{ItemReady}
+use Rattle.batches.specs.Runs.{ItemReady, Keeping}
 use Rattle.batches.specs.RunLaws.{room-stays, rest-wf, behind-context}
+use Rattle.batches.specs.OwnLaws.{keeping-table}
+use Rattle.batches.specs.CarryLaws.{does-ready}
 use Rattle.batches.specs.BatchLaws.{opened-ready, runFrom, run-start, run-end, run-done, run-refused}
-use Rattle.batches.specs.Singles.{listItem, putItem, AddsNothing, Single, ActedAlone, Alone, answerOf}
+use Rattle.batches.specs.Singles.{listItem, putItem, AddsNothing, Single, SingleList, appendCall, ActedAlone, Alone, answerOf}
 
 -- ---- a deed with nothing to go back to
 
@@ -235,10 +239,66 @@ module _ (c : call.Call) (items es ds : List ℕ) (n : length items ≡ 9) (t : 
   unfolding itemOf contentOf long
   list-short = rw (length-entries (getD items 3 0) _) (le-ltb 32 (getD items 3 0) few)
 
-  pub list-single : Single c (listItem items) items es ds
+  -- there is an entry
+  list-held : 0 < getD items 3 0
+  unfolding plainContent plainList
+  list-held = ltb-true 0 (getD items 3 0) (both-left (ltb 0 (getD items 3 0)) _ plain)
+
+  pub list-single : SingleList c items es ds
   unfolding itemOf contentOf isReserved markByte
   list-single =
-      single-of c (listItem items) items es ds n list-opens refl list-short (plain-least (callOf c) (listItem items .content) es ds plain) refl (list-adds c items es ds)
+      record {
+        held = list-held;
+        single =
+            single-of c (listItem items) items es ds n list-opens refl list-short (plain-least (callOf c) (listItem items .content) es ds plain) refl (list-adds c items es ds);
+      }
+
+-- ---- a list of entries on a group that stands at a stretch
+
+-- what an append does
+pub append-change : (live : Bool) (first : ℕ) → entriesChange (appendCall live) first ≡ change.the-variants.Append first live
+unfolding appendCall
+append-change true first = refl
+append-change false first = refl
+
+-- it writes the Append queue
+pub append-writes : (live : Bool) → writes (callOf (appendCall live)) ≡ Append
+unfolding appendCall callOf writes
+append-writes true = refl
+append-writes false = refl
+
+module _ (c : call.Call) (items es ds : List ℕ) (s : SingleList c items es ds) where
+  abbrev listRows : List ℕ
+  listRows = rowsIn (listItem items .content) es
+
+  list-is : ItemReady (callOf c) (listItem items) es ds
+  list-is = single-ready c (listItem items) items es ds (s .single)
+
+  -- the rows are within the lent ones, and there is a first one
+  pub list-within : rowsWithin (listItem items .content) (length es)
+  list-within = list-is .lent-is .within .rows
+
+  pub list-rows : 0 < length listRows
+  list-rows =
+      let h = list-within in
+      let l : length listRows ≡ getD items 3 0 * 8 = length-part (getD items 2 0 * 8) (getD items 3 0 * 8) es (omega arith) in
+      omega (arith, s .held)
+
+  module _ (ch : Change) (e : entriesChange c (getD listRows 0 0) ≡ ch) (xs bs : List ℕ) (w : Formed xs bs) where
+    list-deed : deedOf c (listItem items .content) es ds ≡ deed.the-variants.Change ch
+    unfolding deedOf
+    list-deed = ap deed.the-variants.Change e
+
+    -- what the change asks of the rows is there
+    pub list-ready : Keeping (callOf c) (contextOf xs bs) → Ready ch listRows [] [] (made (lookup numbers (getD items 0 0) (groupsOf xs bs)))
+    list-ready k =
+        change-ready _ ch listRows [] [] _ list-deed (does-ready c (listItem items) es ds list-is _ (keeping-table (callOf c) xs bs k _))
+
+    pub list-answer : (k : ℕ) (r : Outcome) (ys : List ℕ) → Found (getD items 0 0) xs (At k) → ChangedGroup (ruleOf ch listRows [] []) (getD items 0 0) (At k) xs bs r ys bs → Answered (run limited (callOf c) (placedFrom 0 (itemsOf items es ds))) xs bs (answerOf r) ys bs
+    list-answer k r ys f a =
+        single-answer c (listItem items) items es ds xs bs ys bs (s .single) r
+        (alone c (listItem items) es ds list-is (s .single .adds) xs bs w r ys bs
+        (alone-changed (getD items 0 0) (At k) xs bs (w .groups) f _ listRows [] [] ch list-deed r ys bs a))
 
 -- ---- a Put, told by its row
 

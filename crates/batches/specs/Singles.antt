@@ -1,9 +1,9 @@
 -- A batch of one list of entries or one Put, and what the only item of a batch does to an area.
-use mathlib.Core.Bool.{false}
+use mathlib.Core.Bool.{Bool, true, false}
 use mathlib.Core.List.{List}
 use mathlib.Core.Option.{Option, none}
 use mathlib.Core.Path.{_≡_}
-use Prim.Native.Nat.{ℕ, _/_}
+use Prim.Native.Nat.{ℕ, _/_, _<_}
 use lib.ListN.{getD, length}
 use Rattle.maps.specs.Maps.{Map}
 use Rattle.rules.specs.Causes.{Result}
@@ -65,6 +65,16 @@ pub record Single (c : call.Call) (it : lent.LogItem) (items es bs : List ℕ) :
   pub passes : checks (callOf c) (itemsOf items es bs) ≡ none
   pub unmarked : markFor (callOf c) (itemsOf items es bs) ≡ none
   pub adds : AddsNothing (callOf c) (itemOf it es bs)
+
+-- such a batch that is a list of at least one entry
+pub record SingleList (c : call.Call) (items es bs : List ℕ) : Type 0 where
+  pub held : 0 < getD items 3 0
+  pub single : Single c (listItem items) items es bs
+
+-- the call of an append, live or replayed
+unfoldable pub appendCall : Bool → call.Call
+appendCall true = call.the-variants.LiveAppend
+appendCall false = call.the-variants.ReplayAppend
 
 -- the groups are changed by a rule, with nothing to go back to. Refused, they are as they were.
 pub record ActedAlone (to : Map ℕ Table → Result (Map ℕ Table)) (xs bs : List ℕ) (r : Outcome) (xs′ bs′ : List ℕ) : Type 0 where

@@ -7,7 +7,7 @@ ghost use Prim.Native.Nat.{ℕ, _+_};
 ghost use lib.Dec.{leb};
 ghost use lib.ListN.{length, getD};
 ghost use Rattle.maps.specs.Maps.{lookup, numbers};
-ghost use Rattle.rules.specs.Items.{placedFrom};
+ghost use Rattle.rules.specs.Items.{placedFrom, writes};
 ghost use Rattle.rules.specs.Table.{made};
 ghost use Rattle.rules.specs.Context.{limited, run};
 ghost use Rattle.log_batch.specs.Lent.{itemsOf};
@@ -18,7 +18,7 @@ ghost use Rattle.deeds.specs.Deeds.{DeedReady};
 ghost use Rattle.contexts.specs.Contexts.{contextOf, Formed, Answered};
 ghost use Rattle.batches.specs.Acts.{deedOn};
 ghost use Rattle.batches.specs.Runs.{Keeping};
-ghost use Rattle.batches.specs.Singles.{listItem, putItem, Single, ActedAlone, answerOf};
+ghost use Rattle.batches.specs.Singles.{listItem, putItem, Single, SingleList, appendCall, ActedAlone, answerOf};
 use crate::acts::change_found;
 use contexts::Answer;
 use contexts::Position;
@@ -27,6 +27,7 @@ use deeds::deed_of;
 use deeds::key_in;
 use deeds::rows_in;
 use deeds::value_in;
+use groups::Slot;
 use log_batch::Call;
 use log_batch::causes::MAX_BYTES;
 use log_batch::causes::MAX_LIST_ENTRIES;
@@ -41,14 +42,16 @@ use log_batch::open::HAS_VALUE;
 use log_batch::open::ITEM_WIDTH;
 use log_batch::open::LIST;
 use log_batch::open::PUT;
-use log_batch::plain::is_plain_content;
+use log_batch::plain::is_plain_of;
 use pipe_log::ENTRY_WIDTH;
 use pipe_log::FileId;
+use pipe_log::Gate;
+use pipe_log::LogQueue;
 use stretch::Outcome;
 
-// Whether a batch is one list of entries that meets none of the checks.
-pub fn is_single_list(call: Call, items: &[u64], entries: &[u64]) -> bool
-    ensures { λ r. ⌜ ((bytes : List ℕ) → r ≡ true → Single call (listItem (now (items .entry))) (now (items .entry)) (now (entries .entry)) bytes) ⌝ }
+// Whether a batch is one list of entries of a queue that meets none of the checks.
+pub fn is_single_list(items: &[u64], entries: &[u64], queue: LogQueue) -> bool
+    ensures { λ r. ⌜ ((call : _) (bytes : List ℕ) → writes (callOf call) ≡ queue → r ≡ true → SingleList call (now (items .entry)) (now (entries .entry)) bytes) ⌝ }
 {
     if items.len() != ITEM_WIDTH {
         return false;
@@ -69,7 +72,7 @@ pub fn is_single_list(call: Call, items: &[u64], entries: &[u64]) -> bool
         return false;
     }
     let content = LogItemContent::EntryIndexes(EntryIndexes { at, count });
-    is_plain_content(call, content, entries)
+    is_plain_of(queue, content, entries)
 }
 
 // Whether so many bytes from a place on are within the lent ones, and no more than a key or a value may have.
@@ -214,6 +217,70 @@ pub fn run_list(
     let value = value_in(content, bytes);
     let answer = act_alone(xs, bs, group, deed, rows, key, value);
     told(answer)
+}
+
+// The call of an append, live or replayed.
+pub fn append_call(live: bool) -> Call
+    ensures { λ r. ⌜ r ≡ appendCall live ⌝ }
+{
+    if live {
+        return Call::LiveAppend;
+    }
+    Call::ReplayAppend
+}
+
+// Appends a batch of one such list. A group that stands at a stretch is changed there, with no deed told.
+pub fn append_list(
+    xs: &mut [u64],
+    bs: &mut [u8],
+    live: bool,
+    items: &[u64],
+    entries: &[u64],
+    bytes: &[u8],
+) -> Answer
+    requires { ⌜ Formed (now xs) (now bs) ⌝ }
+    requires { ⌜ SingleList (appendCall live) (now items) (now entries) (now bytes) ⌝ }
+    requires { ⌜ Keeping (callOf (appendCall live)) (contextOf (now xs) (now bs)) ⌝ }
+    ensures { λ r. ⌜ Answered (run limited (callOf (appendCall live)) (placedFrom 0 (itemsOf (now (items .entry)) (now (entries .entry)) (now (bytes .entry))))) (now (xs .entry)) (now (bs .entry)) r (now (xs .exit)) (now (bs .exit)) ⌝ }
+{
+    let group = items[0];
+    let slot = groups::find(xs, group);
+    let Slot::At(k) = slot else {
+        return run_list(xs, bs, append_call(live), items, entries, bytes);
+    };
+    let rows = rows_in(list_content(items), entries);
+    told(groups::append_at(xs, bs, k, group, rows[0], rows, live))
+}
+
+// Rewrites a batch of one such list in the same way.
+pub fn rewrite_list(
+    xs: &mut [u64],
+    bs: &mut [u8],
+    gate: Gate,
+    seq: u64,
+    items: &[u64],
+    entries: &[u64],
+    bytes: &[u8],
+) -> Answer
+    requires { ⌜ Formed (now xs) (now bs) ⌝ }
+    requires { ⌜ SingleList (Call.LiveRewrite gate seq) (now items) (now entries) (now bytes) ⌝ }
+    requires { ⌜ Keeping (callOf (Call.LiveRewrite gate seq)) (contextOf (now xs) (now bs)) ⌝ }
+    ensures { λ r. ⌜ Answered (run limited (callOf (Call.LiveRewrite gate seq)) (placedFrom 0 (itemsOf (now (items .entry)) (now (entries .entry)) (now (bytes .entry))))) (now (xs .entry)) (now (bs .entry)) r (now (xs .exit)) (now (bs .exit)) ⌝ }
+{
+    let group = items[0];
+    let slot = groups::find(xs, group);
+    let Slot::At(k) = slot else {
+        return run_list(
+            xs,
+            bs,
+            Call::LiveRewrite { gate, seq },
+            items,
+            entries,
+            bytes,
+        );
+    };
+    let rows = rows_in(list_content(items), entries);
+    told(groups::rewrite_at(xs, bs, k, group, rows[0], rows, gate))
 }
 
 // Carries out a batch of one such Put.

@@ -13,7 +13,7 @@ use lib.Seq.{set-set, set-getD}
 use borrow.Author.Tests.{le-leb, lt-leb}
 use borrow.Rule.Slice.PartMut.{putMid}
 use Rattle.cells.specs.Part.{part, put}
-use Rattle.cells.specs.PartLaws.{length-part, part-set-in, part-set-before, part-put-same, part-put-after, part-put-around, loan-put, loan-put-in}
+use Rattle.cells.specs.PartLaws.{length-part, part-set-in, part-set-before, part-put-same, part-put-after, part-put-around, put-part, loan-put, loan-put-in}
 use Rattle.maps.specs.Lists.{orElse}
 use Rattle.maps.specs.Maps.{Map, lookup, insert, numbers}
 use Rattle.maps.specs.MapLaws.{pair, remove-absent, length-insert-none, length-insert-some}
@@ -34,7 +34,7 @@ use Rattle.stretch.specs.Changes as any
 use Rattle.stretch.specs.declared.Change.{Change}
 use Rattle.stretch.specs.Reach.{entryMost, rowFrom, writesKeys, LeavesAt, Leaves}
 use Rattle.stretch.specs.ReachLaws.{leaves-short}
-use Rattle.stretch.specs.Laws.{changed-short, changed-cell, make-cell}
+use Rattle.stretch.specs.Laws.{wf-any, changed-short, changed-cell, make-cell}
 use Rattle.groups.specs.declared.Slot.the-variants.{At, Free, Full}
 use Rattle.groups.specs.Area.{slots, numbersInUse, bytesInUse, stretchAt, bytesAt, cellAt, cells, groupsOf, Wf, Only, AtSlot, FreeSlot, NoSlot, OnlySlot}
 use Rattle.groups.specs.AreaLaws.{length-cells, getD-cells, only-none, only-put, only-again, only-cells, only-wf}
@@ -240,6 +240,30 @@ at-leaves c by k xs bs r xs′ bs′ a v =
       done = v;
       refused = λ n e. let d = a .changed .left n e in rw (d .0, d .1) (header-leaves (stretchAt k xs) (stretchAt k xs) (bytesAt k bs) refl refl);
     }
+
+-- ---- a list of entries on a group that stands at stretch k
+
+module _ (g k : ℕ) (xs bs : List ℕ) (w : Wf xs bs) (a : AtSlot g xs k) where
+  -- the stretch that is lent is as it must be
+  pub lent-wf : stretch.WfAt keysAt (take (k * stretchWidth + stretchWidth - k * stretchWidth) (drop (k * stretchWidth) xs)) (take (k * bytesWidth + bytesWidth - k * bytesWidth) (drop (k * bytesWidth) bs))
+  lent-wf = rw (lent-numbers k xs, lent-bytes k bs) (wf-any _ _ (w .used k (a .inside) (a .used)))
+
+  -- the bytes, of which none is changed, laid back
+  bytes-back : putMid (k * bytesWidth) (k * bytesWidth + bytesWidth - k * bytesWidth) bs (take (k * bytesWidth + bytesWidth - k * bytesWidth) (drop (k * bytesWidth) bs)) ≡ bs
+  unfolding bytesAt
+  bytes-back =
+      let l = a .inside in
+      let y = w .bytes-fit in
+      rw (lent-bytes k bs)
+      (loan-put (k * bytesWidth) _ bs (bytesAt k bs) (length-part (k * bytesWidth) bytesWidth bs (omega arith) ∙ sym (width (k * bytesWidth) bytesWidth))
+      ∙ put-part (k * bytesWidth) bytesWidth bs (omega arith))
+
+  -- a change of the numbers alone, whatever the bytes are
+  pub entries-changed : (by : Table → Result Table) (r : Outcome) (p : List ℕ) → length p ≡ length (take (k * stretchWidth + stretchWidth - k * stretchWidth) (drop (k * stretchWidth) xs)) → ((b : List ℕ) → stretch.WfAt keysAt (take (k * stretchWidth + stretchWidth - k * stretchWidth) (drop (k * stretchWidth) xs)) b → any.ChangedAt keysAt by (take (k * stretchWidth + stretchWidth - k * stretchWidth) (drop (k * stretchWidth) xs)) b r p b) → ChangedGroup by g (At k) xs bs r (putMid (k * stretchWidth) (k * stretchWidth + stretchWidth - k * stretchWidth) xs p) bs
+  entries-changed by r p kept c =
+      let b = take (k * bytesWidth + bytesWidth - k * bytesWidth) (drop (k * bytesWidth) bs) in
+      at-changed by g k xs bs r _ bs w a
+      (rw bytes-back at (changed-back by k xs bs r p b (a .inside) (w .numbers-fit) (w .bytes-fit) kept refl (c b lent-wf)))
 
 -- ---- a group that is made at the free stretch k
 

@@ -1,5 +1,5 @@
 -- The search for a group through the eight stretches, from any of them on. Assumes nothing.
-use mathlib.Core.Bool.{true, false}
+use mathlib.Core.Bool.{true, false, cond}
 use mathlib.Core.List.{List}
 use mathlib.Core.Path.{_≡_, sym, _∙_}
 use Prim.Native.Nat.{ℕ, _+_, _-_, _*_, _%_, _≤_, _<_}
@@ -48,7 +48,7 @@ found-here g k xs l u e = record { inside = l; used = used-if k xs u; number = g
 
 -- ---- the stretches that were passed
 
--- the i stretches from s on are not of group g, and the last free one of them is `free`, or there is none and it is 8
+-- the i stretches from s on are not of group g, and `free` is a free one of them, or there is none and it is 8
 pub record Passed (g : ℕ) (xs : List ℕ) (s free i : ℕ) : Type 0 where
   pub start : s < slots
   pub turns : i ≤ slots
@@ -92,20 +92,34 @@ module _ (g : ℕ) (xs : List ℕ) (s free i : ℕ) (b : i < slots) (p : Passed 
             (rw (used-if k xs u) (ne-eqb _ g (λ e. n (sym (group-is k xs) ∙ e))));
       }
 
-  -- a free one
-  pub passed-free : (getD xs ((s + i) % slots * stretchWidth) 0 ≡ 1 → ⊥) → Passed g xs s ((s + i) % slots) (i + 1)
+  -- a free one, which counts if it is the first
+  pub passed-free : (getD xs ((s + i) % slots * stretchWidth) 0 ≡ 1 → ⊥) → Passed g xs s (cond (eqb free slots) ((s + i) % slots) free) (i + 1)
   unfolding isOf
   passed-free n =
       let k = (s + i) % slots in
       let l : k < slots = mod-lt (s + i) (omega arith) in
-      record {
+      let absent-still = more (λ j. isOf g (stretchAt ((s + j) % slots) xs) ≡ false) (p .absent) (rw (free-if k xs n)) in
+      split (eqb free slots)
+      (λ e.
+      rw e
+      (record {
         start = p .start;
         turns = omega arith;
         inside = omega arith;
-        none = λ e. absurd (omega arith);
+        none = λ f. absurd (omega arith);
         some = λ h. free-if k xs n;
-        absent = more (λ j. isOf g (stretchAt ((s + j) % slots) xs) ≡ false) (p .absent) (rw (free-if k xs n));
-      }
+        absent = absent-still;
+      }))
+      (λ e.
+      rw e
+      (record {
+        start = p .start;
+        turns = omega arith;
+        inside = p .inside;
+        none = λ f. absurd (eqb-false free slots e f);
+        some = p .some;
+        absent = absent-still;
+      }))
 
 -- all were passed
 module _ (g : ℕ) (xs : List ℕ) (s free : ℕ) (p : Passed g xs s free slots) where

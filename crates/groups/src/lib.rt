@@ -1,11 +1,14 @@
 // Eight stretches of an area as the groups of a context: where a group stands, changes of it, and what a refused batch goes
 // back to. The stretches are the front of the area's numbers and bytes; behind them stand eight spare stretches.
 mod calls;
+mod entries;
 mod search;
 mod undoing;
 
 pub use calls::apply;
 pub use calls::remove;
+pub use entries::append_at;
+pub use entries::rewrite_at;
 pub use search::find;
 pub use undoing::begin;
 pub use undoing::secure;

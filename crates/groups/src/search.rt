@@ -1,12 +1,26 @@
 // Where a group stands.
+ghost use mathlib.Core.Bool.{cond};
+ghost use mathlib.Core.Path.{_≡_};
 ghost use Prim.Native.Nat.{_≤_};
+ghost use lib.Dec.{eqb};
 ghost use lib.ListN.{length};
 ghost use Rattle.groups.specs.Area.{Found};
 use crate::SLOTS;
 use crate::Slot;
 use stretch::STRETCH;
 
-// Looks for a group from the slot that its mixed number points to, through all eight in turn.
+// The free stretch that was met first: `free`, or k where none was met before it.
+fn earlier(free: usize, k: usize) -> usize
+    ensures { λ r. ⌜ r ≡ cond (eqb free 8) k free ⌝ }
+{
+    if free == SLOTS {
+        return k;
+    }
+    free
+}
+
+// Looks for a group from the slot that its mixed number points to, through all eight in turn. A free stretch is the first one on the
+// way, so that a group that is made there is soon found again.
 pub fn find(xs: &[u64], group: u64) -> Slot
     requires { ⌜ 9376 ≤ length (now xs) ⌝ }
     ensures { λ r. ⌜ Found group (now (xs .entry)) r ⌝ }
@@ -22,7 +36,7 @@ pub fn find(xs: &[u64], group: u64) -> Slot
                 return Slot::At(k);
             }
         } else {
-            free = k;
+            free = earlier(free, k);
         }
         i += 1;
     }

@@ -14,6 +14,7 @@ use crate::entries::MAX_INDEX;
 use crate::item::LogItemContent;
 use crate::item::entries_of;
 use pipe_log::ENTRY_WIDTH;
+use pipe_log::LogQueue;
 
 // Whether the first row is a record at an index, of the queue with a number, whose entry length is in range.
 fn is_plain(row: &[u64], index: u64, queue: u64) -> bool
@@ -69,19 +70,27 @@ fn is_plain_list(rows: &[u64], count: usize, queue: u64) -> bool
     are_plain(rows, count, first, queue)
 }
 
-// Whether an item is such a list, of the queue that the call writes.
-pub fn is_plain_content(call: Call, content: LogItemContent, entries: &[u64]) -> bool
+// Whether an item is such a list, of a queue.
+pub fn is_plain_of(queue: LogQueue, content: LogItemContent, entries: &[u64]) -> bool
     requires { ⌜ rowsWithin content (length (now entries)) ⌝ }
-    ensures { λ r. ⌜ r ≡ plainContent (writes (callOf call)) content (now (entries .entry)) ⌝ }
+    ensures { λ r. ⌜ r ≡ plainContent queue content (now (entries .entry)) ⌝ }
 {
     match content {
         LogItemContent::EntryIndexes(e) => {
             let at = e.at;
             let count = e.count;
-            let queue = call.writes().to_u64();
-            is_plain_list(entries_of(entries, at, count), count, queue)
+            let number = queue.to_u64();
+            is_plain_list(entries_of(entries, at, count), count, number)
         }
         LogItemContent::Command(_) => false,
         LogItemContent::Kv(_) => false,
     }
+}
+
+// The same of the queue that the call writes.
+pub fn is_plain_content(call: Call, content: LogItemContent, entries: &[u64]) -> bool
+    requires { ⌜ rowsWithin content (length (now entries)) ⌝ }
+    ensures { λ r. ⌜ r ≡ plainContent (writes (callOf call)) content (now (entries .entry)) ⌝ }
+{
+    is_plain_of(call.writes(), content, entries)
 }

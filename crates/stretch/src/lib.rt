@@ -12,6 +12,7 @@ pub use changes::apply;
 pub use entries::append;
 pub use entries::join;
 pub use entries::replay_rewrite;
+pub use entries::rewrite;
 pub use header::head_in;
 pub use header::make;
 pub use header::write_head;

@@ -47,6 +47,9 @@ returns c =
     let if2 = c .if2 in
     found-here _ _ _ (mod-lt _ (omega arith)) (if1 .taken) (if2 .taken)
 
+earlier-requires : tie.Need-earlier-requires Inv-loop μ-loop
+earlier-requires c κs = search needs
+
 add-i : tie.Need-add-i Inv-loop μ-loop
 add-i c = search needs
 
@@ -59,7 +62,7 @@ loop-again c =
     let loop-test = c .before .before .loop-test in
     ⊎-elim
     (λ w. rw (w .3) (passed-other _ _ _ _ _ (omega (arith, loop-test .taken)) (loop .inv) (w .0 .taken) (w .2 .left)))
-    (λ w. rw (w .1) (passed-free _ _ _ _ _ (omega (arith, loop-test .taken)) (loop .inv) (w .0 .left)))
+    (λ w. rw (w .2, w .1 .ensures) (passed-free _ _ _ _ _ (omega (arith, loop-test .taken)) (loop .inv) (w .0 .left)))
     (c .if1 .came)
 
 returns-2 : tie.Need-returns-2 Inv-loop μ-loop
@@ -92,6 +95,7 @@ find-spec =
     mul-if2
     shared-slice-read-if2
     returns
+    earlier-requires
     add-i
     loop-less
     loop-again
