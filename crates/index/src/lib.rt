@@ -1,14 +1,5 @@
-// The accessor of groups, recovery and live writes (src/memtable.rs): contexts and the index over lent areas.
-mod calls;
-mod finish;
-mod marked;
-mod replays;
-mod spans;
-mod stored;
-mod writes;
-
-pub use calls::append;
-pub use calls::rewrite;
+// The calls that users make, on contexts and the index over lent areas (src/memtable.rs: the accessor of groups, recovery and live
+// writes). Each call and its contract stand in the crate that it is taken from.
 pub use contexts::Answer;
 pub use contexts::BYTES;
 pub use contexts::NUMBERS;
@@ -48,4 +39,6 @@ pub use records::fetch_records;
 pub use records::fetch_rewritten_rows;
 pub use records::fetch_rows_before;
 pub use records::fetch_rows_to;
-pub use replays::replay;
+pub use writes::append;
+pub use writes::replay;
+pub use writes::rewrite;
