@@ -8,7 +8,7 @@ ghost use Rattle.pipe_log.specs.Numbers.{gateOf};
 ghost use Rattle.log_batch.specs.Lent.{batchOf};
 ghost use Rattle.lists.specs.Calls.{kindAs};
 ghost use Rattle.contexts.specs.Contexts.{Wf, Called};
-use crate::writes::write_append;
+use crate::writes::write_live_append;
 use crate::writes::write_rewrite;
 use contexts::Answer;
 use contexts::Position;
@@ -68,7 +68,7 @@ pub fn append(
     if !takes(kind, queue, LogQueue::Append) {
         return wrong_kind();
     }
-    write_append(xs, bs, true, seq, items, entries, bytes)
+    write_live_append(xs, bs, seq, items, entries, bytes)
 }
 
 // Rewrites a batch in the index, gated or not; a key's new number is the batch's.

@@ -6,7 +6,7 @@ ghost use Rattle.log_batch.specs.Lent.{batchOf};
 ghost use Rattle.lists.specs.Calls.{kindAs};
 ghost use Rattle.contexts.specs.Contexts.{Wf, Called};
 use crate::calls::wrong_kind;
-use crate::writes::write_append;
+use crate::writes::write_replay_append;
 use crate::writes::write_rewrite_replay;
 use contexts::Answer;
 use lists::Kind;
@@ -44,7 +44,7 @@ pub fn replay(
         return wrong_kind();
     }
     match queue {
-        LogQueue::Append => write_append(xs, bs, false, seq, items, entries, bytes),
+        LogQueue::Append => write_replay_append(xs, bs, seq, items, entries, bytes),
         LogQueue::Rewrite => write_rewrite_replay(xs, bs, seq, items, entries, bytes),
     }
 }

@@ -1,4 +1,5 @@
 // A batch on an area: checked, and then carried out, as a marked batch if a Rewrite replay has a mark.
+ghost use mathlib.Core.Bool.{true, false};
 ghost use mathlib.Core.Option.{none};
 ghost use mathlib.Core.Path.{_≡_};
 ghost use Rattle.rules.specs.Checks.{checks};
@@ -76,24 +77,43 @@ fn write(
     }
 }
 
-// Writes a batch of an append, live or replayed. One list of entries goes to its group at once, by plain numbers.
-pub fn write_append(
+// Writes a batch of a live append. One list of entries goes to its group at once, by plain numbers. Each call has a function of its own
+// for this, which LLVM takes into it: a function of two calls would be handed the slices by copies.
+pub fn write_live_append(
     xs: &mut [u64],
     bs: &mut [u8],
-    live: bool,
     seq: u64,
     items: &[u64],
     entries: &[u64],
     bytes: &[u8],
 ) -> Answer
     requires { ⌜ Formed (now xs) (now bs) ⌝ }
-    requires { ⌜ Keeping (callOf (appendCall live)) (contextOf (now xs) (now bs)) ⌝ }
-    ensures { λ r. ⌜ Answered (written (callOf (appendCall live)) seq (itemsOf (now (items .entry)) (now (entries .entry)) (now (bytes .entry)))) (now (xs .entry)) (now (bs .entry)) r (now (xs .exit)) (now (bs .exit)) ⌝ }
+    requires { ⌜ Keeping (callOf (appendCall true)) (contextOf (now xs) (now bs)) ⌝ }
+    ensures { λ r. ⌜ Answered (written (callOf (appendCall true)) seq (itemsOf (now (items .entry)) (now (entries .entry)) (now (bytes .entry)))) (now (xs .entry)) (now (bs .entry)) r (now (xs .exit)) (now (bs .exit)) ⌝ }
 {
     if is_single_list(items, entries, LogQueue::Append) {
-        return append_list(xs, bs, live, items, entries, bytes);
+        return append_list(xs, bs, true, items, entries, bytes);
     }
-    write(xs, bs, append_call(live), seq, items, entries, bytes)
+    write(xs, bs, append_call(true), seq, items, entries, bytes)
+}
+
+// The same of an Append replay.
+pub fn write_replay_append(
+    xs: &mut [u64],
+    bs: &mut [u8],
+    seq: u64,
+    items: &[u64],
+    entries: &[u64],
+    bytes: &[u8],
+) -> Answer
+    requires { ⌜ Formed (now xs) (now bs) ⌝ }
+    requires { ⌜ Keeping (callOf (appendCall false)) (contextOf (now xs) (now bs)) ⌝ }
+    ensures { λ r. ⌜ Answered (written (callOf (appendCall false)) seq (itemsOf (now (items .entry)) (now (entries .entry)) (now (bytes .entry)))) (now (xs .entry)) (now (bs .entry)) r (now (xs .exit)) (now (bs .exit)) ⌝ }
+{
+    if is_single_list(items, entries, LogQueue::Append) {
+        return append_list(xs, bs, false, items, entries, bytes);
+    }
+    write(xs, bs, append_call(false), seq, items, entries, bytes)
 }
 
 // The same of a live rewrite.

@@ -49,9 +49,9 @@ returns c =
     let wrong-kind = c .wrong-kind in
     rw (wrong-kind .ensures) (append-wrong (start .args .xs .now) (start .args .bs .now) _ (kind-in .ensures) (start .args .file) _ _ _ (start .pre) (sym (takes .ensures) ∙ not-true (takes .result) (if1 .taken)))
 
-write-append-requires : tie.Need-write-append-requires
+write-live-append-requires : tie.Need-write-live-append-requires
 unfolding isRewriteReplay callOf appendCall
-write-append-requires c κs =
+write-live-append-requires c κs =
     let start = c .before .before .before .before .before .before .before .before .before .before .before .before in
     (formed-of _ _ (start .pre), keeping-other _ _ refl)
 
@@ -68,8 +68,8 @@ returns-2 c =
     let kind-in = c .before .before .before .before .before .before .before .before .before .kind-in in
     let takes = c .before .before .before .before .before .before .before .before .takes in
     let if1 = c .before .before .before .before .before .before .before .if1 in
-    let write-append = c .before .before .before .before .write-append in
-    append-right (start .args .xs .now) (start .args .bs .now) _ (kind-in .ensures) (start .args .file) _ _ _ _ _ _ (start .pre) (sym (takes .ensures) ∙ not-false (takes .result) (if1 .left)) (plain-written (start .args .file) _ _ _ _ _ _ _ _ _ (start .args .file .seq) refl (write-append .ensures))
+    let write-live-append = c .before .before .before .before .write-live-append in
+    append-right (start .args .xs .now) (start .args .bs .now) _ (kind-in .ensures) (start .args .file) _ _ _ _ _ _ (start .pre) (sym (takes .ensures) ∙ not-false (takes .result) (if1 .left)) (plain-written (start .args .file) _ _ _ _ _ _ _ _ _ (start .args .file .seq) refl (write-live-append .ensures))
 
 pub append-spec : {M : Type 1} → statement M
 append-spec =
@@ -84,7 +84,7 @@ append-spec =
     wrong-kind-requires
     same-length
     returns
-    write-append-requires
+    write-live-append-requires
     same-length-2
     same-length-3
     returns-2)

@@ -53,9 +53,9 @@ returns c =
 enum-told : tie.Need-enum-told
 enum-told c = search needs
 
-write-append-requires : tie.Need-write-append-requires
+write-replay-append-requires : tie.Need-write-replay-append-requires
 unfolding isRewriteReplay callOf appendCall
-write-append-requires c κs =
+write-replay-append-requires c κs =
     let start = c .before .before .before .before .before .before .before .before .before .before .before .before .before .before in
     (formed-of _ _ (start .pre), keeping-other _ _ refl)
 
@@ -85,8 +85,8 @@ returns-2 c =
     let is-context = c .before .before .before .before .before .before .before .before .before .before .is-context in
     let if1 = c .before .before .before .before .before .before .before .before .before .if1 in
     let enum-told = c .before .before .before .before .before .before .before .enum-told in
-    let write-append = c .before .before .before .before .write-append in
-    replay-append-queue (start .args .xs .now) (start .args .bs .now) _ (kind-in .ensures) (start .args .file) _ _ _ (start .pre) (sym (is-context .ensures) ∙ not-false (is-context .result) (if1 .left)) (enum-told .given .1) _ _ _ (plain-written (start .args .file) _ _ _ _ _ _ _ _ _ (start .args .file .seq) refl (write-append .ensures))
+    let write-replay-append = c .before .before .before .before .write-replay-append in
+    replay-append-queue (start .args .xs .now) (start .args .bs .now) _ (kind-in .ensures) (start .args .file) _ _ _ (start .pre) (sym (is-context .ensures) ∙ not-false (is-context .result) (if1 .left)) (enum-told .given .1) _ _ _ (plain-written (start .args .file) _ _ _ _ _ _ _ _ _ (start .args .file .seq) refl (write-replay-append .ensures))
 
 same-length-4 : tie.Need-same-length-4
 same-length-4 c =
@@ -125,7 +125,7 @@ replay-spec =
     same-length
     returns
     enum-told
-    write-append-requires
+    write-replay-append-requires
     enum-told-2
     write-rewrite-replay-requires
     same-length-2

@@ -1,11 +1,12 @@
--- `writes::writes::write_append` meets its contract. Assumes nothing.
+-- `writes::writes::write_replay_append` meets its contract. Assumes nothing.
+use mathlib.Core.Bool.{false}
 use Rattle.batches.specs.Singles.{appendCall}
 use Rattle.batches.specs.SingleLaws.{append-writes}
 use Rattle.contexts.specs.AreaLaws.{area-length, area-bytes, same-lengths}
 use Rattle.writes.proofs.WriteWays.{list-written}
 use borrow.Author.Needs.{needs}
-use Rattle.writes.proofs.writes.write_append.Statement.{statement}
-use Rattle.writes.proofs.writes.write_append.Tie as tie
+use Rattle.writes.proofs.writes.write_replay_append.Statement.{statement}
+use Rattle.writes.proofs.writes.write_replay_append.Tie as tie
 
 is-single-list-requires : tie.Need-is-single-list-requires
 is-single-list-requires c κs = search needs
@@ -15,7 +16,7 @@ append-list-requires c κs =
     let start = c .before .before .before .before .before .before .before .before .before in
     let is-single-list = c .before .before .before .is-single-list in
     let if1 = c .before .before .if1 in
-    (start .pre .0, (is-single-list .ensures (appendCall (start .args .live)) (start .args .bytes .now) (append-writes (start .args .live)) (if1 .taken), start .pre .1))
+    (start .pre .0, (is-single-list .ensures (appendCall false) (start .args .bytes .now) (append-writes false) (if1 .taken), start .pre .1))
 
 same-length : tie.Need-same-length
 same-length c =
@@ -35,7 +36,7 @@ returns c =
     let is-single-list = c .before .before .before .before .before .before .before .before .is-single-list in
     let if1 = c .before .before .before .before .before .before .before .if1 in
     let append-list = c .before .before .before .before .append-list in
-    list-written (appendCall (start .args .live)) (start .args .seq) (start .args .items .now) (start .args .entries .now) (start .args .bytes .now) (start .args .xs .now) (start .args .bs .now) _ _ _ (is-single-list .ensures (appendCall (start .args .live)) (start .args .bytes .now) (append-writes (start .args .live)) (if1 .taken)) (append-list .ensures)
+    list-written (appendCall false) (start .args .seq) (start .args .items .now) (start .args .entries .now) (start .args .bytes .now) (start .args .xs .now) (start .args .bs .now) _ _ _ (is-single-list .ensures (appendCall false) (start .args .bytes .now) (append-writes false) (if1 .taken)) (append-list .ensures)
 
 append-call-requires : tie.Need-append-call-requires
 append-call-requires c κs = search needs
@@ -64,8 +65,8 @@ returns-2 c =
     let write = c .before .before .before .before .write in
     rw (append-call .ensures) at (write .ensures)
 
-pub write-append-spec : {M : Type 1} → statement M
-write-append-spec =
+pub write-replay-append-spec : {M : Type 1} → statement M
+write-replay-append-spec =
     tie.close
     (tie.spec
     is-single-list-requires
