@@ -3,8 +3,10 @@ ghost use Prim.Native.Nat.{_≤_};
 ghost use lib.ListN.{length};
 ghost use Rattle.contexts.specs.Contexts.{Wf};
 use crate::asks;
+use crate::compare::LISTED;
 use crate::compare::ROWS;
 use crate::compare::bytes_are;
+use crate::compare::is_listed;
 use crate::compare::is_told;
 use crate::compare::numbers_are;
 use crate::compare::record_is;
@@ -20,50 +22,32 @@ use crate::told::told_fetched;
 use crate::told::told_flag;
 use crate::told::told_number;
 use crate::told::told_taken;
-use crate::writes::recover;
 use crate::writes::write;
 use groups::SLOTS;
 use index::Counted;
-use index::Fetched;
 use index::FoundEntry;
-use index::Taken;
 use queries::Place;
 use stretch::STRETCH;
-
-// Whether an answer is told as stored, and with it as many numbers of a list as it tells.
-fn is_listed(told: [u64; 3], list: &[u64], want: &[u64]) -> bool {
-    if !is_told(told, want) {
-        return false;
-    }
-    numbers_are(list, told[1] as usize, want, ROWS)
-}
-
-// The cleaned numbers into the first `room` places of a list.
-fn cleaned_to(xs: &mut [u64], bs: &[u8], room: usize, list: &mut [u64]) -> Taken
-    requires { ⌜ Wf (now xs) (now bs) ⌝ }
-    ensures { λ _. ⌜ Wf (now (xs .exit)) (now (bs .entry)) ⌝ }
-{
-    if list.len() < room {
-        return Taken::ListTooShort;
-    }
-    index::take_cleaned_region_logs(xs, bs, &mut list[..room])
-}
 
 // `take_cleaned_region_logs`, with room for so many numbers.
 fn cleaned(row: Row, xs: &mut [u64], bs: &[u8], want: &[u64]) -> bool
     requires { ⌜ Wf (now xs) (now bs) ⌝ }
     ensures { λ _. ⌜ Wf (now (xs .exit)) (now (bs .entry)) ⌝ }
 {
-    let mut list = [0u64; 64];
-    let answer = cleaned_to(xs, bs, row.room as usize, &mut list);
-    is_listed(told_taken(answer), &list, want)
+    let room = row.room as usize;
+    if LISTED < room {
+        return false;
+    }
+    let mut list = [0u64; LISTED];
+    let answer = index::take_cleaned_region_logs(xs, bs, &mut list[..room]);
+    is_listed(told_taken(answer), list, want)
 }
 
 fn entry(row: Row, xs: &[u64], bs: &[u8], want: &[u64]) -> bool
     requires { ⌜ Wf (now xs) (now bs) ⌝ }
 {
     let found = index::get_entry(xs, bs, row.group, row.a);
-    if !is_told(told_entry(found), want) {
+    if !is_told(told_entry(found), want, 0) {
         return false;
     }
     let FoundEntry::At(e) = found else {
@@ -79,7 +63,7 @@ fn value(row: Row, xs: &[u64], bs: &[u8], key: &[u8], want: &[u64]) -> bool
     let mut told = 0;
     let got = index::get(xs, bs, row.group, key, &mut told);
     let n = got.len();
-    if !is_told([told, n as u64, 0], want) {
+    if !is_told([told, n as u64, 0], want, 0) {
         return false;
     }
     bytes_are(got, n, want, ROWS)
@@ -100,19 +84,22 @@ fn one(row: Row, xs: &[u64], bs: &[u8], bytes: &[u8], want: &[u64]) -> bool
             row.a,
             row.b as usize,
         );
-        return is_told(told_before(before), want);
+        return is_told(told_before(before), want, 0);
     }
     value(row, xs, bs, bytes, want)
 }
 
-// The numbers of all groups into the first `room` places of a list.
-fn groups_to(xs: &[u64], bs: &[u8], room: usize, list: &mut [u64]) -> Fetched
+// `group_numbers`, with room for so many numbers.
+fn groups(row: Row, xs: &[u64], bs: &[u8], want: &[u64]) -> bool
     requires { ⌜ Wf (now xs) (now bs) ⌝ }
 {
-    if list.len() < room {
-        return Fetched::ListTooShort;
+    let room = row.room as usize;
+    if LISTED < room {
+        return false;
     }
-    index::group_numbers(xs, bs, &mut list[..room])
+    let mut list = [0u64; LISTED];
+    let answer = index::group_numbers(xs, bs, &mut list[..room]);
+    is_listed(told_fetched(answer), list, want)
 }
 
 // 60 group_numbers, 61 is_empty, otherwise the live count of a queue.
@@ -120,15 +107,13 @@ fn all(row: Row, xs: &[u64], bs: &[u8], want: &[u64]) -> bool
     requires { ⌜ Wf (now xs) (now bs) ⌝ }
 {
     if row.what == 60 {
-        let mut list = [0u64; SLOTS];
-        let answer = groups_to(xs, bs, row.room as usize, &mut list);
-        return is_listed(told_fetched(answer), &list, want);
+        return groups(row, xs, bs, want);
     }
     if row.what == 61 {
-        return is_told(told_flag(index::is_empty(xs, bs)), want);
+        return is_told(told_flag(index::is_empty(xs, bs)), want, 0);
     }
     let live = index::live_entries(xs, bs, pipe_log::queue_at(row.a));
-    is_told(told_count(Counted::Is(live)), want)
+    is_told(told_count(Counted::Is(live)), want, 0)
 }
 
 // Whether the stored numbers stand in an area from a place on.
@@ -185,8 +170,8 @@ fn ask(row: Row, xs: &[u64], bs: &[u8], bytes: &[u8], want: &[u64]) -> bool
     requires { ⌜ Wf (now xs) (now bs) ⌝ }
 {
     match row.what / 10 {
-        1 => is_told(told_number(asks::number(row, xs, bs)), want),
-        2 => is_told(told_count(asks::count(row, xs, bs)), want),
+        1 => is_told(told_number(asks::number(row, xs, bs)), want, 0),
+        2 => is_told(told_count(asks::count(row, xs, bs)), want, 0),
         3 => one(row, xs, bs, bytes, want),
         4 => keys(row, xs, bs, bytes, want),
         5 => entries(row, xs, bs, want),
@@ -222,45 +207,31 @@ fn narrow(list: &[u64], out: &mut [u8]) -> usize
     i
 }
 
-// Makes a call with its lists. The calls by their numbers: below 4 recovery, 4 and 5 the live writes, 9 the cleaned numbers, and above
-// it the queries.
-fn make(
-    row: Row,
-    xs: &mut [u64],
-    bs: &mut [u8],
-    ys: &[u64],
-    cs: &[u8],
-    numbers: &[u64],
-    bytes: &[u8],
-) -> bool
-    requires { ⌜ Wf (now xs) (now bs) × Wf (now ys) (now cs) ⌝ }
+// Makes a call with its bytes: below 6 those that write, 9 the cleaned numbers, and above it the queries.
+fn make(row: Row, xs: &mut [u64], bs: &mut [u8], numbers: &[u64], bytes: &[u8]) -> bool
+    requires { ⌜ Wf (now xs) (now bs) ⌝ }
     ensures { λ _. ⌜ Wf (now (xs .exit)) (now (bs .exit)) ⌝ }
 {
-    let what = row.what;
-    let items = between(numbers, HEAD, row.items as usize);
-    let entries = between(numbers, row.items as usize, row.entries as usize);
-    let want = between(numbers, row.bytes as usize, numbers.len());
-    if what < 4 {
-        let answer = recover(row, xs, bs, ys, cs, items, entries, bytes);
-        return is_told(told_answer(answer), want);
-    }
-    if what < 6 {
+    if row.what < 6 {
+        let items = between(numbers, HEAD, row.items as usize);
+        let entries = between(numbers, row.items as usize, row.entries as usize);
         let answer = write(row, xs, bs, items, entries, bytes);
-        return is_told(told_answer(answer), want);
+        return is_told(told_answer(answer), numbers, row.bytes as usize);
     }
-    if what == 9 {
+    let want = between(numbers, row.bytes as usize, numbers.len());
+    if row.what == 9 {
         return cleaned(row, xs, bs, want);
     }
     ask(row, xs, bs, bytes, want)
 }
 
 // Makes the call that stands in some numbers, and says whether it is answered as stored.
-pub fn call(row: Row, xs: &mut [u64], bs: &mut [u8], ys: &[u64], cs: &[u8], numbers: &[u64]) -> bool
-    requires { ⌜ Wf (now xs) (now bs) × Wf (now ys) (now cs) ⌝ }
+pub fn call(row: Row, xs: &mut [u64], bs: &mut [u8], numbers: &[u64]) -> bool
+    requires { ⌜ Wf (now xs) (now bs) ⌝ }
     ensures { λ _. ⌜ Wf (now (xs .exit)) (now (bs .exit)) ⌝ }
 {
     let mut buffer = [0u8; 512];
     let lent = between(numbers, row.entries as usize, row.bytes as usize);
     let n = narrow(lent, &mut buffer);
-    make(row, xs, bs, ys, cs, numbers, &buffer[..n])
+    make(row, xs, bs, numbers, &buffer[..n])
 }

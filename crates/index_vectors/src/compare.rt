@@ -1,11 +1,14 @@
 // What a call answered, compared with the stored numbers.
 ghost use mathlib.Core.Path.{_≡_};
-ghost use Rattle.index_vectors.specs.Agreement.{SameNumbers, rowOf};
+ghost use Rattle.index_vectors.specs.Agreement.{SameNumbers, Stored, rowOf};
 use pipe_log::EntryBlock;
 use pipe_log::EntryIndex;
 
 // Where what follows the three numbers of an answer is stored.
 pub const ROWS: usize = 3;
+
+// The numbers of a lent list.
+pub const LISTED: usize = 64;
 
 // Whether the first `n` numbers of a list are the stored ones from place `at` on.
 pub fn numbers_are(got: &[u64], n: usize, want: &[u64], at: usize) -> bool
@@ -30,11 +33,21 @@ pub fn numbers_are(got: &[u64], n: usize, want: &[u64], at: usize) -> bool
     true
 }
 
-// Whether the three numbers of an answer are the first stored ones.
-pub fn is_told(told: [u64; 3], want: &[u64]) -> bool
-    ensures { λ r. ⌜ SameNumbers told 3 (now (want .entry)) 0 r ⌝ }
+// Whether the three numbers of an answer are stored from place `at` on.
+pub fn is_told(told: [u64; 3], want: &[u64], at: usize) -> bool
+    ensures { λ r. ⌜ SameNumbers told 3 (now (want .entry)) at r ⌝ }
 {
-    numbers_are(&told, 3, want, 0)
+    numbers_are(&told, 3, want, at)
+}
+
+// Whether an answer is told as stored, and with it as many numbers of a list as it tells.
+pub fn is_listed(told: [u64; 3], list: [u64; LISTED], want: &[u64]) -> bool
+    ensures { λ r. ⌜ Stored (now (want .entry)) r ⌝ }
+{
+    if !is_told(told, want, 0) {
+        return false;
+    }
+    numbers_are(&list, told[1] as usize, want, ROWS)
 }
 
 // A byte as a number.

@@ -1,6 +1,5 @@
 // The fetches of entry records, in both forms: into parallel slices, and into a list of records. The records are stored twice: field by
 // field as the slices have them, and then record by record.
-ghost use Prim.Native.Nat.{_≤_};
 ghost use Rattle.contexts.specs.Contexts.{Wf};
 ghost use Rattle.index_vectors.specs.Agreement.{Stored};
 use crate::asks;
@@ -10,7 +9,6 @@ use crate::compare::numbers_are;
 use crate::compare::record_is;
 use crate::row::Row;
 use crate::told::told_fetched;
-use index::Fetched;
 use pipe_log::CompressionType;
 use pipe_log::EntryBlock;
 use pipe_log::EntryIndex;
@@ -18,90 +16,35 @@ use pipe_log::EntryIndex;
 // The rows of the lent lists.
 const MOST_ENTRIES: usize = 64;
 
-// The fetch of `asks::fetch_of` into slices, one for each field of a record.
-fn fetch(
-    row: Row,
-    xs: &[u64],
-    bs: &[u8],
-    index: &mut [u64],
-    queue: &mut [u64],
-    seq: &mut [u64],
-    offset: &mut [u64],
-    len: &mut [u64],
-    compression: &mut [u64],
-    entry_offset: &mut [u64],
-    entry_len: &mut [u64],
-) -> Fetched
-    requires { ⌜ Wf (now xs) (now bs) ⌝ }
-{
-    let group = row.group;
-    if row.what == 50 {
-        return index::fetch_entries_to(
-            xs,
-            bs,
-            group,
-            row.a,
-            row.b,
-            asks::bound_of(row.c, row.d),
-            index,
-            queue,
-            seq,
-            offset,
-            len,
-            compression,
-            entry_offset,
-            entry_len,
-        );
-    }
-    if row.what == 51 {
-        return index::fetch_entry_indexes_before(
-            xs,
-            bs,
-            group,
-            row.a,
-            index,
-            queue,
-            seq,
-            offset,
-            len,
-            compression,
-            entry_offset,
-            entry_len,
-        );
-    }
-    index::fetch_rewritten_entry_indexes(
-        xs,
-        bs,
-        group,
-        index,
-        queue,
-        seq,
-        offset,
-        len,
-        compression,
-        entry_offset,
-        entry_len,
-    )
+// Whether the first `n` numbers of a column are stored from place `at` on.
+fn column_is(column: [u64; MOST_ENTRIES], n: usize, want: &[u64], at: usize) -> bool {
+    numbers_are(&column, n, want, at)
 }
 
-// Whether the first `n` numbers of four slices are stored one behind another.
-fn four_are(n: usize, want: &[u64], at: usize, a: &[u64], b: &[u64], c: &[u64], d: &[u64]) -> bool
-    requires { ⌜ (n ≤ 64) × (at ≤ 512) ⌝ }
-{
-    if !numbers_are(a, n, want, at) {
+// Whether an answer is told as stored, and with it the columns one behind another, as far as it tells.
+fn columns_are(told: [u64; 3], columns: [[u64; MOST_ENTRIES]; 8], want: &[u64]) -> bool {
+    if !is_told(told, want, 0) {
         return false;
     }
-    if !numbers_are(b, n, want, at + n) {
+    let n = told[1] as usize;
+    if MOST_ENTRIES < n {
         return false;
     }
-    if !numbers_are(c, n, want, at + n * 2) {
-        return false;
+    let mut at = ROWS;
+    let mut i = 0;
+    while i < 8 {
+        let column = columns[i];
+        if !column_is(column, n, want, at) {
+            return false;
+        }
+        at += n;
+        i += 1;
     }
-    numbers_are(d, n, want, at + n * 3)
+    true
 }
 
-// Whether a fetch into slices is answered as stored.
-fn in_slices(row: Row, xs: &[u64], bs: &[u8], want: &[u64]) -> bool
+// Whether `fetch_entries_to` into slices is answered as stored.
+fn entries_to(row: Row, xs: &[u64], bs: &[u8], want: &[u64]) -> bool
     requires { ⌜ Wf (now xs) (now bs) ⌝ }
 {
     let mut index = [0u64; MOST_ENTRIES];
@@ -112,10 +55,13 @@ fn in_slices(row: Row, xs: &[u64], bs: &[u8], want: &[u64]) -> bool
     let mut compression = [0u64; MOST_ENTRIES];
     let mut entry_offset = [0u64; MOST_ENTRIES];
     let mut entry_len = [0u64; MOST_ENTRIES];
-    let answer = fetch(
-        row,
+    let answer = index::fetch_entries_to(
         xs,
         bs,
+        row.group,
+        row.a,
+        row.b,
+        asks::bound_of(row.c, row.d),
         &mut index,
         &mut queue,
         &mut seq,
@@ -125,26 +71,106 @@ fn in_slices(row: Row, xs: &[u64], bs: &[u8], want: &[u64]) -> bool
         &mut entry_offset,
         &mut entry_len,
     );
-    let told = told_fetched(answer);
-    if !is_told(told, want) {
-        return false;
+    let columns = [
+        index,
+        queue,
+        seq,
+        offset,
+        len,
+        compression,
+        entry_offset,
+        entry_len,
+    ];
+    columns_are(told_fetched(answer), columns, want)
+}
+
+// The same of `fetch_entry_indexes_before`.
+fn indexes_before(row: Row, xs: &[u64], bs: &[u8], want: &[u64]) -> bool
+    requires { ⌜ Wf (now xs) (now bs) ⌝ }
+{
+    let mut index = [0u64; MOST_ENTRIES];
+    let mut queue = [0u64; MOST_ENTRIES];
+    let mut seq = [0u64; MOST_ENTRIES];
+    let mut offset = [0u64; MOST_ENTRIES];
+    let mut len = [0u64; MOST_ENTRIES];
+    let mut compression = [0u64; MOST_ENTRIES];
+    let mut entry_offset = [0u64; MOST_ENTRIES];
+    let mut entry_len = [0u64; MOST_ENTRIES];
+    let answer = index::fetch_entry_indexes_before(
+        xs,
+        bs,
+        row.group,
+        row.a,
+        &mut index,
+        &mut queue,
+        &mut seq,
+        &mut offset,
+        &mut len,
+        &mut compression,
+        &mut entry_offset,
+        &mut entry_len,
+    );
+    let columns = [
+        index,
+        queue,
+        seq,
+        offset,
+        len,
+        compression,
+        entry_offset,
+        entry_len,
+    ];
+    columns_are(told_fetched(answer), columns, want)
+}
+
+// The same of `fetch_rewritten_entry_indexes`.
+fn rewritten_indexes(row: Row, xs: &[u64], bs: &[u8], want: &[u64]) -> bool
+    requires { ⌜ Wf (now xs) (now bs) ⌝ }
+{
+    let mut index = [0u64; MOST_ENTRIES];
+    let mut queue = [0u64; MOST_ENTRIES];
+    let mut seq = [0u64; MOST_ENTRIES];
+    let mut offset = [0u64; MOST_ENTRIES];
+    let mut len = [0u64; MOST_ENTRIES];
+    let mut compression = [0u64; MOST_ENTRIES];
+    let mut entry_offset = [0u64; MOST_ENTRIES];
+    let mut entry_len = [0u64; MOST_ENTRIES];
+    let answer = index::fetch_rewritten_entry_indexes(
+        xs,
+        bs,
+        row.group,
+        &mut index,
+        &mut queue,
+        &mut seq,
+        &mut offset,
+        &mut len,
+        &mut compression,
+        &mut entry_offset,
+        &mut entry_len,
+    );
+    let columns = [
+        index,
+        queue,
+        seq,
+        offset,
+        len,
+        compression,
+        entry_offset,
+        entry_len,
+    ];
+    columns_are(told_fetched(answer), columns, want)
+}
+
+// The fetch of `asks::fetch_of` into slices, one for each field of a record.
+fn in_slices(row: Row, xs: &[u64], bs: &[u8], want: &[u64]) -> bool
+    requires { ⌜ Wf (now xs) (now bs) ⌝ }
+{
+    let what = row.what;
+    match what {
+        50 => entries_to(row, xs, bs, want),
+        51 => indexes_before(row, xs, bs, want),
+        _ => rewritten_indexes(row, xs, bs, want),
     }
-    let n = told[1] as usize;
-    if MOST_ENTRIES < n {
-        return false;
-    }
-    if !four_are(n, want, ROWS, &index, &queue, &seq, &offset) {
-        return false;
-    }
-    four_are(
-        n,
-        want,
-        ROWS + n * 4,
-        &len,
-        &compression,
-        &entry_offset,
-        &entry_len,
-    )
 }
 
 // Whether the first `n` records of a list are the stored ones.
@@ -179,7 +205,7 @@ fn in_records(row: Row, xs: &[u64], bs: &[u8], want: &[u64]) -> bool
     let listed = index::fetch_listed(xs, bs, row.group, asks::fetch_of(row), list);
     let answer = listed.answer;
     let told = told_fetched(answer);
-    if !is_told(told, want) {
+    if !is_told(told, want, 0) {
         return false;
     }
     let records = listed.list;

@@ -48,47 +48,21 @@ fn fetch(row: Row, xs: &[u64], bs: &[u8], bytes: &[u8], lens: &mut [u64], out: &
     index::fetch_rewritten_kvs(xs, bs, row.group, lens, out)
 }
 
-// A query of keys into the first `room` rows of lists.
-fn fetch_to(
-    row: Row,
-    xs: &[u64],
-    bs: &[u8],
-    bytes: &[u8],
-    room: usize,
-    lens: &mut [u64],
-    out: &mut [u8],
-) -> Fetched
-    requires { ⌜ Wf (now xs) (now bs) ⌝ }
-{
-    if MOST_KEYS < room {
-        return Fetched::ListTooShort;
-    }
-    let l = room * 2;
-    let o = room * 64;
-    if lens.len() < l {
-        return Fetched::ListTooShort;
-    }
-    if out.len() < o {
-        return Fetched::ListTooShort;
-    }
-    fetch(row, xs, bs, bytes, &mut lens[..l], &mut out[..o])
-}
-
 // Whether as many rows of keys as an answer tells are the stored ones: their lengths, and then their bytes.
-fn keys_are(told: [u64; 3], lens: &[u64], out: &[u8], want: &[u64]) -> bool
+fn keys_are(told: [u64; 3], lens: [u64; 32], out: [u8; 1024], want: &[u64]) -> bool
     ensures { λ r. ⌜ Stored (now (want .entry)) r ⌝ }
 {
-    if !is_told(told, want) {
+    if !is_told(told, want, 0) {
         return false;
     }
     let n = told[1] as usize;
     if MOST_KEYS < n {
         return false;
     }
-    if !numbers_are(lens, n * 2, want, ROWS) {
+    if !numbers_are(&lens, n * 2, want, ROWS) {
         return false;
     }
-    bytes_are(out, n * 64, want, ROWS + n * 2)
+    bytes_are(&out, n * 64, want, ROWS + n * 2)
 }
 
 // Whether a query of keys is answered as stored, with room for so many rows.
@@ -96,8 +70,14 @@ pub fn keys(row: Row, xs: &[u64], bs: &[u8], bytes: &[u8], want: &[u64]) -> bool
     requires { ⌜ Wf (now xs) (now bs) ⌝ }
     ensures { λ r. ⌜ Stored (now (want .entry)) r ⌝ }
 {
+    let room = row.room as usize;
+    if MOST_KEYS < room {
+        return false;
+    }
+    let l = room * 2;
+    let o = room * 64;
     let mut lens = [0u64; 32];
     let mut out = [0u8; 1024];
-    let answer = fetch_to(row, xs, bs, bytes, row.room as usize, &mut lens, &mut out);
-    keys_are(told_fetched(answer), &lens, &out, want)
+    let answer = fetch(row, xs, bs, bytes, &mut lens[..l], &mut out[..o]);
+    keys_are(told_fetched(answer), lens, out, want)
 }

@@ -5,8 +5,12 @@ ghost use lib.ListN.{length};
 ghost use Rattle.contexts.specs.Contexts.{areaNumbers, areaBytes, Wf};
 ghost use Rattle.index_vectors.specs.Areas.{Areas};
 use crate::calls::call;
+use crate::compare::is_told;
 use crate::row::Row;
 use crate::row::row_of;
+use crate::told::told_answer;
+use crate::writes::unite;
+use index::Answer;
 use index::BYTES;
 use index::NUMBERS;
 use pipe_log::LogQueue;
@@ -58,16 +62,8 @@ fn copy_area(xs: &[u64], bs: &[u8], k: usize, ys: &mut [u64], cs: &mut [u8])
     cells::copy_in_u8(cs, 0, &bs[c..d]);
 }
 
-// Makes the call of a row on area k, beside another context.
-fn call_at(
-    k: usize,
-    row: Row,
-    xs: &mut [u64],
-    bs: &mut [u8],
-    ys: &[u64],
-    cs: &[u8],
-    numbers: &[u64],
-) -> bool
+// Merges another context into that of area k, or joins it.
+fn unite_at(k: usize, what: u64, xs: &mut [u64], bs: &mut [u8], ys: &[u64], cs: &[u8]) -> Answer
     requires { ⌜ k < 8 ⌝ }
     requires { ⌜ Areas 8 (now xs) (now bs) × Wf (now ys) (now cs) ⌝ }
     ensures { λ _. ⌜ Areas 8 (now (xs .exit)) (now (bs .exit)) ⌝ }
@@ -76,10 +72,36 @@ fn call_at(
     let e = a + NUMBERS;
     let c = k * BYTES;
     let d = c + BYTES;
-    call(row, &mut xs[a..e], &mut bs[c..d], ys, cs, numbers)
+    unite(what, &mut xs[a..e], &mut bs[c..d], ys, cs)
 }
 
-// Makes the call that stands in some numbers on the area that it names, and says whether the answer is as stored.
+// Merges a copy of the context of another area into that of area k, or joins it.
+fn unite_areas(k: usize, other: usize, what: u64, xs: &mut [u64], bs: &mut [u8]) -> Answer
+    requires { ⌜ (k < 8) × (other < 8) ⌝ }
+    requires { ⌜ Areas 8 (now xs) (now bs) ⌝ }
+    ensures { λ _. ⌜ Areas 8 (now (xs .exit)) (now (bs .exit)) ⌝ }
+{
+    let mut ys = [0u64; NUMBERS];
+    let mut cs = [0u8; BYTES];
+    copy_area(xs, bs, other, &mut ys, &mut cs);
+    unite_at(k, what, xs, bs, &ys, &cs)
+}
+
+// Makes the call of a row on area k.
+fn call_at(k: usize, row: Row, xs: &mut [u64], bs: &mut [u8], numbers: &[u64]) -> bool
+    requires { ⌜ k < 8 ⌝ }
+    requires { ⌜ Areas 8 (now xs) (now bs) ⌝ }
+    ensures { λ _. ⌜ Areas 8 (now (xs .exit)) (now (bs .exit)) ⌝ }
+{
+    let a = k * NUMBERS;
+    let e = a + NUMBERS;
+    let c = k * BYTES;
+    let d = c + BYTES;
+    call(row, &mut xs[a..e], &mut bs[c..d], numbers)
+}
+
+// Makes the call that stands in some numbers on the area that it names, and says whether the answer is as stored. The calls 2 and 3
+// are of two areas.
 pub fn run(numbers: &[u64], xs: &mut [u64], bs: &mut [u8]) -> bool
     requires { ⌜ 14 ≤ length (now numbers) ⌝ }
     requires { ⌜ Areas 8 (now xs) (now bs) ⌝ }
@@ -94,8 +116,9 @@ pub fn run(numbers: &[u64], xs: &mut [u64], bs: &mut [u8]) -> bool
     if AREAS <= other {
         return false;
     }
-    let mut ys = [0u64; NUMBERS];
-    let mut cs = [0u8; BYTES];
-    copy_area(xs, bs, other, &mut ys, &mut cs);
-    call_at(k, row, xs, bs, &ys, &cs, numbers)
+    if row.what / 2 == 1 {
+        let answer = unite_areas(k, other, row.what, xs, bs);
+        return is_told(told_answer(answer), numbers, row.bytes as usize);
+    }
+    call_at(k, row, xs, bs, numbers)
 }

@@ -6,7 +6,6 @@ use crate::row::Row;
 use index::Answer;
 use pipe_log::FileId;
 use pipe_log::Gate;
-use pipe_log::LogQueue;
 use pipe_log::queue_at;
 
 // The gate of a rewrite: none, or a sequence number.
@@ -19,44 +18,7 @@ fn gate_of(gated: u64, seq: u64) -> Gate
     Gate::Seq(seq)
 }
 
-// Makes a fresh context, which is never refused.
-fn fresh(xs: &mut [u64], bs: &mut [u8], queue: LogQueue) -> Answer
-    requires { ⌜ Wf (now xs) (now bs) ⌝ }
-    ensures { λ r. ⌜ (r ≡ Answer.Accepted) × Wf (now (xs .exit)) (now (bs .exit)) ⌝ }
-{
-    index::fresh(xs, bs, queue);
-    Answer::Accepted
-}
-
-// The calls of recovery: 0 fresh, 1 replay, 2 merge, otherwise join.
-pub fn recover(
-    row: Row,
-    xs: &mut [u64],
-    bs: &mut [u8],
-    ys: &[u64],
-    cs: &[u8],
-    items: &[u64],
-    entries: &[u64],
-    bytes: &[u8],
-) -> Answer
-    requires { ⌜ Wf (now xs) (now bs) × Wf (now ys) (now cs) ⌝ }
-    ensures { λ _. ⌜ Wf (now (xs .exit)) (now (bs .exit)) ⌝ }
-{
-    let what = row.what;
-    if what == 0 {
-        return fresh(xs, bs, queue_at(row.a));
-    }
-    if what == 1 {
-        let file = FileId::new(queue_at(row.a), row.b);
-        return index::replay(xs, bs, file, items, entries, bytes);
-    }
-    if what == 2 {
-        return index::merge(xs, bs, ys, cs);
-    }
-    index::join(xs, bs, ys, cs)
-}
-
-// The live writes: 4 append, otherwise rewrite.
+// The calls of one context: 0 fresh, which is never refused, 1 replay, 4 append, otherwise rewrite.
 pub fn write(
     row: Row,
     xs: &mut [u64],
@@ -68,9 +30,28 @@ pub fn write(
     requires { ⌜ Wf (now xs) (now bs) ⌝ }
     ensures { λ _. ⌜ Wf (now (xs .exit)) (now (bs .exit)) ⌝ }
 {
-    let file = FileId::new(queue_at(row.a), row.b);
+    let queue = queue_at(row.a);
+    if row.what == 0 {
+        index::fresh(xs, bs, queue);
+        return Answer::Accepted;
+    }
+    let file = FileId::new(queue, row.b);
+    if row.what == 1 {
+        return index::replay(xs, bs, file, items, entries, bytes);
+    }
     if row.what == 4 {
         return index::append(xs, bs, file, items, entries, bytes);
     }
     index::rewrite(xs, bs, gate_of(row.c, row.d), file, items, entries, bytes)
+}
+
+// The calls of two contexts: 2 merge, otherwise join.
+pub fn unite(what: u64, xs: &mut [u64], bs: &mut [u8], ys: &[u64], cs: &[u8]) -> Answer
+    requires { ⌜ Wf (now xs) (now bs) × Wf (now ys) (now cs) ⌝ }
+    ensures { λ _. ⌜ Wf (now (xs .exit)) (now (bs .exit)) ⌝ }
+{
+    if what == 2 {
+        return index::merge(xs, bs, ys, cs);
+    }
+    index::join(xs, bs, ys, cs)
 }

@@ -1,5 +1,5 @@
 -- `index_vectors::calls::make` meets its contract. Assumes nothing.
-use borrow.Author.Needs.{needs}
+use mathlib.Core.Path.{refl}
 use Rattle.index_vectors.proofs.calls.make.Statement.{statement}
 use Rattle.index_vectors.proofs.calls.make.Tie as tie
 
@@ -9,12 +9,9 @@ between-requires c κs = tt
 between-requires-2 : tie.Need-between-requires-2
 between-requires-2 c κs = tt
 
-between-requires-3 : tie.Need-between-requires-3
-between-requires-3 c κs = tt
-
-recover-requires : tie.Need-recover-requires
-recover-requires c κs =
-    let start = c .before .before .before .before .before .before .before .before .before .before .before .before in
+write-requires : tie.Need-write-requires
+write-requires c κs =
+    let start = c .before .before .before .before .before .before .before .before .before .before in
     start .pre
 
 told-answer-requires : tie.Need-told-answer-requires
@@ -25,78 +22,55 @@ is-told-requires c κs = tt
 
 same-length : tie.Need-same-length
 same-length c =
-    let recover = c .before .before .before .before .before .before .recover in
-    recover .kept .1 .0
-
-same-length-2 : tie.Need-same-length-2
-same-length-2 c =
-    let recover = c .before .before .before .before .before .before .recover in
-    recover .kept .1 .1 .0
-
-returns : tie.Need-returns
-returns c =
-    let recover = c .before .before .before .before .before .before .recover in
-    recover .ensures
-
-write-requires : tie.Need-write-requires
-write-requires c κs =
-    let start = c .before .before .before .before .before .before .before .before .before .before .before .before .before in
-    start .pre .0
-
-told-answer-requires-2 : tie.Need-told-answer-requires-2
-told-answer-requires-2 c κs = tt
-
-is-told-requires-2 : tie.Need-is-told-requires-2
-is-told-requires-2 c κs = tt
-
-same-length-3 : tie.Need-same-length-3
-same-length-3 c =
     let write = c .before .before .before .before .before .before .write in
     write .kept .1 .0
 
-same-length-4 : tie.Need-same-length-4
-same-length-4 c =
+same-length-2 : tie.Need-same-length-2
+same-length-2 c =
     let write = c .before .before .before .before .before .before .write in
     write .kept .1 .1 .0
 
-returns-2 : tie.Need-returns-2
-returns-2 c =
+returns : tie.Need-returns
+returns c =
     let write = c .before .before .before .before .before .before .write in
     write .ensures
 
+between-requires-3 : tie.Need-between-requires-3
+between-requires-3 c κs = tt
+
 cleaned-requires : tie.Need-cleaned-requires
 cleaned-requires c κs =
-    let start = c .before .before .before .before .before .before .before .before .before .before .before .before .before .before in
-    start .pre .0
+    let start = c .before .before .before .before .before .before .before .before .before .before .before in
+    start .pre
 
-same-length-5 : tie.Need-same-length-5
-same-length-5 c =
+same-length-3 : tie.Need-same-length-3
+same-length-3 c =
     let cleaned = c .before .before .cleaned in
     cleaned .kept .1 .0
 
-same-length-6 : tie.Need-same-length-6
-same-length-6 c = search needs
+same-length-4 : tie.Need-same-length-4
+same-length-4 c = refl
 
-returns-3 : tie.Need-returns-3
-returns-3 c =
+returns-2 : tie.Need-returns-2
+returns-2 c =
     let cleaned = c .before .before .cleaned in
     cleaned .ensures
 
 ask-requires : tie.Need-ask-requires
 ask-requires c κs =
-    let start = c .before .before .before .before .before .before .before .before .before .before .before .before .before .before in
-    start .pre .0
+    let start = c .before .before .before .before .before .before .before .before .before .before .before in
+    start .pre
 
-same-length-7 : tie.Need-same-length-7
-same-length-7 c = search needs
+same-length-5 : tie.Need-same-length-5
+same-length-5 c = refl
 
-same-length-8 : tie.Need-same-length-8
-same-length-8 c = search needs
+same-length-6 : tie.Need-same-length-6
+same-length-6 c = refl
 
-returns-4 : tie.Need-returns-4
-returns-4 c =
-    let start = c .before .before .before .before .before .before .before .before .before .before .before .before .before .before .before in
-    start .pre .0
+returns-3 : tie.Need-returns-3
+returns-3 c =
+    let start = c .before .before .before .before .before .before .before .before .before .before .before .before in
+    start .pre
 
 pub make-spec : {M : Type 1} → statement M
 make-spec =
@@ -104,24 +78,18 @@ make-spec =
     (tie.spec
     between-requires
     between-requires-2
-    between-requires-3
-    recover-requires
+    write-requires
     told-answer-requires
     is-told-requires
     same-length
     same-length-2
     returns
-    write-requires
-    told-answer-requires-2
-    is-told-requires-2
+    between-requires-3
+    cleaned-requires
     same-length-3
     same-length-4
     returns-2
-    cleaned-requires
+    ask-requires
     same-length-5
     same-length-6
-    returns-3
-    ask-requires
-    same-length-7
-    same-length-8
-    returns-4)
+    returns-3)

@@ -1,43 +1,57 @@
 -- `index_vectors::keys::keys` meets its contract. Assumes nothing.
+use mathlib.Core.Path.{sym}
+use native.Mathlib.Omega.{arith}
+use lib.Seq.{length-take-le}
+use Rattle.index_vectors.proofs.Agreeing.{not-stored}
 use borrow.Author.Needs.{needs}
 use Rattle.index_vectors.proofs.keys.keys.Statement.{statement}
 use Rattle.index_vectors.proofs.keys.keys.Tie as tie
 
-slice-aggregate-fetch-to : tie.Need-slice-aggregate-fetch-to
-slice-aggregate-fetch-to c = search needs
+returns : tie.Need-returns
+returns c = not-stored _
 
-slice-aggregate-fetch-to-2 : tie.Need-slice-aggregate-fetch-to-2
-slice-aggregate-fetch-to-2 c = search needs
+mul-l : tie.Need-mul-l
+mul-l c = search needs
 
-fetch-to-requires : tie.Need-fetch-to-requires
-fetch-to-requires c κs =
-    let start = c .before .before .before .before .before .before in
-    start .pre
+mul-o : tie.Need-mul-o
+mul-o c = search needs
+
+array-borrow-prefix-lens : tie.Need-array-borrow-prefix-lens
+array-borrow-prefix-lens c = search needs
+
+slice-aggregate-fetch : tie.Need-slice-aggregate-fetch
+slice-aggregate-fetch c = sym (length-take-le _ _ (omega arith))
+
+array-borrow-prefix-out : tie.Need-array-borrow-prefix-out
+array-borrow-prefix-out c = search needs
+
+slice-aggregate-fetch-2 : tie.Need-slice-aggregate-fetch-2
+slice-aggregate-fetch-2 c = sym (length-take-le _ _ (omega arith))
+
+fetch-requires : tie.Need-fetch-requires
+fetch-requires c κs = search needs
 
 told-fetched-requires : tie.Need-told-fetched-requires
-told-fetched-requires c κs = tt
-
-slice-aggregate-keys-are : tie.Need-slice-aggregate-keys-are
-slice-aggregate-keys-are c = search needs
-
-slice-aggregate-keys-are-2 : tie.Need-slice-aggregate-keys-are-2
-slice-aggregate-keys-are-2 c = search needs
+told-fetched-requires c κs = search needs
 
 keys-are-requires : tie.Need-keys-are-requires
-keys-are-requires c κs = tt
+keys-are-requires c κs = search needs
 
-returns : tie.Need-returns
-returns c = c .keys-are .ensures
+returns-2 : tie.Need-returns-2
+returns-2 c = search needs
 
 pub keys-spec : {M : Type 1} → statement M
 keys-spec =
     tie.close
     (tie.spec
-    slice-aggregate-fetch-to
-    slice-aggregate-fetch-to-2
-    fetch-to-requires
+    returns
+    mul-l
+    mul-o
+    array-borrow-prefix-lens
+    slice-aggregate-fetch
+    array-borrow-prefix-out
+    slice-aggregate-fetch-2
+    fetch-requires
     told-fetched-requires
-    slice-aggregate-keys-are
-    slice-aggregate-keys-are-2
     keys-are-requires
-    returns)
+    returns-2)

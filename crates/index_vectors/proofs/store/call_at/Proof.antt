@@ -39,8 +39,8 @@ part-call-end-2 c = search needs
 
 call-requires : tie.Need-call-requires
 call-requires c κs =
-    let start = c .before .before .before .before .before .before .before in
-    (lent-wf (start .args .k) (start .args .xs .now) (start .args .bs .now) (start .pre .1 .0) (start .pre .0), start .pre .1 .1)
+    let start = c .before .before .before .before .before in
+    lent-wf (start .args .k) (start .args .xs .now) (start .args .bs .now) (start .pre .1) (start .pre .0)
 
 same-length : tie.Need-same-length
 same-length c = search needs
@@ -50,9 +50,9 @@ same-length-2 c = search needs
 
 returns : tie.Need-returns
 returns c =
-    let start = c .before .before .before .before .before .before .before .before .before .before .before .before in
+    let start = c .before .before .before .before .before .before .before .before .before .before in
     let call = c .before .before .before .before .call in
-    one-changed (start .args .k) (start .args .xs .now) (start .args .bs .now) _ _ (start .pre .0) (start .pre .1 .0) (call .ensures)
+    one-changed (start .args .k) (start .args .xs .now) (start .args .bs .now) _ _ (start .pre .0) (start .pre .1) (call .ensures)
 
 pub call-at-spec : {M : Type 1} → statement M
 call-at-spec =

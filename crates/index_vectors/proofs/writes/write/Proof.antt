@@ -1,15 +1,15 @@
--- `index_vectors::writes::recover` meets its contract. Assumes nothing.
-use borrow.Author.Needs.{needs}
-use Rattle.index_vectors.proofs.writes.recover.Statement.{statement}
-use Rattle.index_vectors.proofs.writes.recover.Tie as tie
+-- `index_vectors::writes::write` meets its contract. Assumes nothing.
+use Rattle.index_vectors.proofs.AreaLaws.{lengths-are}
+use Rattle.index_vectors.proofs.writes.write.Statement.{statement}
+use Rattle.index_vectors.proofs.writes.write.Tie as tie
 
 queue-at-requires : tie.Need-queue-at-requires
 queue-at-requires c κs = tt
 
 fresh-requires : tie.Need-fresh-requires
 fresh-requires c κs =
-    let start = c .before .before .before .before .before .before .before .before .before .before .before in
-    start .pre .0
+    let start = c .before .before .before .before .before .before .before .before .before .before in
+    lengths-are _ _ (start .pre)
 
 same-length : tie.Need-same-length
 same-length c =
@@ -24,10 +24,7 @@ same-length-2 c =
 returns : tie.Need-returns
 returns c =
     let fresh = c .before .before .before .before .fresh in
-    fresh .ensures .1
-
-queue-at-requires-2 : tie.Need-queue-at-requires-2
-queue-at-requires-2 c κs = tt
+    fresh .ensures .wf
 
 new-requires : tie.Need-new-requires
 new-requires c κs = tt
@@ -35,7 +32,7 @@ new-requires c κs = tt
 replay-requires : tie.Need-replay-requires
 replay-requires c κs =
     let start = c .before .before .before .before .before .before .before .before .before .before .before .before .before in
-    start .pre .0
+    start .pre
 
 same-length-3 : tie.Need-same-length-3
 same-length-3 c =
@@ -52,48 +49,51 @@ returns-2 c =
     let replay = c .before .before .before .before .replay in
     replay .ensures .wf
 
-merge-requires : tie.Need-merge-requires
-merge-requires c κs =
-    let start = c .before .before .before .before .before .before .before .before .before .before .before .before in
+append-requires : tie.Need-append-requires
+append-requires c κs =
+    let start = c .before .before .before .before .before .before .before .before .before .before .before .before .before .before .before in
     start .pre
 
 same-length-5 : tie.Need-same-length-5
 same-length-5 c =
-    let merge = c .before .before .before .before .merge in
-    merge .kept .0
+    let append = c .before .before .before .before .append in
+    append .kept .0
 
 same-length-6 : tie.Need-same-length-6
 same-length-6 c =
-    let merge = c .before .before .before .before .merge in
-    merge .kept .1 .0
+    let append = c .before .before .before .before .append in
+    append .kept .1 .0
 
 returns-3 : tie.Need-returns-3
 returns-3 c =
-    let merge = c .before .before .before .before .merge in
-    merge .ensures .wf
+    let append = c .before .before .before .before .append in
+    append .ensures .wf
 
-join-requires : tie.Need-join-requires
-join-requires c κs =
-    let start = c .before .before .before .before .before .before .before .before .before .before .before .before in
+gate-of-requires : tie.Need-gate-of-requires
+gate-of-requires c κs = tt
+
+rewrite-requires : tie.Need-rewrite-requires
+rewrite-requires c κs =
+    let start = c .before .before .before .before .before .before .before .before .before .before .before .before .before .before .before .before in
     start .pre
 
 same-length-7 : tie.Need-same-length-7
 same-length-7 c =
-    let join = c .before .before .before .before .join in
-    join .kept .0
+    let rewrite = c .before .before .before .before .rewrite in
+    rewrite .kept .0
 
 same-length-8 : tie.Need-same-length-8
 same-length-8 c =
-    let join = c .before .before .before .before .join in
-    join .kept .1 .0
+    let rewrite = c .before .before .before .before .rewrite in
+    rewrite .kept .1 .0
 
 returns-4 : tie.Need-returns-4
 returns-4 c =
-    let join = c .before .before .before .before .join in
-    join .ensures .wf
+    let rewrite = c .before .before .before .before .rewrite in
+    rewrite .ensures .wf
 
-pub recover-spec : {M : Type 1} → statement M
-recover-spec =
+pub write-spec : {M : Type 1} → statement M
+write-spec =
     tie.close
     (tie.spec
     queue-at-requires
@@ -101,17 +101,17 @@ recover-spec =
     same-length
     same-length-2
     returns
-    queue-at-requires-2
     new-requires
     replay-requires
     same-length-3
     same-length-4
     returns-2
-    merge-requires
+    append-requires
     same-length-5
     same-length-6
     returns-3
-    join-requires
+    gate-of-requires
+    rewrite-requires
     same-length-7
     same-length-8
     returns-4)
