@@ -1,4 +1,3 @@
 -- The laws that the functions' proofs cite.
 pub mod AreaLaws
-pub mod Agreeing
 pub mod Passing

@@ -1,6 +1,3 @@
 -- The definitions that the contracts cite.
-pub mod Told
-pub mod Arguments
-pub mod Agreement
 pub mod Areas
 pub mod Reading

@@ -1,13 +1,7 @@
 // Makes the calls of the files of data/ on the index, and writes of each file how many answers are other than the Rust's.
-mod asks;
 mod calls;
-mod compare;
-mod fetches;
-mod keys;
 mod reading;
-mod row;
 mod store;
-mod told;
 mod writes;
 
 ghost use mathlib.Core.Path.{_≡_};
@@ -16,7 +10,7 @@ ghost use lib.ListN.{length};
 ghost use Rattle.contexts.specs.Contexts.{areaNumbers, areaBytes};
 use libc::STDOUT_FILENO;
 use reading::Read;
-use row::HEAD;
+use scripts::HEAD;
 use store::ALL_BYTES;
 use store::ALL_NUMBERS;
 

@@ -5,15 +5,15 @@ ghost use lib.ListN.{length};
 ghost use Rattle.contexts.specs.Contexts.{areaNumbers, areaBytes, Wf};
 ghost use Rattle.index_vectors.specs.Areas.{Areas};
 use crate::calls::call;
-use crate::compare::is_told;
-use crate::row::Row;
-use crate::row::row_of;
-use crate::told::told_answer;
 use crate::writes::unite;
 use index::Answer;
 use index::BYTES;
 use index::NUMBERS;
 use pipe_log::LogQueue;
+use scripts::Row;
+use scripts::is_told;
+use scripts::row_of;
+use scripts::told_answer;
 
 // How many areas there are, and how many numbers and bytes they have in all.
 pub const AREAS: usize = 8;

@@ -1,22 +1,10 @@
 // The calls that write. Each gives back a well-formed area.
-ghost use mathlib.Core.Path.{_≡_};
 ghost use Rattle.contexts.specs.Contexts.{Wf};
-ghost use Rattle.index_vectors.specs.Arguments.{gateAs};
-use crate::row::Row;
 use index::Answer;
 use pipe_log::FileId;
-use pipe_log::Gate;
 use pipe_log::queue_at;
-
-// The gate of a rewrite: none, or a sequence number.
-fn gate_of(gated: u64, seq: u64) -> Gate
-    ensures { λ r. ⌜ r ≡ gateAs gated seq ⌝ }
-{
-    if gated == 0 {
-        return Gate::None;
-    }
-    Gate::Seq(seq)
-}
+use scripts::Row;
+use scripts::gate_of;
 
 // The calls of one context: 0 fresh, which is never refused, 1 replay, 4 append, otherwise rewrite.
 pub fn write(

@@ -1,0 +1,109 @@
+// Every answer as three numbers: document 01's number of the refusal, 0 for none, and what else is told.
+ghost use mathlib.Core.Path.{_≡_};
+ghost use Rattle.scripts.specs.Told.{toldPlace, toldAnswer, toldNumber, toldCount, toldEntry, toldFlag, toldBefore, toldFetched, toldTaken};
+use index::Answer;
+use index::Counted;
+use index::Fetched;
+use index::FoundEntry;
+use index::FoundNumber;
+use index::Position;
+use index::SomeBefore;
+use index::Taken;
+
+// A refusal with its position.
+fn told_place(number: u64, place: Position) -> [u64; 3]
+    ensures { λ r. ⌜ r ≡ toldPlace number place ⌝ }
+{
+    match place {
+        Position::None => [number, 0, 0],
+        Position::At(i) => [number, 1, i as u64],
+    }
+}
+
+// What a call that writes tells.
+pub fn told_answer(answer: Answer) -> [u64; 3]
+    ensures { λ r. ⌜ r ≡ toldAnswer answer ⌝ }
+{
+    match answer {
+        Answer::Accepted => [0, 0, 0],
+        Answer::Refused { number, place } => told_place(number, place),
+    }
+}
+
+// A number that may be absent.
+pub fn told_number(found: FoundNumber) -> [u64; 3]
+    ensures { λ r. ⌜ r ≡ toldNumber found ⌝ }
+{
+    match found {
+        FoundNumber::GroupAbsent => [9, 0, 0],
+        FoundNumber::Absent => [0, 0, 0],
+        FoundNumber::At(n) => [0, 1, n],
+    }
+}
+
+// A count of a group.
+pub fn told_count(counted: Counted) -> [u64; 3]
+    ensures { λ r. ⌜ r ≡ toldCount counted ⌝ }
+{
+    match counted {
+        Counted::GroupAbsent => [9, 0, 0],
+        Counted::Is(n) => [0, n as u64, 0],
+    }
+}
+
+// Whether there is an entry record.
+pub fn told_entry(found: FoundEntry) -> [u64; 3]
+    ensures { λ r. ⌜ r ≡ toldEntry found ⌝ }
+{
+    match found {
+        FoundEntry::GroupAbsent => [9, 0, 0],
+        FoundEntry::Absent => [0, 0, 0],
+        FoundEntry::At(_) => [0, 1, 0],
+    }
+}
+
+// 1 for true, and 0 for false.
+pub fn told_flag(answer: bool) -> [u64; 3]
+    ensures { λ r. ⌜ r ≡ toldFlag answer ⌝ }
+{
+    if answer {
+        return [0, 1, 0];
+    }
+    [0, 0, 0]
+}
+
+// What `has_at_least_some_entries_before` tells.
+pub fn told_before(answer: SomeBefore) -> [u64; 3]
+    ensures { λ r. ⌜ r ≡ toldBefore answer ⌝ }
+{
+    match answer {
+        SomeBefore::GroupAbsent => [9, 0, 0],
+        SomeBefore::BadRange => [10, 0, 0],
+        SomeBefore::Is(b) => told_flag(b),
+    }
+}
+
+// How many rows of a lent list were filled.
+pub fn told_fetched(answer: Fetched) -> [u64; 3]
+    ensures { λ r. ⌜ r ≡ toldFetched answer ⌝ }
+{
+    match answer {
+        Fetched::Done(n) => [0, n as u64, 0],
+        Fetched::GroupAbsent => [9, 0, 0],
+        Fetched::BadRange => [10, 0, 0],
+        Fetched::EntryCompacted => [11, 0, 0],
+        Fetched::EntryNotFound => [12, 0, 0],
+        Fetched::ListTooShort => [19, 0, 0],
+    }
+}
+
+// How many cleaned numbers were handed out.
+pub fn told_taken(answer: Taken) -> [u64; 3]
+    ensures { λ r. ⌜ r ≡ toldTaken answer ⌝ }
+{
+    match answer {
+        Taken::Done(n) => [0, n as u64, 0],
+        Taken::WrongKind => [1, 0, 0],
+        Taken::ListTooShort => [19, 0, 0],
+    }
+}
