@@ -3,12 +3,11 @@ use mathlib.Core.Path.{refl}
 use Rattle.rules.specs.Causes.{entryCompacted, entryNotFound}
 use Rattle.queries.specs.declared.Fetched.{the-variants.EntryCompacted, the-variants.EntryNotFound}
 use Rattle.queries.proofs.SliceWays.{range-fetched, refused-fetched}
-use borrow.Author.Needs.{needs}
 use Rattle.queries.proofs.slices.answer_range.Statement.{statement}
 use Rattle.queries.proofs.slices.answer_range.Tie as tie
 
 enum-known-range : tie.Need-enum-known-range
-enum-known-range c = search needs
+enum-known-range c = c .match .keys1
 
 answer-rows-requires : tie.Need-answer-rows-requires
 answer-rows-requires c κs =
@@ -17,34 +16,50 @@ answer-rows-requires c κs =
     (start .pre .0, rw (range .given .1) at (start .pre .1))
 
 enum-told : tie.Need-enum-told
-enum-told c = search needs
+enum-told c = c .match .keys2
 
 enum-told-2 : tie.Need-enum-told-2
-enum-told-2 c = search needs
+enum-told-2 c = c .match .keys3
 
 same-length : tie.Need-same-length
-same-length c = search needs
+same-length c =
+    let index = c .before .before .before .before .before .before .before .before .before .before .before .before .before .before .before .index in
+    index .given
 
 same-length-2 : tie.Need-same-length-2
-same-length-2 c = search needs
+same-length-2 c =
+    let queue = c .before .before .before .before .before .before .before .before .before .before .before .before .before .queue in
+    queue .given
 
 same-length-3 : tie.Need-same-length-3
-same-length-3 c = search needs
+same-length-3 c =
+    let seq = c .before .before .before .before .before .before .before .before .before .before .before .seq in
+    seq .given
 
 same-length-4 : tie.Need-same-length-4
-same-length-4 c = search needs
+same-length-4 c =
+    let offset = c .before .before .before .before .before .before .before .before .before .offset in
+    offset .given
 
 same-length-5 : tie.Need-same-length-5
-same-length-5 c = search needs
+same-length-5 c =
+    let len = c .before .before .before .before .before .before .before .len in
+    len .given
 
 same-length-6 : tie.Need-same-length-6
-same-length-6 c = search needs
+same-length-6 c =
+    let compression = c .before .before .before .before .before .compression in
+    compression .given
 
 same-length-7 : tie.Need-same-length-7
-same-length-7 c = search needs
+same-length-7 c =
+    let entry-offset = c .before .before .before .entry-offset in
+    entry-offset .given
 
 same-length-8 : tie.Need-same-length-8
-same-length-8 c = search needs
+same-length-8 c =
+    let entry-len = c .before .entry-len in
+    entry-len .given
 
 returns : tie.Need-returns
 returns c =
