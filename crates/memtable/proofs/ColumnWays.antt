@@ -1,11 +1,13 @@
 -- The turns of the loops that fill lent slices, and what the slices then hold. Assumes nothing.
 use mathlib.Core.List.{List, [], _∷_, _++_}
 use mathlib.Core.Path.{_≡_, refl, sym, ap, _∙_}
-use Prim.Native.Nat.{ℕ, _+_, _-_, _*_, _≤_, _<_}
+use Prim.Native.Nat.{ℕ, _+_, _-_, _*_, _^_, _≤_, _<_}
 use native.Mathlib.Nat.{zero-add, le-antisymm}
 use native.Mathlib.Omega.{arith}
 use lib.ListN.{length, getD, set, drop}
 use lib.Seq.{getD-drop, drop-drop}
+use mir.Syntax.{w64}
+use mir.Val.{Fits}
 use Rattle.cells.specs.Part.{put}
 use Rattle.cells.specs.PartLaws.{put-append}
 use Rattle.cells.proofs.Steps.{Laid, laid-none, laid-snoc}
@@ -15,10 +17,11 @@ use Rattle.pipe_log.specs.Rows.{window}
 use Rattle.rules.specs.Causes.{ok, andThen}
 use Rattle.rules.specs.Items.{EntryIndex, fileOf}
 use Rattle.memtable.specs.declared.Fetched.{the-variants.Done, the-variants.ListTooShort}
-use Rattle.memtable.specs.Views.{AnyRow}
+use Rattle.memtable.specs.declared.Head.{Head}
+use Rattle.memtable.specs.Views.{AnyRow, Wf}
 use Rattle.memtable.specs.RowLaws.{row-queue, row-seq, row-offset, row-len, row-compression, row-entry-offset, row-entry-len}
 use Rattle.memtable.specs.WindowLaws.{length-window}
-use Rattle.memtable.specs.Columns.{Columns, columns, blockOffset, blockLen, laidInto, judged, columnsAfter, Answered, column, upFrom}
+use Rattle.memtable.specs.Columns.{Columns, columns, blockOffset, blockLen, laidInto, judged, columnsAfter, SameLength, Answered, column, upFrom}
 use Rattle.memtable.specs.ColumnLaws.{length-column, length-upFrom, column-snoc, column-append, upFrom-snoc, map-window, map-index}
 
 -- a cell of the rows from row `from` on, which stands at place p of xs
@@ -96,6 +99,27 @@ column-rest {d} {l} xs from k i n r h b e =
     ∙ rw t
 
 -- ---- rows as an answer
+
+-- what copying m rows from row `from` on asks, of a head and of slices of one length that have room
+module _ (h : Head) (xs : List ℕ) (w : Wf h xs) (from m : ℕ) (b : from + m ≤ h .len) where
+  pub index-fits : Fits w64 (h .«first_index» + from)
+  index-fits = let i = w .index in record { fits = omega arith }
+
+  module _ (out : Columns) (s : SameLength out) (l : m ≤ length (out .index)) where
+    rows-held : (from + m) * 8 ≤ length xs
+    rows-held = let r = w .room in omega arith
+
+    indexes-below : h .«first_index» + from + m ≤ 2 ^ 63
+    indexes-below = let i = w .index in omega arith
+
+    room-in : {n : ℕ} → n ≡ length (out .index) → m ≤ n
+    room-in e = omega arith
+
+    pub left-asked : ((from + m) * 8 ≤ length xs) × (h .«first_index» + from + m ≤ 2 ^ 63) × (m ≤ length (out .index)) × (m ≤ length (out .queue)) × (m ≤ length (out .seq)) × (m ≤ length (out .offset))
+    left-asked = (rows-held, indexes-below, l, room-in (s .queue), room-in (s .seq), room-in (s .offset))
+
+    pub right-asked : ((from + m) * 8 ≤ length xs) × (m ≤ length (out .len)) × (m ≤ length (out .compression)) × (m ≤ length (out .«entry_offset»)) × (m ≤ length (out .«entry_len»))
+    right-asked = (rows-held, room-in (s .len), room-in (s .compression), room-in (s .«entry_offset»), room-in (s .«entry_len»))
 
 module _ (f n : ℕ) (ys : List ℕ) (out : Columns) where
   pub rows-short : length (out .index) < n → Answered (ok (window f n ys)) out ListTooShort out

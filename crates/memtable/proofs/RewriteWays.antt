@@ -3,11 +3,13 @@ use mathlib.Core.Bool.{Bool, true, false, cond, not}
 use mathlib.Core.List.{List, [], _∷_, _++_, append-nil}
 use mathlib.Core.Option.{Option, none, some}
 use mathlib.Core.Path.{_≡_, refl, sym, ap, _∙_}
-use Prim.Native.Nat.{ℕ, zero, suc, _+_, _-_, _*_, _/_, _≤_, _<_, min, max}
+use Prim.Native.Nat.{ℕ, zero, suc, _+_, _-_, _*_, _/_, _^_, _≤_, _<_, min, max}
 use native.Mathlib.Decide.{decLt}
 use native.Mathlib.Omega.{arith}
-use lib.ListN.{length, getD, set, take, drop}
+use lib.ListN.{length, getD, set, take, drop, length-set}
 use lib.Seq.{getD-drop, take-nil}
+use mir.Syntax.{w64}
+use mir.Val.{Fits}
 use borrow.Author.Tests.{le-leb, lt-leb}
 use Rattle.cells.specs.Part.{part, put}
 use Rattle.cells.proofs.Steps.{Laid, laid-none, laid-snoc}
@@ -437,6 +439,96 @@ row-copied d rows at from a b =
     let l₇ = next-number at from 6 7 (at + 6) (from + 6) rows refl refl refl l₆ (omega arith) (omega arith) in
     let l₈ = next-number at from 7 8 (at + 7) (from + 7) rows refl refl refl l₇ (omega arith) (omega arith) in
     l₈ .is
+
+-- a row of eight numbers within n numbers that have room: its places, and where they lie in bytes
+module _ (at n : ℕ) (a : at + 8 ≤ n) where
+  pub first-in : at < n
+  first-in = omega arith
+
+  pub cell-in : (j : ℕ) → j < 8 → at + j < n
+  cell-in j l = omega arith
+
+  module _ (r : (n < 2 ^ 64) × (n * 8 < 2 ^ 63)) where
+    pub first-byte : Fits w64 (at * 8)
+    first-byte = omega (arith, r)
+
+    pub cell-fits : (j : ℕ) → j < 8 → Fits w64 (at + j)
+    cell-fits j l = omega (arith, r)
+
+    pub cell-byte : (j : ℕ) → j < 8 → Fits w64 ((at + j) * 8)
+    cell-byte j l = omega (arith, r)
+
+-- each number that is written leaves the length
+module _ (d rows : List ℕ) (at from : ℕ) where
+  abbrev written₁ : List ℕ
+  written₁ = set d at (getD rows from 0)
+
+  abbrev written₂ : List ℕ
+  written₂ = set written₁ (at + 1) (getD rows (from + 1) 0)
+
+  abbrev written₃ : List ℕ
+  written₃ = set written₂ (at + 2) (getD rows (from + 2) 0)
+
+  abbrev written₄ : List ℕ
+  written₄ = set written₃ (at + 3) (getD rows (from + 3) 0)
+
+  abbrev written₅ : List ℕ
+  written₅ = set written₄ (at + 4) (getD rows (from + 4) 0)
+
+  abbrev written₆ : List ℕ
+  written₆ = set written₅ (at + 5) (getD rows (from + 5) 0)
+
+  abbrev written₇ : List ℕ
+  written₇ = set written₆ (at + 6) (getD rows (from + 6) 0)
+
+  abbrev written₈ : List ℕ
+  written₈ = set written₇ (at + 7) (getD rows (from + 7) 0)
+
+  long₁ : length written₁ ≡ length d
+  long₁ = length-set d at (getD rows from 0)
+
+  long₂ : length written₂ ≡ length d
+  long₂ = length-set written₁ (at + 1) (getD rows (from + 1) 0) ∙ long₁
+
+  long₃ : length written₃ ≡ length d
+  long₃ = length-set written₂ (at + 2) (getD rows (from + 2) 0) ∙ long₂
+
+  long₄ : length written₄ ≡ length d
+  long₄ = length-set written₃ (at + 3) (getD rows (from + 3) 0) ∙ long₃
+
+  long₅ : length written₅ ≡ length d
+  long₅ = length-set written₄ (at + 4) (getD rows (from + 4) 0) ∙ long₄
+
+  long₆ : length written₆ ≡ length d
+  long₆ = length-set written₅ (at + 5) (getD rows (from + 5) 0) ∙ long₅
+
+  long₇ : length written₇ ≡ length d
+  long₇ = length-set written₆ (at + 6) (getD rows (from + 6) 0) ∙ long₆
+
+  pub long₈ : length written₈ ≡ length d
+  long₈ = length-set written₇ (at + 7) (getD rows (from + 7) 0) ∙ long₇
+
+  module _ (a : at + 8 ≤ length d) where
+    pub in₁ : at + 1 < length written₁
+    in₁ = omega (arith, long₁)
+
+    pub in₂ : at + 2 < length written₂
+    in₂ = omega (arith, long₂)
+
+    pub in₃ : at + 3 < length written₃
+    in₃ = omega (arith, long₃)
+
+    pub in₄ : at + 4 < length written₄
+    in₄ = omega (arith, long₄)
+
+    pub in₅ : at + 5 < length written₅
+    in₅ = omega (arith, long₅)
+
+    pub in₆ : at + 6 < length written₆
+    in₆ = omega (arith, long₆)
+
+    pub in₇ : at + 7 < length written₇
+    in₇ = omega (arith, long₇)
 
 -- what lies behind what is laid in is as it was
 behind-laid : {d s l : List ℕ} (at i j : ℕ) → Laid d at s l → length s ≡ i → at + i ≤ j → at ≤ length d → getD l j 0 ≡ getD d j 0
