@@ -1,6 +1,7 @@
 // What a call answered, compared with the stored numbers.
 ghost use mathlib.Core.Path.{_≡_};
 ghost use Rattle.scripts.specs.Agreement.{SameNumbers, Stored, rowOf};
+use pipe_log::ENTRY_WIDTH;
 use pipe_log::EntryBlock;
 use pipe_log::EntryIndex;
 
@@ -37,7 +38,7 @@ pub fn numbers_are(got: &[u64], n: usize, want: &[u64], at: usize) -> bool
 pub fn is_told(told: [u64; 3], want: &[u64], at: usize) -> bool
     ensures { λ r. ⌜ SameNumbers told 3 (now (want .entry)) at r ⌝ }
 {
-    numbers_are(&told, 3, want, at)
+    numbers_are(&told, ROWS, want, at)
 }
 
 // Whether an answer is told as stored, and with it as many numbers of a list as it tells.
@@ -81,7 +82,7 @@ pub fn bytes_are(got: &[u8], n: usize, want: &[u64], at: usize) -> bool
 }
 
 // The row of a record; one without a block has the queue 2.
-fn row_of(entry: EntryIndex) -> [u64; 8]
+fn row_of(entry: EntryIndex) -> [u64; ENTRY_WIDTH]
     ensures { λ r. ⌜ r ≡ rowOf entry ⌝ }
 {
     let compression_type = entry.compression_type;
@@ -122,5 +123,5 @@ pub fn record_is(entry: EntryIndex, want: &[u64], at: usize) -> bool
     ensures { λ r. ⌜ SameNumbers (rowOf entry) 8 (now (want .entry)) at r ⌝ }
 {
     let row = row_of(entry);
-    numbers_are(&row, 8, want, at)
+    numbers_are(&row, ENTRY_WIDTH, want, at)
 }

@@ -14,24 +14,23 @@ use pipe_log::CompressionType;
 use pipe_log::ENTRY_WIDTH;
 use pipe_log::EntryBlock;
 use pipe_log::EntryIndex;
+use stretch::MAX_ENTRIES;
 
-// The rows of the lent lists, and the numbers of a list of rows.
-const MOST_ENTRIES: usize = 64;
-
-const ROW_NUMBERS: usize = MOST_ENTRIES * ENTRY_WIDTH;
+// The numbers of a list with a row for each entry of a group.
+const ROW_NUMBERS: usize = MAX_ENTRIES * ENTRY_WIDTH;
 
 // Whether the first `n` numbers of a column are stored from place `at` on.
-fn column_is(column: [u64; MOST_ENTRIES], n: usize, want: &[u64], at: usize) -> bool {
+fn column_is(column: [u64; MAX_ENTRIES], n: usize, want: &[u64], at: usize) -> bool {
     numbers_are(&column, n, want, at)
 }
 
 // Whether an answer is told as stored, and with it the columns one behind another, as far as it tells.
-fn columns_are(told: [u64; 3], columns: [[u64; MOST_ENTRIES]; 8], want: &[u64]) -> bool {
+fn columns_are(told: [u64; 3], columns: [[u64; MAX_ENTRIES]; 8], want: &[u64]) -> bool {
     if !is_told(told, want, 0) {
         return false;
     }
     let n = told[1] as usize;
-    if MOST_ENTRIES < n {
+    if MAX_ENTRIES < n {
         return false;
     }
     let mut at = ROWS;
@@ -118,14 +117,14 @@ fn fetch_columns(
 fn in_slices(row: Row, xs: &[u64], bs: &[u8], want: &[u64]) -> bool
     requires { ⌜ Wf (now xs) (now bs) ⌝ }
 {
-    let mut index = [0u64; MOST_ENTRIES];
-    let mut queue = [0u64; MOST_ENTRIES];
-    let mut seq = [0u64; MOST_ENTRIES];
-    let mut offset = [0u64; MOST_ENTRIES];
-    let mut len = [0u64; MOST_ENTRIES];
-    let mut compression = [0u64; MOST_ENTRIES];
-    let mut entry_offset = [0u64; MOST_ENTRIES];
-    let mut entry_len = [0u64; MOST_ENTRIES];
+    let mut index = [0u64; MAX_ENTRIES];
+    let mut queue = [0u64; MAX_ENTRIES];
+    let mut seq = [0u64; MAX_ENTRIES];
+    let mut offset = [0u64; MAX_ENTRIES];
+    let mut len = [0u64; MAX_ENTRIES];
+    let mut compression = [0u64; MAX_ENTRIES];
+    let mut entry_offset = [0u64; MAX_ENTRIES];
+    let mut entry_len = [0u64; MAX_ENTRIES];
     let answer = fetch_columns(
         row,
         xs,
@@ -187,7 +186,7 @@ fn in_rows(row: Row, xs: &[u64], bs: &[u8], want: &[u64]) -> bool
         return false;
     }
     let n = told[1] as usize;
-    if MOST_ENTRIES < n {
+    if MAX_ENTRIES < n {
         return false;
     }
     let all = n * ENTRY_WIDTH;
@@ -195,14 +194,14 @@ fn in_rows(row: Row, xs: &[u64], bs: &[u8], want: &[u64]) -> bool
 }
 
 // Whether the first `n` records of a list are the stored ones.
-fn records_are(list: [EntryIndex; MOST_ENTRIES], n: usize, want: &[u64]) -> bool {
-    if MOST_ENTRIES < n {
+fn records_are(list: [EntryIndex; MAX_ENTRIES], n: usize, want: &[u64]) -> bool {
+    if MAX_ENTRIES < n {
         return false;
     }
     let mut i = 0;
     while i < n {
         let e = list[i];
-        if !record_is(e, want, ROWS + n * 8 + i * 8) {
+        if !record_is(e, want, ROWS + n * ENTRY_WIDTH + i * ENTRY_WIDTH) {
             return false;
         }
         i += 1;
@@ -222,7 +221,7 @@ fn in_records(row: Row, xs: &[u64], bs: &[u8], want: &[u64]) -> bool
         entry_offset: 0,
         entry_len: 0,
     };
-    let list = [empty; MOST_ENTRIES];
+    let list = [empty; MAX_ENTRIES];
     let listed = records::fetch_listed(xs, bs, row.group, asks::fetch_of(row), list);
     let answer = listed.answer;
     let told = told_fetched(answer);

@@ -8,9 +8,14 @@ use crate::compare::numbers_are;
 use crate::row::Row;
 use crate::told::told_fetched;
 use index::Fetched;
+use kvs::rows::LENS_WIDTH;
+use kvs::rows::ROW_BYTES;
+use stretch::MAX_KEYS;
 
-// The rows of the lent lists.
-const MOST_KEYS: usize = 16;
+// The numbers and the bytes of lists with a row for each key of a group.
+const ALL_LENS: usize = MAX_KEYS * LENS_WIDTH;
+
+const ALL_BYTES: usize = MAX_KEYS * ROW_BYTES;
 
 // A scan whose start is the first bytes of a list, and whose end the rest.
 fn scan(row: Row, xs: &[u64], bs: &[u8], bytes: &[u8], lens: &mut [u64], out: &mut [u8]) -> Fetched
@@ -49,20 +54,20 @@ fn fetch(row: Row, xs: &[u64], bs: &[u8], bytes: &[u8], lens: &mut [u64], out: &
 }
 
 // Whether as many rows of keys as an answer tells are the stored ones: their lengths, and then their bytes.
-fn keys_are(told: [u64; 3], lens: [u64; 32], out: [u8; 1024], want: &[u64]) -> bool
+fn keys_are(told: [u64; 3], lens: [u64; ALL_LENS], out: [u8; ALL_BYTES], want: &[u64]) -> bool
     ensures { λ r. ⌜ Stored (now (want .entry)) r ⌝ }
 {
     if !is_told(told, want, 0) {
         return false;
     }
     let n = told[1] as usize;
-    if MOST_KEYS < n {
+    if MAX_KEYS < n {
         return false;
     }
-    if !numbers_are(&lens, n * 2, want, ROWS) {
+    if !numbers_are(&lens, n * LENS_WIDTH, want, ROWS) {
         return false;
     }
-    bytes_are(&out, n * 64, want, ROWS + n * 2)
+    bytes_are(&out, n * ROW_BYTES, want, ROWS + n * LENS_WIDTH)
 }
 
 // Whether a query of keys is answered as stored, with room for so many rows.
@@ -71,13 +76,13 @@ pub fn keys(row: Row, xs: &[u64], bs: &[u8], bytes: &[u8], want: &[u64]) -> bool
     ensures { λ r. ⌜ Stored (now (want .entry)) r ⌝ }
 {
     let room = row.room as usize;
-    if MOST_KEYS < room {
+    if MAX_KEYS < room {
         return false;
     }
-    let l = room * 2;
-    let o = room * 64;
-    let mut lens = [0u64; 32];
-    let mut out = [0u8; 1024];
+    let l = room * LENS_WIDTH;
+    let o = room * ROW_BYTES;
+    let mut lens = [0u64; ALL_LENS];
+    let mut out = [0u8; ALL_BYTES];
     let answer = fetch(row, xs, bs, bytes, &mut lens[..l], &mut out[..o]);
     keys_are(told_fetched(answer), lens, out, want)
 }

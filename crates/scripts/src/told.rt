@@ -9,6 +9,12 @@ use index::FoundNumber;
 use index::Position;
 use index::SomeBefore;
 use index::Taken;
+use pipe_log::causes::BAD_RANGE;
+use pipe_log::causes::ENTRY_COMPACTED;
+use pipe_log::causes::ENTRY_NOT_FOUND;
+use pipe_log::causes::GROUP_ABSENT;
+use pipe_log::causes::LIST_TOO_SHORT;
+use pipe_log::causes::WRONG_KIND;
 
 // A refusal with its position.
 fn told_place(number: u64, place: Position) -> [u64; 3]
@@ -35,7 +41,7 @@ pub fn told_number(found: FoundNumber) -> [u64; 3]
     ensures { λ r. ⌜ r ≡ toldNumber found ⌝ }
 {
     match found {
-        FoundNumber::GroupAbsent => [9, 0, 0],
+        FoundNumber::GroupAbsent => [GROUP_ABSENT, 0, 0],
         FoundNumber::Absent => [0, 0, 0],
         FoundNumber::At(n) => [0, 1, n],
     }
@@ -46,7 +52,7 @@ pub fn told_count(counted: Counted) -> [u64; 3]
     ensures { λ r. ⌜ r ≡ toldCount counted ⌝ }
 {
     match counted {
-        Counted::GroupAbsent => [9, 0, 0],
+        Counted::GroupAbsent => [GROUP_ABSENT, 0, 0],
         Counted::Is(n) => [0, n as u64, 0],
     }
 }
@@ -56,7 +62,7 @@ pub fn told_entry(found: FoundEntry) -> [u64; 3]
     ensures { λ r. ⌜ r ≡ toldEntry found ⌝ }
 {
     match found {
-        FoundEntry::GroupAbsent => [9, 0, 0],
+        FoundEntry::GroupAbsent => [GROUP_ABSENT, 0, 0],
         FoundEntry::Absent => [0, 0, 0],
         FoundEntry::At(_) => [0, 1, 0],
     }
@@ -77,8 +83,8 @@ pub fn told_before(answer: SomeBefore) -> [u64; 3]
     ensures { λ r. ⌜ r ≡ toldBefore answer ⌝ }
 {
     match answer {
-        SomeBefore::GroupAbsent => [9, 0, 0],
-        SomeBefore::BadRange => [10, 0, 0],
+        SomeBefore::GroupAbsent => [GROUP_ABSENT, 0, 0],
+        SomeBefore::BadRange => [BAD_RANGE, 0, 0],
         SomeBefore::Is(b) => told_flag(b),
     }
 }
@@ -89,11 +95,11 @@ pub fn told_fetched(answer: Fetched) -> [u64; 3]
 {
     match answer {
         Fetched::Done(n) => [0, n as u64, 0],
-        Fetched::GroupAbsent => [9, 0, 0],
-        Fetched::BadRange => [10, 0, 0],
-        Fetched::EntryCompacted => [11, 0, 0],
-        Fetched::EntryNotFound => [12, 0, 0],
-        Fetched::ListTooShort => [19, 0, 0],
+        Fetched::GroupAbsent => [GROUP_ABSENT, 0, 0],
+        Fetched::BadRange => [BAD_RANGE, 0, 0],
+        Fetched::EntryCompacted => [ENTRY_COMPACTED, 0, 0],
+        Fetched::EntryNotFound => [ENTRY_NOT_FOUND, 0, 0],
+        Fetched::ListTooShort => [LIST_TOO_SHORT, 0, 0],
     }
 }
 
@@ -103,7 +109,7 @@ pub fn told_taken(answer: Taken) -> [u64; 3]
 {
     match answer {
         Taken::Done(n) => [0, n as u64, 0],
-        Taken::WrongKind => [1, 0, 0],
-        Taken::ListTooShort => [19, 0, 0],
+        Taken::WrongKind => [WRONG_KIND, 0, 0],
+        Taken::ListTooShort => [LIST_TOO_SHORT, 0, 0],
     }
 }
