@@ -112,23 +112,54 @@ finish-some s [] o e = absurd (clash e)
 finish-some s (x ∷ l) o e = refl
 
 -- a copy of a part
-pub copied : (a n : ℕ) (d xs : List ℕ) → length d ≡ n → a + n ≤ length xs → put d 0 (take n (drop a xs)) ≡ part a n xs
+copied : (a n : ℕ) (d xs : List ℕ) → length d ≡ n → a + n ≤ length xs → put d 0 (take n (drop a xs)) ≡ part a n xs
 copied a n d xs e h = ap (put d 0) (part-is a n xs) ∙ put-all d (part a n xs) (length-part a n xs h ∙ sym e)
 
+-- a room's numbers and its bytes, copied
+pub numbers-copied : (d xs l : List ℕ) → length d ≡ 3490 → length xs ≡ 17231 → l ≡ put d 0 (take 3490 (drop 10019 xs)) → l ≡ part 10019 3490 xs
+numbers-copied d xs l e n h = h ∙ copied 10019 3490 d xs e (omega arith)
+
+pub bytes-copied : (d bs l : List ℕ) → length d ≡ 8192 → length bs ≡ 38912 → l ≡ put d 0 (take 8192 (drop 20480 bs)) → l ≡ part 20480 8192 bs
+bytes-copied d bs l e n h = h ∙ copied 20480 8192 d bs e (omega arith)
+
 -- a room's numbers, as they are lent
+pub room-length : (xs : List ℕ) → length xs ≡ 17231 → length (take 3490 (drop 10019 xs)) ≡ 3490
+room-length xs n = rw (part-is 10019 3490 xs) (length-part 10019 3490 xs (omega arith))
+
 pub room-lent : (xs : List ℕ) → length xs ≡ 17231 → getD (part 10019 3490 xs) 0 0 ≤ 128 → (length (take 3490 (drop 10019 xs)) ≡ 3490) × (getD (take 3490 (drop 10019 xs)) 0 0 ≤ 128)
 room-lent xs n h = rw (part-is 10019 3490 xs) (length-part 10019 3490 xs (omega arith), h)
 
 -- the work table becomes o in its area
-pub lent-loaded : (xs bs p b : List ℕ) (o : Option Table) → length xs ≡ 17231 → length bs ≡ 38912 → Becomes o p b → Loaded o xs bs (putMid 13509 (length xs - 13509) xs p) (putMid 28672 (length bs - 28672) bs b)
+lent-loaded : (xs bs p b : List ℕ) (o : Option Table) → length xs ≡ 17231 → length bs ≡ 38912 → Becomes o p b → Loaded o xs bs (putMid 13509 (length xs - 13509) xs p) (putMid 28672 (length bs - 28672) bs b)
 lent-loaded xs bs p b o n m k =
     record {
       becomes = rw (long-back xs p n (k .wf .numbers-are), lent-back xs p n (k .wf .numbers-are) bs b m (k .wf .bytes-are)) k;
       working = lent-working xs p n (k .wf .numbers-are) bs b m (k .wf .bytes-are);
     }
 
-pub closed : (s : Span) (o : Option Table) (p b : List ℕ) (r : Outcome) (p′ b′ : List ℕ) → Becomes o p b → Ends (andThen (spanned s (made (workIn p b))) (λ t. ok (some t))) r p′ b′ → Ends (andThen (spanned s (made o)) (λ t. ok (some t))) r p′ b′
+-- the items of the area's own room, of which there is a copy, are replayed on the work table, as it is lent
+pub lent-replayed : (tag : ℕ) (xs bs ws vs p b : List ℕ) → length xs ≡ 17231 → length bs ≡ 38912 → ws ≡ part 10019 3490 xs → vs ≡ part 20480 8192 bs → Becomes (replayedItems (itemsWith tag (tagged ws vs)) (workIn (take (length xs - 13509) (drop 13509 xs)) (take (length bs - 28672) (drop 28672 bs)))) p b → Loaded (replayedItems (itemsWith tag (tagged (part 10019 3490 xs) (part 20480 8192 bs))) (workIn (drop 13509 xs) (drop 28672 bs))) xs bs (putMid 13509 (length xs - 13509) xs p) (putMid 28672 (length bs - 28672) bs b)
+lent-replayed tag xs bs ws vs p b n m e f k = lent-loaded xs bs p b _ n m (rw (part-to-end xs 13509, part-to-end bs 28672, e, f) at k)
+
+closed : (s : Span) (o : Option Table) (p b : List ℕ) (r : Outcome) (p′ b′ : List ℕ) → Becomes o p b → Ends (andThen (spanned s (made (workIn p b))) (λ t. ok (some t))) r p′ b′ → Ends (andThen (spanned s (made o)) (λ t. ok (some t))) r p′ b′
 closed s o p b r p′ b′ k d = rw (k .is) at d
+
+-- the same of a room that is lent
+abbrev pub RoomReady : ℕ → List ℕ → List ℕ → List ℕ → List ℕ → Type 0
+RoomReady tag ws vs p b = work.Wf p b × (RoomWf 16 ws vs × Replayable (itemsWith tag (tagged ws vs)) (workIn p b))
+
+module _ (tag : ℕ) (ys cs p b : List ℕ) where
+  abbrev lent-items : List rules.LogItem
+  lent-items = itemsWith tag (tagged (take 3490 (drop 10019 ys)) (take 8192 (drop 20480 cs)))
+
+  abbrev room-items : List rules.LogItem
+  room-items = itemsWith tag (tagged (part 10019 3490 ys) (part 20480 8192 cs))
+
+  pub lent-ready : RoomReady tag (part 10019 3490 ys) (part 20480 8192 cs) p b → RoomReady tag (take 3490 (drop 10019 ys)) (take 8192 (drop 20480 cs)) p b
+  lent-ready r = rw (part-is 10019 3490 ys, part-is 20480 8192 cs) r
+
+  pub lent-closed : (s : Span) (p′ b′ : List ℕ) (r : Outcome) (p″ b″ : List ℕ) → Becomes (replayedItems lent-items (workIn p b)) p′ b′ → Ends (andThen (spanned s (made (workIn p′ b′))) (λ t. ok (some t))) r p″ b″ → Ends (andThen (spanned s (made (replayedItems room-items (workIn p b)))) (λ t. ok (some t))) r p″ b″
+  lent-closed s p′ b′ r p″ b″ k d = rw (part-is 10019 3490 ys, part-is 20480 8192 cs) at (closed s (replayedItems lent-items (workIn p b)) p′ b′ r p″ b″ k d)
 
 module _ (e : Ending) (xs ys : List ℕ) (r : Bool) where
   abbrev older-items : List ℕ → List rules.LogItem
@@ -168,7 +199,7 @@ module _ (e : Ending) (xs bs ys cs : List ℕ) (g : EndingGiven e xs bs ys cs) w
     pub newer-ready : Replayable (newer-items e xs ys true cs) (workIn (drop longNumbers xs′) (drop longBytes bs′))
     newer-ready = rw (l .becomes .is) (back-replayable (older-items e xs ys true bs) (newer-items e xs ys true cs) was (unfold endingItems in g .ready))
 
-    pub ended-some : (r : Outcome) (p b : List ℕ) → hasItems (endingItems e xs bs ys cs) ≡ true → Ends (andThen (spanned (endingSpan e) (made (replayedItems (newer-items e xs ys true cs) (workIn (drop longNumbers xs′) (drop longBytes bs′))))) (λ t. ok (some t))) r p b → WorkedAs (finishWith (endingSpan e) (endingItems e xs bs ys cs) was) xs bs r (putMid 13509 (length xs′ - 13509) xs′ p) (putMid 28672 (length bs′ - 28672) bs′ b)
+    ended-some : (r : Outcome) (p b : List ℕ) → hasItems (endingItems e xs bs ys cs) ≡ true → Ends (andThen (spanned (endingSpan e) (made (replayedItems (newer-items e xs ys true cs) (workIn (drop longNumbers xs′) (drop longBytes bs′))))) (λ t. ok (some t))) r p b → WorkedAs (finishWith (endingSpan e) (endingItems e xs bs ys cs) was) xs bs r (putMid 13509 (length xs′ - 13509) xs′ p) (putMid 28672 (length bs′ - 28672) bs′ b)
     ended-some r p b h d =
         let n : length xs′ ≡ 17231 = l .working .numbers-length ∙ g .numbers-are in
         let k : length bs′ ≡ 38912 = l .working .bytes-length ∙ g .bytes-are in
@@ -179,7 +210,16 @@ module _ (e : Ending) (xs bs ys cs : List ℕ) (g : EndingGiven e xs bs ys cs) w
           working = working-then (l .working) (lent-working xs′ p n (d .wf .numbers-are) bs′ b k (d .wf .bytes-are));
         }
 
+    -- the same, with the work table as it is lent
+    pub ended-lent : (r : Outcome) (p b : List ℕ) → hasItems (endingItems e xs bs ys cs) ≡ true → Ends (andThen (spanned (endingSpan e) (made (replayedItems (newer-items e xs ys true cs) (workIn (take (length xs′ - 13509) (drop 13509 xs′)) (take (length bs′ - 28672) (drop 28672 bs′)))))) (λ t. ok (some t))) r p b → WorkedAs (finishWith (endingSpan e) (endingItems e xs bs ys cs) was) xs bs r (putMid 13509 (length xs′ - 13509) xs′ p) (putMid 28672 (length bs′ - 28672) bs′ b)
+    ended-lent r p b h d = ended-some r p b h (rw (part-to-end xs′ 13509, part-to-end bs′ 28672) at d)
+
 -- ---- what finishes of a group
+
+-- what the search for it tells of the rooms, as they are lent
+abbrev pub FinishingOf : ℕ → List ℕ → List ℕ → Finishing → Type 0
+FinishingOf g ws us r =
+    (vs ds : List ℕ) → RoomWf 16 ws vs → RoomWf 16 us ds → finishedOf (lookup numbers g (waitingOf us ds)) (lookup numbers g (waitingOf ws vs)) ≡ finishedAs r (tagged ws vs) (tagged us ds)
 
 every-last : {A : Type 0} (p : A → Bool) (xs : List A) (x : A) → every p xs ≡ true → last xs ≡ some x → p x ≡ true
 unfolding last
@@ -249,7 +289,7 @@ module _ (g : ℕ) (xs bs ys cs : List ℕ) (k : PartsGiven g xs bs ys cs) where
           keys = omega (arith, b, n);
         }
 
-  module _ (r : Finishing) (is : (vs ds : List ℕ) → RoomWf 16 (take 3490 (drop 10019 xs)) vs → RoomWf 16 (take 3490 (drop 10019 ys)) ds → finishedOf (lookup numbers g (waitingOf (take 3490 (drop 10019 ys)) ds)) (lookup numbers g (waitingOf (take 3490 (drop 10019 xs)) vs)) ≡ finishedAs r (tagged (take 3490 (drop 10019 xs)) vs) (tagged (take 3490 (drop 10019 ys)) ds)) where
+  module _ (r : Finishing) (is : FinishingOf g (take 3490 (drop 10019 xs)) (take 3490 (drop 10019 ys)) r) where
     found : finishedAt g (contextOf ys cs) (contextOf xs bs) ≡ finishedAs r (tagged (waitingNumbers xs) (waitingBytes bs)) (tagged (waitingNumbers ys) (waitingBytes cs))
     unfolding finishedAt
     found =

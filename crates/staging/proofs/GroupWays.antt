@@ -4,7 +4,8 @@ use mathlib.Core.List.{List}
 use mathlib.Core.Option.{Option, none}
 use mathlib.Core.Path.{_≡_, refl, sym, ap, _∙_}
 use Prim.Native.Nat.{ℕ, _-_}
-use lib.ListN.{length, drop}
+use lib.ListN.{length, take, drop}
+use borrow.Rule.Slice.PartAt.{part-to-end}
 use borrow.Rule.Slice.PartMut.{putMid}
 use Rattle.maps.specs.Maps.{lookup, numbers}
 use Rattle.rules.specs.Causes.{Result, ok, refused, andThen}
@@ -97,9 +98,13 @@ module _ (m : Mode) (g : ℕ) (xs bs ys cs : List ℕ) (given : Given m xs bs ys
           older-of m (contextOf xs bs) g (contextOf ys cs .tombstones) _ (given .wf .kept) (given .kind)
           (λ h. after-rewrite g xs₁ bs₁ ys cs parts-given _ done-here (rw groups-stay (rw (context-groups xs bs) at h)))
 
-      pub group-worked : (r : Outcome) (p b : List ℕ) → Ends (rest (workIn (drop longNumbers xs₂) (drop longBytes bs₂))) r p b → WorkedAs (groupBy m (contextOf ys cs) (contextOf xs bs) g) xs bs r (putMid 13509 (length xs₂ - 13509) xs₂ p) (putMid 28672 (length bs₂ - 28672) bs₂ b)
+      group-worked : (r : Outcome) (p b : List ℕ) → Ends (rest (workIn (drop longNumbers xs₂) (drop longBytes bs₂))) r p b → WorkedAs (groupBy m (contextOf ys cs) (contextOf xs bs) g) xs bs r (putMid 13509 (length xs₂ - 13509) xs₂ p) (putMid 28672 (length bs₂ - 28672) bs₂ b)
       group-worked r p b d =
           record {
             ends = rw (long-back xs₂ p numbers-stay (d .wf .numbers-are), lent-back xs₂ p numbers-stay (d .wf .numbers-are) bs₂ b bytes-stay (d .wf .bytes-are), group-whole, andThen-of finished rest _ done-is) d;
             working = working-then moved (lent-working xs₂ p numbers-stay (d .wf .numbers-are) bs₂ b bytes-stay (d .wf .bytes-are));
           }
+
+      -- the same, with the work table as it is lent
+      pub group-lent : (r : Outcome) (p b : List ℕ) → Ends (rest (workIn (take (length xs₂ - 13509) (drop 13509 xs₂)) (take (length bs₂ - 28672) (drop 28672 bs₂)))) r p b → WorkedAs (groupBy m (contextOf ys cs) (contextOf xs bs) g) xs bs r (putMid 13509 (length xs₂ - 13509) xs₂ p) (putMid 28672 (length bs₂ - 28672) bs₂ b)
+      group-lent r p b d = group-worked r p b (rw (part-to-end xs₂ 13509, part-to-end bs₂ 28672) at d)

@@ -50,6 +50,10 @@ use Rattle.staging.specs.WorkLaws.{laid-none, laid-some, newer-of}
 length-back : (a : ℕ) (d s : List ℕ) → a ≤ length d → length s ≡ length d - a → length (putMid a (length d - a) d s) ≡ length d
 length-back a d s h e = ap length (loan-put a (length d - a) d s e) ∙ length-put d a s (omega arith)
 
+-- the long stretch's bytes come back
+pub long-bytes-back : (bs b : List ℕ) → length bs ≡ 38912 → length b ≡ 10240 → length (putMid 28672 (length bs - 28672) bs b) ≡ length bs
+long-bytes-back bs b m l = length-back 28672 bs b (omega arith) (omega arith)
+
 pub long-bytes-length : (bs : List ℕ) → length bs ≡ 38912 → length (drop 28672 bs) ≡ 10240
 long-bytes-length bs m = omega (arith, length-drop 28672 bs)
 
@@ -77,7 +81,7 @@ module _ (xs : List ℕ) (p : List ℕ) (n : length xs ≡ 17231) (k : length p 
           front = long-front;
           front-bytes = before-back 28672 bs b (omega arith);
           numbers-length = long-length;
-          bytes-length = length-back 28672 bs b (omega arith) (omega arith);
+          bytes-length = long-bytes-back bs b m l;
         }
 
     pub lent-back : drop longBytes (putMid 28672 (length bs - 28672) bs b) ≡ b
@@ -114,6 +118,9 @@ module _ (g : ℕ) (xs bs : List ℕ) (w : Wf xs bs) (slot : Slot) (f : Found g 
 
 -- ---- the newer tombstones
 
+abbrev pub OnlyTombs : Store → Area → Type 0
+OnlyTombs s a = Stored s a × (allTombstones (storeItems s a) ≡ true)
+
 -- the newer tombstones, as they are lent
 module _ (ys cs : List ℕ) where
   abbrev lentStore : Store
@@ -130,16 +137,15 @@ module _ (ys cs : List ℕ) where
   unfolding tombstoneArea
   area-is = rw (part-is 9443 576 ys, part-is 16384 4096 cs, part-drop 67 576 9376 ys, part-drop 0 4096 16384 cs)
 
-  pub lent-tombstones : storeItems lentStore lentArea ≡ contextOf ys cs .tombstones
+  lent-tombstones : storeItems lentStore lentArea ≡ contextOf ys cs .tombstones
   unfolding contextOf restAt withWaiting withGroups restOf tombstonesIn
   lent-tombstones = rw (store-is, area-is)
 
-  module _ (w : Wf ys cs) where
-    pub lent-stored : Stored lentStore lentArea
-    lent-stored = rw (store-is, area-is) (w .rest .tombstones)
+  pub lent-tombed : (g : ℕ) (p b p′ b′ : List ℕ) → Becomes (tombed g (storeItems lentStore lentArea) (workIn p b)) p′ b′ → Becomes (tombed g (contextOf ys cs .tombstones) (workIn p b)) p′ b′
+  lent-tombed g p b p′ b′ k = rw lent-tombstones at k
 
-    pub lent-only : allTombstones (storeItems lentStore lentArea) ≡ true
-    lent-only = rw lent-tombstones (w .kept .tombstones-only)
+  pub lent-only : Wf ys cs → OnlyTombs lentStore lentArea
+  lent-only w = (rw (store-is, area-is) (w .rest .tombstones), rw lent-tombstones (w .kept .tombstones-only))
 
 -- ---- the newer table
 

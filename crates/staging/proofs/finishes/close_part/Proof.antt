@@ -1,6 +1,6 @@
 -- `staging::finishes::close_part` meets its contract. Assumes nothing.
-use Rattle.cells.specs.PartLaws.{part-is}
-use Rattle.staging.proofs.FinishingWays.{closed}
+use Rattle.staging.specs.Finishings.{endingSpan}
+use Rattle.staging.proofs.FinishingWays.{lent-ready, lent-closed}
 use borrow.Author.Needs.{needs}
 use Rattle.staging.proofs.finishes.close_part.Statement.{statement}
 use Rattle.staging.proofs.finishes.close_part.Tie as tie
@@ -29,7 +29,7 @@ part-replay-part-end-2 c = search needs
 replay-part-requires : tie.Need-replay-part-requires
 replay-part-requires c κs =
     let start = c .before .before .before .before .before .before .before .before in
-    let p = start .pre in rw (part-is 10019 3490 (start .args .ys .now), part-is 20480 8192 (start .args .cs .now)) (p .0, (p .1 .0 .2, p .1 .1))
+    let p = start .pre in lent-ready (start .args .ending .newer) (start .args .ys .now) (start .args .cs .now) (start .args .p .now) (start .args .b .now) (p .0, (p .1 .0 .2, p .1 .1))
 
 set-span-requires : tie.Need-set-span-requires
 set-span-requires c κs = search needs
@@ -45,7 +45,7 @@ returns c =
     let start = c .before .before .before .before .before .before .before .before .before .before .before .before .before .before .before .before .before in
     let replay-part = c .before .before .before .before .before .before .before .before .replay-part in
     let set-span = c .before .before .set-span in
-    rw (part-is 10019 3490 (start .args .ys .now), part-is 20480 8192 (start .args .cs .now)) at (closed _ _ _ _ _ _ _ (replay-part .ensures) (set-span .ensures _ (replay-part .ensures .wf)))
+    lent-closed (start .args .ending .newer) (start .args .ys .now) (start .args .cs .now) (start .args .p .now) (start .args .b .now) (endingSpan (start .args .ending)) (replay-part .last .0) (replay-part .last .1 .0) (set-span .result) (set-span .last .0) (replay-part .last .1 .0) (replay-part .ensures) (set-span .ensures (replay-part .last .1 .0) (replay-part .ensures .wf))
 
 pub close-part-spec : {M : Type 1} → statement M
 close-part-spec =

@@ -1,7 +1,5 @@
 -- `staging::finishes::copy_room` meets its contract. Assumes nothing.
-use mathlib.Core.Path.{_∙_}
-use native.Mathlib.Omega.{arith}
-use Rattle.staging.proofs.FinishingWays.{copied}
+use Rattle.staging.proofs.FinishingWays.{numbers-copied, bytes-copied}
 use borrow.Author.Needs.{needs}
 use Rattle.staging.proofs.finishes.copy_room.Statement.{statement}
 use Rattle.staging.proofs.finishes.copy_room.Tie as tie
@@ -44,7 +42,8 @@ returns c =
     let start = c .before .before .before .before .before .before .before .before .before .before .before .before .before .before in
     let copy-in-u64 = c .before .before .before .before .before .before .before .copy-in-u64 in
     let copy-in-u8 = c .before .before .copy-in-u8 in
-    let p = start .pre in (copy-in-u64 .ensures ∙ copied 10019 3490 _ _ (p .2) (omega (arith, p)), copy-in-u8 .ensures ∙ copied 20480 8192 _ _ (p .3) (omega (arith, p)))
+    let p = start .pre in
+    (numbers-copied (start .args .ws .now) (start .args .xs .now) (copy-in-u64 .last .0) (p .2) (p .0) (copy-in-u64 .ensures), bytes-copied (start .args .vs .now) (start .args .bs .now) (copy-in-u8 .last .0) (p .3) (p .1) (copy-in-u8 .ensures))
 
 pub copy-room-spec : {M : Type 1} → statement M
 copy-room-spec =

@@ -3,7 +3,8 @@ use mathlib.Core.Path.{sym, _∙_}
 use borrow.Author.Tests.{not-true, not-false}
 use borrow.Rule.Slice.PartAt.{part-to-end}
 use Rattle.parts.specs.ItemLaws.{few-items}
-use Rattle.staging.proofs.FinishingWays.{ended-none, older-ready, newer-ready, ended-some}
+use Rattle.staging.proofs.FinishingWays.{ended-none, older-ready, newer-ready, ended-lent}
+use Rattle.staging.proofs.WorkWays.{long-bytes-back}
 use borrow.Author.Needs.{needs}
 use Rattle.staging.proofs.finishes.finish_with.Statement.{statement}
 use Rattle.staging.proofs.finishes.finish_with.Tie as tie
@@ -56,16 +57,17 @@ close-part-requires c κs =
     let g = start .pre in rw (part-to-end (replay-older .last .0) 13509, part-to-end (replay-older .last .1 .0) 28672) (replay-older .ensures .becomes .wf, ((g .newer-numbers, g .newer-bytes, g .newer-room), newer-ready _ _ _ _ _ g _ _ (replay-older .ensures)))
 
 same-length-2 : tie.Need-same-length-2
-same-length-2 c = search needs
+same-length-2 c =
+    let replay-older = c .before .before .before .before .before .before .before .before .before .before .before .replay-older in
+    let xs2 = c .before .before .before .xs2 in
+    xs2 .given .1 ∙ replay-older .kept .0
 
 same-length-3 : tie.Need-same-length-3
 same-length-3 c =
     let start = c .before .before .before .before .before .before .before .before .before .before .before .before .before .before .before .before .before .before .before .before .before in
-    let any-item = c .before .before .before .before .before .before .before .before .before .before .before .before .before .before .before .any-item in
-    let if1 = c .before .before .before .before .before .before .before .before .before .before .before .before .before .before .if1 in
     let replay-older = c .before .before .before .before .before .before .before .before .before .before .before .replay-older in
     let close-part = c .before .before .before .before .close-part in
-    let g = start .pre in (ended-some _ _ _ _ _ g _ _ (replay-older .ensures) _ _ _ (sym (any-item .ensures _ _ (g .room) (g .newer-room)) ∙ not-false _ (if1 .left)) (rw (part-to-end (replay-older .last .0) 13509, part-to-end (replay-older .last .1 .0) 28672) at (close-part .ensures))) .working .bytes-length
+    long-bytes-back (replay-older .last .1 .0) (close-part .last .1 .0) (replay-older .kept .1 .0 ∙ start .pre .bytes-are) (close-part .ensures .wf .bytes-are) ∙ replay-older .kept .1 .0
 
 returns-2 : tie.Need-returns-2
 returns-2 c =
@@ -74,7 +76,7 @@ returns-2 c =
     let if1 = c .before .before .before .before .before .before .before .before .before .before .before .before .before .before .if1 in
     let replay-older = c .before .before .before .before .before .before .before .before .before .before .before .replay-older in
     let close-part = c .before .before .before .before .close-part in
-    let g = start .pre in ended-some _ _ _ _ _ g _ _ (replay-older .ensures) _ _ _ (sym (any-item .ensures _ _ (g .room) (g .newer-room)) ∙ not-false _ (if1 .left)) (rw (part-to-end (replay-older .last .0) 13509, part-to-end (replay-older .last .1 .0) 28672) at (close-part .ensures))
+    let g = start .pre in ended-lent (start .args .ending) (start .args .xs .now) (start .args .bs .now) (start .args .ys .now) (start .args .cs .now) g (replay-older .last .0) (replay-older .last .1 .0) (replay-older .ensures) (close-part .result) (close-part .last .0) (close-part .last .1 .0) (sym (any-item .ensures _ _ (g .room) (g .newer-room)) ∙ not-false _ (if1 .left)) (close-part .ensures)
 
 pub finish-with-spec : {M : Type 1} → statement M
 finish-with-spec =

@@ -1,6 +1,7 @@
 -- `staging::finishes::replay_older` meets its contract. Assumes nothing.
 use borrow.Rule.Slice.PartAt.{part-to-end}
-use Rattle.staging.proofs.FinishingWays.{lent-loaded}
+use Rattle.staging.proofs.FinishingWays.{lent-replayed}
+use Rattle.staging.proofs.WorkWays.{long-bytes-back}
 use borrow.Author.Needs.{needs}
 use Rattle.staging.proofs.finishes.replay_older.Statement.{statement}
 use Rattle.staging.proofs.finishes.replay_older.Tie as tie
@@ -48,17 +49,22 @@ replay-part-requires c κs =
     let p = start .pre in rw (part-to-end (start .args .xs .now) 13509, part-to-end (start .args .bs .now) 28672, copy-room .ensures .0, copy-room .ensures .1) (p .1 .1 .0, (p .1 .0, p .1 .1 .1))
 
 same-length : tie.Need-same-length
-same-length c = search needs
+same-length c =
+    let xs = c .before .before .before .xs in
+    xs .given .1
 
 same-length-2 : tie.Need-same-length-2
-same-length-2 c = search needs
+same-length-2 c =
+    let start = c .before .before .before .before .before .before .before .before .before .before .before .before .before .before .before .before .before .before in
+    let replay-part = c .before .before .before .before .replay-part in
+    long-bytes-back (start .args .bs .now) (replay-part .last .1 .0) (start .pre .0 .1) (replay-part .ensures .wf .bytes-are)
 
 returns : tie.Need-returns
 returns c =
     let start = c .before .before .before .before .before .before .before .before .before .before .before .before .before .before .before .before .before .before in
     let copy-room = c .before .before .before .before .before .before .before .before .before .before .before .copy-room in
     let replay-part = c .before .before .before .before .replay-part in
-    let p = start .pre in lent-loaded _ _ _ _ _ (p .0 .0) (p .0 .1) (rw (part-to-end (start .args .xs .now) 13509, part-to-end (start .args .bs .now) 28672, copy-room .ensures .0, copy-room .ensures .1) at (replay-part .ensures))
+    let p = start .pre in lent-replayed (start .args .tag) (start .args .xs .now) (start .args .bs .now) (copy-room .last .1 .1 .0) (copy-room .last .1 .1 .1 .0) (replay-part .last .0) (replay-part .last .1 .0) (p .0 .0) (p .0 .1) (copy-room .ensures .0) (copy-room .ensures .1) (replay-part .ensures)
 
 pub replay-older-spec : {M : Type 1} → statement M
 replay-older-spec =

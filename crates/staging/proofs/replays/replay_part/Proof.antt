@@ -70,10 +70,14 @@ replay-tag-requires c κs =
     let w = start .pre .1 .0 in (start .pre .0, ((lent-stored _ _ w, lent-enough _ _ w), rw (lent-tagged _ _ w) (start .pre .1 .1)))
 
 same-length : tie.Need-same-length
-same-length c = search needs
+same-length c =
+    let replay-tag = c .before .before .before .before .replay-tag in
+    replay-tag .kept .0
 
 same-length-2 : tie.Need-same-length-2
-same-length-2 c = search needs
+same-length-2 c =
+    let replay-tag = c .before .before .before .before .replay-tag in
+    replay-tag .kept .1 .0
 
 returns : tie.Need-returns
 returns c =

@@ -1,16 +1,16 @@
 -- `staging::stages::settle_free` meets its contract. Assumes nothing.
 use mathlib.Core.Path.{sym, _∙_}
 use borrow.Author.Tests.{not-true, not-false}
-use Rattle.staging.proofs.StageWays.{lent-used, free-clashed, free-none, free-done}
+use Rattle.staging.proofs.StageWays.{long-inside, lent-head, lent-used, free-clashed, free-none, free-done}
 use borrow.Author.Needs.{needs}
 use Rattle.staging.proofs.stages.settle_free.Statement.{statement}
 use Rattle.staging.proofs.stages.settle_free.Tie as tie
 
 enum-told : tie.Need-enum-told
-enum-told c = search needs
+enum-told c = c .match .keys1
 
 enum-told-2 : tie.Need-enum-told-2
-enum-told-2 c = search needs
+enum-told-2 c = c .match .keys2
 
 returns : tie.Need-returns
 returns c =
@@ -22,16 +22,22 @@ mul-is-there : tie.Need-mul-is-there
 mul-is-there c = search needs
 
 sub-is-there : tie.Need-sub-is-there
-sub-is-there c = search needs
+sub-is-there c =
+    let start = c .before .before .before .before in
+    long-inside (start .args .xs .now) (start .pre .1 .1 .0 .0)
 
 part-is-there-start : tie.Need-part-is-there-start
-part-is-there-start c = search needs
+part-is-there-start c =
+    let start = c .before .before .before .before .before in
+    long-inside (start .args .xs .now) (start .pre .1 .1 .0 .0)
 
 part-is-there-end : tie.Need-part-is-there-end
 part-is-there-end c = search needs
 
 is-there-requires : tie.Need-is-there-requires
-is-there-requires c κs = search needs
+is-there-requires c κs =
+    let start = c .before .before .before .before .before .before in
+    lent-head (start .args .xs .now) (start .pre .1 .1 .0 .0)
 
 same-length : tie.Need-same-length
 same-length c = search needs
@@ -52,10 +58,14 @@ put-at-requires c κs =
     (start .pre .0, (start .pre .1 .0, (start .pre .1 .1 .0, (start .pre .1 .1 .1, sym (lent-used (start .args .xs .now) _ (is-there .ensures)) ∙ not-false (is-there .result) (if1 .left)))))
 
 same-length-2 : tie.Need-same-length-2
-same-length-2 c = search needs
+same-length-2 c =
+    let put-at = c .before .before .before .before .put-at in
+    put-at .kept .0
 
 same-length-3 : tie.Need-same-length-3
-same-length-3 c = search needs
+same-length-3 c =
+    let put-at = c .before .before .before .before .put-at in
+    put-at .kept .1 .0
 
 returns-3 : tie.Need-returns-3
 returns-3 c =

@@ -1,5 +1,5 @@
 -- `staging::stages::stage_all` meets its contract: the numbers of the places passed are staged. Assumes nothing.
-use Prim.Native.Nat.{_-_, _≤_}
+use Prim.Native.Nat.{_-_, _≤_, zero-le}
 use native.Mathlib.Omega.{arith}
 use native.Mathlib.Nat.{le-antisymm}
 use borrow.Author.Needs.{needs}
@@ -21,7 +21,7 @@ abbrev μ-loop : tie.MeasureT-loop
 loop-holds : tie.Need-loop-holds Inv-loop μ-loop
 loop-holds c =
     let start = c .before .before .before .before in
-    (omega arith, all-none _ _ _ _ _ (start .pre .0) (start .pre .1))
+    (zero-le, all-none (start .args .mode) (start .args .xs .now) (start .args .bs .now) (start .args .ys .now) (start .args .cs .now) (start .pre .0) (start .pre .1))
 
 turn-requires : tie.Need-turn-requires Inv-loop μ-loop
 turn-requires c κs =

@@ -12,10 +12,10 @@ number-at-requires c κs =
     let n = area-length _ _ (formed-of _ _ (start .pre .0 .wf)) in let m = area-length _ _ (formed-of _ _ (start .pre .0 .newer-wf)) in (start .pre .1 .1, (omega (arith, n), omega (arith, m)))
 
 enum-known-number : tie.Need-enum-known-number
-enum-known-number c = search needs
+enum-known-number c = c .match .keys1
 
 enum-told : tie.Need-enum-told
-enum-told c = search needs
+enum-told c = c .match .keys2
 
 same-length : tie.Need-same-length
 same-length c = search needs
@@ -28,13 +28,19 @@ returns c =
     turn-none _ _ _ _ _ _ (number-at .ensures) (enum-told .given .1) (start .pre .1 .0)
 
 stage-one-requires : tie.Need-stage-one-requires
-stage-one-requires c κs = search needs
+stage-one-requires c κs =
+    let start = c .before .before .before .before .before .before .before .before .before .before .before in
+    (start .pre .0, start .pre .1 .0)
 
 same-length-2 : tie.Need-same-length-2
-same-length-2 c = search needs
+same-length-2 c =
+    let stage-one = c .before .before .before .before .stage-one in
+    stage-one .kept .0
 
 same-length-3 : tie.Need-same-length-3
-same-length-3 c = search needs
+same-length-3 c =
+    let stage-one = c .before .before .before .before .stage-one in
+    stage-one .kept .1 .0
 
 returns-2 : tie.Need-returns-2
 returns-2 c =

@@ -1,8 +1,7 @@
 -- `staging::work::bury_newer` meets its contract. Assumes nothing.
-use Rattle.staging.proofs.WorkWays.{lent-tombstones, lent-stored, lent-only}
+use Rattle.staging.proofs.WorkWays.{lent-tombed, lent-only}
 use native.Mathlib.Omega.{arith}
 use Rattle.contexts.specs.AreaLaws.{formed-of, area-length, area-bytes}
-use Rattle.rules_by_group.specs.Group.{tombed}
 use borrow.Author.Needs.{needs}
 use Rattle.staging.proofs.work.bury_newer.Statement.{statement}
 use Rattle.staging.proofs.work.bury_newer.Tie as tie
@@ -58,19 +57,23 @@ part-bury-end-2 c =
 bury-requires : tie.Need-bury-requires
 bury-requires c κs =
     let start = c .before .before .before .before .before .before .before .before .before .before in
-    (start .pre .0, (start .pre .1 .0, (lent-stored _ _ (start .pre .1 .1), lent-only _ _ (start .pre .1 .1))))
+    (start .pre .0, (start .pre .1 .0, lent-only (start .args .ys .now) (start .args .cs .now) (start .pre .1 .1)))
 
 same-length : tie.Need-same-length
-same-length c = search needs
+same-length c =
+    let bury = c .before .before .before .before .bury in
+    bury .kept .0
 
 same-length-2 : tie.Need-same-length-2
-same-length-2 c = search needs
+same-length-2 c =
+    let bury = c .before .before .before .before .bury in
+    bury .kept .1 .0
 
 returns : tie.Need-returns
 returns c =
     let start = c .before .before .before .before .before .before .before .before .before .before .before .before .before .before .before in
     let bury = c .before .before .before .before .bury in
-    rw (lent-tombstones (start .args .ys .now) (start .args .cs .now)) at (bury .ensures)
+    lent-tombed (start .args .ys .now) (start .args .cs .now) (start .args .group) (start .args .p .now) (start .args .b .now) (bury .last .0) (bury .last .1 .0) (bury .ensures)
 
 pub bury-newer-spec : {M : Type 1} → statement M
 bury-newer-spec =

@@ -1,13 +1,18 @@
 -- `staging::work::work` meets its contract. Assumes nothing.
 use native.Mathlib.Omega.{arith}
 use borrow.Rule.Slice.PartAt.{part-to-end}
-use Rattle.staging.proofs.GroupWays.{parts-given, numbers-stay, bytes-stay, part-refused, part-room, part-for, group-worked}
+use Rattle.staging.proofs.GroupWays.{parts-given, numbers-stay, bytes-stay, part-refused, part-room, part-for, group-lent}
+use Rattle.staging.proofs.WorkWays.{long-bytes-back}
+use Rattle.contexts.specs.AreaLaws.{formed-of, area-bytes}
+use mathlib.Core.Path.{_∙_}
 use borrow.Author.Needs.{needs}
 use Rattle.staging.proofs.work.work.Statement.{statement}
 use Rattle.staging.proofs.work.work.Tie as tie
 
 load-older-requires : tie.Need-load-older-requires
-load-older-requires c κs = search needs
+load-older-requires c κs =
+    let start = c .before .before .before .before .before .before in
+    start .pre .wf
 
 finish-part-requires : tie.Need-finish-part-requires
 finish-part-requires c κs =
@@ -16,10 +21,10 @@ finish-part-requires c κs =
     parts-given _ _ _ _ _ _ (start .pre) _ _ (load-older .ensures)
 
 enum-told : tie.Need-enum-told
-enum-told c = search needs
+enum-told c = c .match .keys1
 
 enum-told-2 : tie.Need-enum-told-2
-enum-told-2 c = search needs
+enum-told-2 c = c .match .keys2
 
 same-length : tie.Need-same-length
 same-length c = search needs
@@ -81,16 +86,20 @@ work-loaded-requires c κs =
     rw (part-to-end (finish-part .last .0) 13509, part-to-end (finish-part .last .1 .0) 28672) (finish-part .ensures .ends .wf, (part-room _ _ _ _ _ _ (start .pre) _ _ (load-older .ensures) _ _ _ (finish-part .ensures) (enum-told .given .1), (part-for _ _ _ _ _ _ (start .pre) _ _ (load-older .ensures) _ _ _ (finish-part .ensures) (enum-told .given .1), (start .pre .newer-wf, start .pre .newer-kind))))
 
 same-length-3 : tie.Need-same-length-3
-same-length-3 c = search needs
+same-length-3 c =
+    let load-older = c .before .before .before .before .before .before .before .before .before .before .before .before .before .before .before .before .before .before .before .before .load-older in
+    let finish-part = c .before .before .before .before .before .before .before .before .before .before .before .before .before .finish-part in
+    let xs3 = c .before .before .before .xs3 in
+    xs3 .given .1 ∙ (finish-part .kept .0 ∙ load-older .kept .0)
 
 same-length-4 : tie.Need-same-length-4
 same-length-4 c =
     let start = c .before .before .before .before .before .before .before .before .before .before .before .before .before .before .before .before .before .before .before .before .before .before .before .before .before .before .before in
     let load-older = c .before .before .before .before .before .before .before .before .before .before .before .before .before .before .before .before .before .before .before .before .load-older in
     let finish-part = c .before .before .before .before .before .before .before .before .before .before .before .before .before .finish-part in
-    let enum-told = c .before .before .before .before .before .before .before .enum-told in
     let work-loaded = c .before .before .before .before .work-loaded in
-    (group-worked _ _ _ _ _ _ (start .pre) _ _ (load-older .ensures) _ _ _ (finish-part .ensures) (enum-told .given .1) _ _ _ (rw (part-to-end (finish-part .last .0) 13509, part-to-end (finish-part .last .1 .0) 28672) at (work-loaded .ensures))) .working .bytes-length
+    let k = finish-part .kept .1 .0 ∙ load-older .kept .1 .0 in
+    long-bytes-back (finish-part .last .1 .0) (work-loaded .last .1 .0) (k ∙ area-bytes (start .args .xs .now) (start .args .bs .now) (formed-of (start .args .xs .now) (start .args .bs .now) (start .pre .wf))) (work-loaded .ensures .wf .bytes-are) ∙ k
 
 returns-2 : tie.Need-returns-2
 returns-2 c =
@@ -99,7 +108,7 @@ returns-2 c =
     let finish-part = c .before .before .before .before .before .before .before .before .before .before .before .before .before .finish-part in
     let enum-told = c .before .before .before .before .before .before .before .enum-told in
     let work-loaded = c .before .before .before .before .work-loaded in
-    group-worked _ _ _ _ _ _ (start .pre) _ _ (load-older .ensures) _ _ _ (finish-part .ensures) (enum-told .given .1) _ _ _ (rw (part-to-end (finish-part .last .0) 13509, part-to-end (finish-part .last .1 .0) 28672) at (work-loaded .ensures))
+    group-lent (start .args .mode) (start .args .group) (start .args .xs .now) (start .args .bs .now) (start .args .ys .now) (start .args .cs .now) (start .pre) (load-older .last .0) (load-older .last .1 .0) (load-older .ensures) (finish-part .result) (finish-part .last .0) (finish-part .last .1 .0) (finish-part .ensures) (enum-told .given .1) (work-loaded .result) (work-loaded .last .0) (work-loaded .last .1 .0) (work-loaded .ensures)
 
 pub work-spec : {M : Type 1} → statement M
 work-spec =
