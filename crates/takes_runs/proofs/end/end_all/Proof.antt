@@ -30,7 +30,7 @@ add-last c =
     let start = c .before .before .before .before .before .before .before .before .before .before .before .before .before .before .before .before .before .before .before .before .before .before .before .before .before .before .before .before .before .before .before .before .before in
     let end-input = c .before .before .before .before .before .before .before .before .before .before .before .before .before .before .before .before .end-input in
     let out = c .before .out in
-    let first : length (end-input .last .1 .1 .1 .1 .1 .1 .1 .1 .0) ≡ length (take 88 (start .args .out .now)) = omega (arith, out .given) in
+    let first : length (end-input .last .1 .1 .1 .1 .1 .1 .1 .1 .0) ≡ length (take 88 (start .args .out .now)) = out .given .0 in
     omega (arith, few-before _ _ _ _ _ _ _ _ _ _ _ (end-input .ensures) (start .args .out .now) first (start .pre .1 .0))
 
 sub-totals : tie.Need-sub-totals
@@ -44,7 +44,7 @@ part-totals-end c =
     let start = c .before .before .before .before .before .before .before .before .before .before .before .before .before .before .before .before .before .before .before .before .before .before .before .before .before .before .before .before .before .before .before .before .before .before .before in
     let end-input = c .before .before .before .before .before .before .before .before .before .before .before .before .before .before .before .before .before .before .end-input in
     let out = c .before .before .before .out in
-    let first : length (end-input .last .1 .1 .1 .1 .1 .1 .1 .1 .0) ≡ length (take 88 (start .args .out .now)) = omega (arith, out .given) in
+    let first : length (end-input .last .1 .1 .1 .1 .1 .1 .1 .1 .0) ≡ length (take 88 (start .args .out .now)) = out .given .0 in
     room-left _ _ _ _ _ _ _ _ _ _ _ (end-input .ensures) (start .args .out .now) first (start .pre .1 .0)
 
 totals-requires : tie.Need-totals-requires
@@ -52,7 +52,7 @@ totals-requires c κs =
     let start = c .before .before .before .before .before .before .before .before .before .before .before .before .before .before .before .before .before .before .before .before .before .before .before .before .before .before .before .before .before .before .before .before .before .before .before .before in
     let end-input = c .before .before .before .before .before .before .before .before .before .before .before .before .before .before .before .before .before .before .before .end-input in
     let out = c .before .before .before .before .out in
-    let first : length (end-input .last .1 .1 .1 .1 .1 .1 .1 .1 .0) ≡ length (take 88 (start .args .out .now)) = omega (arith, out .given) in
+    let first : length (end-input .last .1 .1 .1 .1 .1 .1 .1 .1 .0) ≡ length (take 88 (start .args .out .now)) = out .given .0 in
     (end-input .ensures .merged-area .wf, omega (arith, lent-length (end-input .result) 732 (end-input .last .1 .1 .1 .1 .1 .1 .1 .1 .0 ++ drop 88 (start .args .out .now)) (room-left _ _ _ _ _ _ _ _ _ _ _ (end-input .ensures) (start .args .out .now) first (start .pre .1 .0))))
 
 add-result : tie.Need-add-result
@@ -62,29 +62,43 @@ add-result c =
     let out = c .before .before .before .before .before .before .before .out in
     let totals = c .before .before .totals in
     let out2 = c .before .out2 in
-    let first : length (end-input .last .1 .1 .1 .1 .1 .1 .1 .1 .0) ≡ length (take 88 (start .args .out .now)) = omega (arith, out .given) in
-    omega (arith, few-before _ _ _ _ _ _ _ _ _ _ _ (end-input .ensures) (start .args .out .now) first (start .pre .1 .0), totals .ensures .few, out2 .given, lent-length (end-input .result) 732 (end-input .last .1 .1 .1 .1 .1 .1 .1 .1 .0 ++ drop 88 (start .args .out .now)) (room-left _ _ _ _ _ _ _ _ _ _ _ (end-input .ensures) (start .args .out .now) first (start .pre .1 .0)))
+    let first : length (end-input .last .1 .1 .1 .1 .1 .1 .1 .1 .0) ≡ length (take 88 (start .args .out .now)) = out .given .0 in
+    omega (arith, few-before _ _ _ _ _ _ _ _ _ _ _ (end-input .ensures) (start .args .out .now) first (start .pre .1 .0), totals .ensures .few, out2 .given .0, lent-length (end-input .result) 732 (end-input .last .1 .1 .1 .1 .1 .1 .1 .1 .0 ++ drop 88 (start .args .out .now)) (room-left _ _ _ _ _ _ _ _ _ _ _ (end-input .ensures) (start .args .out .now) first (start .pre .1 .0)))
 
 same-length : tie.Need-same-length
-same-length c = search needs
+same-length c =
+    let xs = c .before .before .before .before .before .before .before .before .before .before .before .before .before .before .before .before .before .before .before .before .before .xs in
+    xs .given
 
 same-length-2 : tie.Need-same-length-2
-same-length-2 c = search needs
+same-length-2 c =
+    let bs = c .before .before .before .before .before .before .before .before .before .before .before .before .before .before .before .before .before .before .before .bs in
+    bs .given
 
 same-length-3 : tie.Need-same-length-3
-same-length-3 c = search needs
+same-length-3 c =
+    let ys = c .before .before .before .before .before .before .before .before .before .before .before .before .before .before .before .before .before .ys in
+    ys .given
 
 same-length-4 : tie.Need-same-length-4
-same-length-4 c = search needs
+same-length-4 c =
+    let cs = c .before .before .before .before .before .before .before .before .before .before .before .before .before .before .before .cs in
+    cs .given
 
 same-length-5 : tie.Need-same-length-5
-same-length-5 c = search needs
+same-length-5 c =
+    let items = c .before .before .before .before .before .before .before .before .before .before .before .before .before .items in
+    items .given
 
 same-length-6 : tie.Need-same-length-6
-same-length-6 c = search needs
+same-length-6 c =
+    let rows = c .before .before .before .before .before .before .before .before .before .before .before .rows in
+    rows .given
 
 same-length-7 : tie.Need-same-length-7
-same-length-7 c = search needs
+same-length-7 c =
+    let bytes = c .before .before .before .before .before .before .before .before .before .bytes in
+    bytes .given
 
 same-length-8 : tie.Need-same-length-8
 same-length-8 c =
@@ -93,8 +107,8 @@ same-length-8 c =
     let out = c .before .before .before .before .before .before .before .out in
     let totals = c .before .before .totals in
     let out2 = c .before .out2 in
-    let first : length (end-input .last .1 .1 .1 .1 .1 .1 .1 .1 .0) ≡ length (take 88 (start .args .out .now)) = omega (arith, out .given) in
-    same-whole _ _ _ _ _ _ _ _ _ _ _ (end-input .ensures) (start .args .out .now) first (start .pre .1 .0) _ _ (totals .ensures) (omega (arith, out2 .given))
+    let first : length (end-input .last .1 .1 .1 .1 .1 .1 .1 .1 .0) ≡ length (take 88 (start .args .out .now)) = out .given .0 in
+    same-whole _ _ _ _ _ _ _ _ _ _ _ (end-input .ensures) (start .args .out .now) first (start .pre .1 .0) _ _ (totals .ensures) (out2 .given .0)
 
 returns : tie.Need-returns
 returns c =
@@ -103,8 +117,8 @@ returns c =
     let out = c .before .before .before .before .before .before .before .out in
     let totals = c .before .before .totals in
     let out2 = c .before .out2 in
-    let first : length (end-input .last .1 .1 .1 .1 .1 .1 .1 .1 .0) ≡ length (take 88 (start .args .out .now)) = omega (arith, out .given) in
-    printed-all _ _ _ _ _ _ _ _ _ _ _ (end-input .ensures) (start .args .out .now) first (start .pre .1 .0) _ _ (totals .ensures) (omega (arith, out2 .given))
+    let first : length (end-input .last .1 .1 .1 .1 .1 .1 .1 .1 .0) ≡ length (take 88 (start .args .out .now)) = out .given .0 in
+    printed-all _ _ _ _ _ _ _ _ _ _ _ (end-input .ensures) (start .args .out .now) first (start .pre .1 .0) _ _ (totals .ensures) (out2 .given .0)
 
 pub end-all-spec : {M : Type 1} → statement M
 end-all-spec =
