@@ -1,4 +1,5 @@
 -- `writes::finish::finish_items` meets its contract. Assumes nothing.
+use mathlib.Core.Path.{_∙_}
 use borrow.Rule.Slice.PartAt.{part-to-end}
 use borrow.Author.Tests.{not-true, not-false}
 use Rattle.contexts.specs.AreaLaws.{area-length, same-lengths}
@@ -54,7 +55,7 @@ run-both-requires c κs =
     (begun-formed (start .args .xs .now) (start .args .bs .now) _ (start .pre .0) (begin .ensures _ (start .pre .0 .groups)), ((begin .ensures _ (start .pre .0 .groups)) .undoable, (start .pre .1 .0, (rw (stored-same _ 0 (start .args .xs .now) (start .args .bs .now) _ _ (begun-room (start .args .xs .now) (start .args .bs .now) _ (start .pre .0) (begin .ensures _ (start .pre .0 .groups)))) (start .pre .1 .1 .0), rw (begun-context (start .args .xs .now) (start .args .bs .now) _ (start .pre .0) (begin .ensures _ (start .pre .0 .groups))) (start .pre .1 .1 .1)))))
 
 enum-known-answer : tie.Need-enum-known-answer
-enum-known-answer c = search needs
+enum-known-answer c = c .match .keys1
 
 go-back-requires : tie.Need-go-back-requires
 go-back-requires c κs =
@@ -68,10 +69,17 @@ go-back-requires c κs =
     let g = ends-back _ _ _ _ _ (start .args .xs .now) (start .args .bs .now) (start .pre .0) (rw (not-false (has-items .result) (if1 .left)) at (has-items .ensures (start .args .mark .at) (start .args .bs .now) (start .pre .0))) _ (begun-room (start .args .xs .now) (start .args .bs .now) _ (start .pre .0) (begin .ensures _ (start .pre .0 .groups))) (begun-context (start .args .xs .now) (start .args .bs .now) _ (start .pre .0) (begin .ensures _ (start .pre .0 .groups))) _ _ (finish-going (start .args .xs .now) (start .args .bs .now) _ _ _ (start .pre .0) (begin .ensures _ (start .pre .0 .groups)) (counts-in .ensures .0) (counts-in .ensures .1)) _ _ _ _ (rw (answer .given .1) at (run-both .ensures)) in ((rw (answer .given .1) at (run-both .ensures)) .formed, (g .undoable, g .lists-wf))
 
 same-length-2 : tie.Need-same-length-2
-same-length-2 c = search needs
+same-length-2 c =
+    let begin = c .before .before .before .before .before .before .before .before .before .before .before .before .before .before .before .before .before .before .before .begin in
+    let run-both = c .before .before .before .before .before .before .before .before .before .before .before .before .before .before .run-both in
+    let go-back = c .before .before .before .before .go-back in
+    go-back .kept .0 ∙ run-both .kept .0 ∙ begin .kept .0
 
 same-length-3 : tie.Need-same-length-3
-same-length-3 c = search needs
+same-length-3 c =
+    let run-both = c .before .before .before .before .before .before .before .before .before .before .before .before .before .before .run-both in
+    let go-back = c .before .before .before .before .go-back in
+    go-back .kept .1 .0 ∙ run-both .kept .1 .0
 
 returns-2 : tie.Need-returns-2
 returns-2 c =
@@ -86,13 +94,18 @@ returns-2 c =
     ends-refused _ _ _ _ _ (start .args .xs .now) (start .args .bs .now) (start .pre .0) (rw (not-false (has-items .result) (if1 .left)) at (has-items .ensures (start .args .mark .at) (start .args .bs .now) (start .pre .0))) _ (begun-room (start .args .xs .now) (start .args .bs .now) _ (start .pre .0) (begin .ensures _ (start .pre .0 .groups))) (begun-context (start .args .xs .now) (start .args .bs .now) _ (start .pre .0) (begin .ensures _ (start .pre .0 .groups))) _ _ (finish-going (start .args .xs .now) (start .args .bs .now) _ _ _ (start .pre .0) (begin .ensures _ (start .pre .0 .groups)) (counts-in .ensures .0) (counts-in .ensures .1)) _ _ _ _ (rw (answer .given .1) at (run-both .ensures)) _ _ (go-back .ensures)
 
 enum-told : tie.Need-enum-told
-enum-told c = search needs
+enum-told c = c .match .keys2
 
 same-length-4 : tie.Need-same-length-4
-same-length-4 c = search needs
+same-length-4 c =
+    let begin = c .before .before .before .before .before .before .before .before .before .before .before .begin in
+    let run-both = c .before .before .before .before .before .before .run-both in
+    run-both .kept .0 ∙ begin .kept .0
 
 same-length-5 : tie.Need-same-length-5
-same-length-5 c = search needs
+same-length-5 c =
+    let run-both = c .before .before .before .before .before .before .run-both in
+    run-both .kept .1 .0
 
 returns-3 : tie.Need-returns-3
 returns-3 c =

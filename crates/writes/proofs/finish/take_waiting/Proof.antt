@@ -38,16 +38,20 @@ take-part-requires c κs =
     (lent-room (start .args .xs .now) (start .args .bs .now) (start .pre .1 .0) .room, (start .pre .1 .1 .0, lent-above (start .args .xs .now) _ (start .pre .1 .1 .1)))
 
 same-length : tie.Need-same-length
-same-length c = search needs
+same-length c =
+    let xs = c .before .before .before .xs in
+    xs .given .1
 
 same-length-2 : tie.Need-same-length-2
-same-length-2 c = search needs
+same-length-2 c =
+    let bs = c .before .bs in
+    bs .given .1
 
 returns : tie.Need-returns
-returns c =
+returns c g p ps e =
     let start = c .before .before .before .before .before .before .before .before .before in
     let take-part = c .before .before .before .before .take-part in
-    took-back (start .args .xs .now) (start .args .bs .now) (start .pre .1 .0) (start .args .k) (start .pre .1 .1 .0) _ _ (take-part .kept .0) (take-part .kept .1 .0) (take-part .ensures)
+    took-back (start .args .xs .now) (start .args .bs .now) (start .pre .1 .0) (start .args .k) (start .pre .1 .1 .0) (take-part .last .0) (take-part .last .1 .0) (take-part .kept .0) (take-part .kept .1 .0) (take-part .ensures) g p ps e
 
 pub take-waiting-spec : {M : Type 1} → statement M
 take-waiting-spec =

@@ -44,10 +44,14 @@ accept-batch-requires c κs =
     (lent-room (start .args .xs .now) (start .args .bs .now) (start .pre .1 .0), start .pre .1 .1)
 
 same-length : tie.Need-same-length
-same-length c = search needs
+same-length c =
+    let xs = c .before .before .before .xs in
+    xs .given .1
 
 same-length-2 : tie.Need-same-length-2
-same-length-2 c = search needs
+same-length-2 c =
+    let bs = c .before .bs in
+    bs .given .1
 
 returns : tie.Need-returns
 returns c =

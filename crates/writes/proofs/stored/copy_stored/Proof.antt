@@ -38,10 +38,14 @@ copy-item-requires c κs =
     (lent-room _ _ (start .pre .1 .0), (lent-count (start .args .xs .now) _ (start .pre .1 .1 .0), start .pre .1 .1 .1))
 
 same-length : tie.Need-same-length
-same-length c = search needs
+same-length c =
+    let copy-item = c .before .before .before .before .copy-item in
+    copy-item .kept .1 .1 .1 .0
 
 same-length-2 : tie.Need-same-length-2
-same-length-2 c = search needs
+same-length-2 c =
+    let copy-item = c .before .before .before .before .copy-item in
+    copy-item .kept .1 .1 .1 .1 .0
 
 returns : tie.Need-returns
 unfolding part
