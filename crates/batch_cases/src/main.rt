@@ -1,4 +1,6 @@
 // Compares `log_batch::check` with the cases of data/cases.txt, and writes how many it ran and how many differ.
+#![tactic(auto)]
+
 mod case;
 
 use case::Outcome;

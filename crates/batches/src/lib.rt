@@ -1,4 +1,6 @@
 // A batch on an area, item by item: the deed on the groups, what it adds to the lists, and back if an item is refused.
+#![tactic(auto)]
+
 mod acts;
 mod batches;
 mod growth;

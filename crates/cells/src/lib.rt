@@ -1,4 +1,6 @@
 // Moves of numbers within and between lent slices; `bytes` has the same moves for bytes, and `order` their order.
+#![tactic(auto)]
+
 pub mod bytes;
 pub mod order;
 

@@ -1,5 +1,7 @@
 // Fetches of a group's records into eight lent slices, one for each field of a row, on a context or the index (src/memtable.rs,
 // `fetch_entries_to` and its like).
+#![tactic(auto)]
+
 mod copies;
 mod fetch;
 mod slices;

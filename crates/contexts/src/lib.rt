@@ -1,4 +1,6 @@
 // Contexts and the index over lent areas: the lengths of an area, what it stands for, what a call answers, and a fresh context.
+#![tactic(auto)]
+
 ghost use Rattle.std.specs.Prelude.{◌≡◌, ◌≤◌, ◌<◌, ◌*◌, length, get_or, drop};
 ghost use Rattle.contexts.specs.Contexts.{Cleared, FreshArea};
 

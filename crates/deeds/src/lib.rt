@@ -1,4 +1,6 @@
 // What an item does to its group: it is taken apart before any table is touched.
+#![tactic(auto)]
+
 ghost use Rattle.std.specs.Prelude.{◌≡◌, [], length, get_or};
 ghost use Rattle.log_batch.specs.Lent.{RowsWithin, ValueWithin, BytesWithin, Within};
 ghost use Rattle.deeds.specs.Deeds.{rows_in, key_in, value_part, value_in, entries_change, command_deed, put_held_deed, put_deed, key_deed, deed_of};

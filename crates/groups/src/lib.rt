@@ -1,5 +1,7 @@
 // Eight stretches of an area as the groups of a context: where a group stands, changes of it, and what a refused batch goes
 // back to. The stretches are the front of the area's numbers and bytes; behind them stand eight spare stretches.
+#![tactic(auto)]
+
 mod calls;
 mod entries;
 mod search;

@@ -1,4 +1,6 @@
 // Compares `util::hash_u64` with the vectors of data/hash_u64.txt, and writes how many it read and how many differ.
+#![tactic(auto)]
+
 mod vector;
 
 ghost use Rattle.std.specs.Prelude.{◌≡◌, cond, ◌≤◌, eqb};

@@ -1,5 +1,7 @@
 // The calls that users make, on contexts and the index over lent areas (src/memtable.rs: the accessor of groups, recovery and live
 // writes). Each call and its contract stand in the crate that it is taken from.
+#![tactic(auto)]
+
 pub use columns::{fetch_entries_to, fetch_entry_indexes_before, fetch_rewritten_entry_indexes};
 pub use contexts::{Answer, BYTES, NUMBERS, Position, fresh};
 pub use merging::{join, merge};

@@ -1,4 +1,6 @@
 // Makes the calls of the files of data/ on the index, and writes of each file how many answers are other than the Rust's.
+#![tactic(auto)]
+
 ghost use Rattle.std.specs.Prelude.{◌≡◌, ◌+◌, ◌*◌, ◌≤◌, ◌<◌, length};
 ghost use Rattle.contexts.specs.Contexts.{area_numbers, area_bytes};
 

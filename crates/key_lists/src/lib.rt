@@ -1,5 +1,7 @@
 // The keys of a group that a query asks for, in a lent list of rows: 2 numbers a row in `lens` (key length, value length) and 64
 // bytes a row in `out` (32 for the key, then 32 for the value). Of a row's bytes only as many are written as the key and the value have.
+#![tactic(auto)]
+
 mod bounds;
 mod copies;
 

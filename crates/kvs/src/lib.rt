@@ -1,5 +1,7 @@
 // One group's keys over lent parts: the `kvs` map of src/memtable.rs's MemTable. The number of keys goes in by value and comes back;
 // `rows` has 4 numbers a key and `bytes` 64 bytes a key, in byte order of the keys from the front.
+#![tactic(auto)]
+
 pub mod files;
 pub mod merge;
 pub mod rows;

@@ -1,4 +1,6 @@
 // The kind and the lists of a context: tombstones and cleaned numbers. They stand behind the groups of an area.
+#![tactic(auto)]
+
 mod cleaned;
 
 ghost use Rattle.std.specs.Prelude.{List, [], ◌≡◌, ℕ, ◌+◌, ◌≤◌, ◌<◌, length, get_or};

@@ -1,5 +1,7 @@
 // Batches as they are lent (src/log_batch.rs, and the internal keys of src/lib.rs; encoding and files are left out): items with
 // places in the lent slices, opening an item, marks, and the checks 2 to 7.
+#![tactic(auto)]
+
 pub mod causes;
 pub mod checks;
 pub mod entries;

@@ -1,5 +1,7 @@
 // One group's table over its part of the lent area (src/memtable.rs, `MemTable`): the entries. The head goes in by value
 // and comes back changed; the entries are rows of eight numbers in the group's part.
+#![tactic(auto)]
+
 mod append;
 mod compact;
 mod entries;

@@ -1,4 +1,6 @@
 // The waiting parts of two contexts in a merge: which of them finish, the tombstones among these, and what waits afterwards.
+#![tactic(auto)]
+
 mod endings;
 mod finals;
 mod keeps;

@@ -1,5 +1,7 @@
 // Queues, files and the entry record (src/pipe_log.rs; the entry record is src/memtable.rs's `EntryIndex`). The pipe is left out.
 // Every code crate depends on this one: document 01's numbers of causes stand here too.
+#![tactic(auto)]
+
 pub mod causes;
 
 ghost use Rattle.std.specs.Prelude.{◌≡◌};

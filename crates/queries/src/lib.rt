@@ -1,5 +1,7 @@
 // The queries of a context or the index over a lent area (src/memtable.rs, `MemTableAccessor` and `MemTable`): of one group by its
 // number, of all groups, and the cleaned numbers of the index.
+#![tactic(auto)]
+
 mod all;
 mod answers;
 mod cleaned;

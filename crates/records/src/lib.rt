@@ -1,4 +1,6 @@
 // The thin fetch: a group's entry records of a context or the index, fetched into a lent list of records, or of rows of numbers.
+#![tactic(auto)]
+
 mod fetching;
 mod fill;
 mod listing;

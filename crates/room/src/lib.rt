@@ -1,5 +1,7 @@
 // The room in which the parts of Rewrite replay wait: cells of part heads, and one store of their items. A room has any number of
 // cells; it stands in one slice of numbers and one of bytes.
+#![tactic(auto)]
+
 mod batches;
 mod copies;
 mod heads;

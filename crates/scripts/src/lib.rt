@@ -1,5 +1,7 @@
 // The queries that the rows of a script name, made on a context and compared with the stored answers; and what every call of a script has:
 // its row, its arguments and its answer as three numbers.
+#![tactic(auto)]
+
 mod asked;
 mod asks;
 mod compare;

@@ -1,5 +1,7 @@
 // The groups of a merge or join (src/memtable.rs), one after the other: what becomes of a group is worked in the long stretch of the
 // older area and staged in a spare stretch.
+#![tactic(auto)]
+
 mod finishes;
 mod marks;
 mod numbers;

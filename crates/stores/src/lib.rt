@@ -1,4 +1,6 @@
 // Items kept in the layout of a lent batch, with their entries and bytes: tombstones and waiting parts.
+#![tactic(auto)]
+
 pub mod add;
 pub mod append;
 pub mod copy;

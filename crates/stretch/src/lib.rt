@@ -1,6 +1,8 @@
 // The stretch of an area that holds one group: a header, rows of entries and rows of keys in numbers, and the keys' bytes. Its width is
 // told by the place where the rows of keys begin and by the lengths of the slices.
 // A change is carried out by the tables' own functions, `memtable` and `kvs`, each on its part of the stretch.
+#![tactic(auto)]
+
 mod changes;
 mod entries;
 mod header;

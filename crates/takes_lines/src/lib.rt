@@ -1,4 +1,6 @@
 // Lines of document 01's program `takes`: read byte by byte in fixed memory, and written into a lent slice.
+#![tactic(auto)]
+
 mod add;
 mod close;
 pub mod fields;

@@ -1,5 +1,7 @@
 // The input and output of document 01's program `takes`: an open file is read by blocks, and what `takes_runs` prints is written to
 // standard output by blocks, in fixed memory.
+#![tactic(auto)]
+
 ghost use Rattle.std.specs.Prelude.{◌≡◌, ◌+◌, ◌^◌, ◌≤◌, ◌<◌, length};
 ghost use Rattle.takes_runs.specs.Reading.{Fit};
 

@@ -1,4 +1,6 @@
 // Document 01's program `takes`, without its input and output: the runs, and the input byte by byte.
+#![tactic(auto)]
+
 pub mod blocks;
 pub mod bytes;
 mod calls;

@@ -1,4 +1,6 @@
 // Runs document 01's program on each file that an argument names, and writes what it prints behind the file's name.
+#![tactic(auto)]
+
 use libc::STDOUT_FILENO;
 
 // Writes the name of a file behind a mark.

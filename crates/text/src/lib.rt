@@ -1,4 +1,6 @@
 // Numbers in texts: what the test programs read.
+#![tactic(auto)]
+
 mod reading;
 
 ghost use Rattle.std.specs.Prelude.{◌≤◌, length};

@@ -1,5 +1,7 @@
 // The mixing of group numbers (raft-engine's src/util.rs, `hash_u64`, which is that of splitmix64.c) and the slot of
 // a group.
+#![tactic(auto)]
+
 ghost use Rattle.std.specs.Prelude.{◌≡◌, ◌*◌, ◌%◌, ◌^◌};
 ghost use Rattle.util.specs.Mixing.{mixed, SlotIndex};
 

@@ -1,5 +1,7 @@
 // A part of Rewrite replay that comes to the room in which parts wait: where its group waits, what becomes of it by the limits and the
 // newest part there, and how it is put into a cell.
+#![tactic(auto)]
+
 mod accept;
 pub mod find;
 mod forms;

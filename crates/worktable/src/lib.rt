@@ -1,4 +1,6 @@
 // The table of one group that a merge or a join works on, in a long stretch: the group's own functions on it, and a newer table laid over.
+#![tactic(auto)]
+
 mod acts;
 mod ends;
 mod laying;

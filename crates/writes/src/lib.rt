@@ -1,4 +1,6 @@
 // The calls of a batch (src/memtable.rs): replay into a context, and the live append and rewrite of the index.
+#![tactic(auto)]
+
 mod calls;
 mod finish;
 mod marked;
