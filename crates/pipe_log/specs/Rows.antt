@@ -1,10 +1,10 @@
 -- Entry records as rows of numbers: index, queue, sequence number, block offset, block length, compression type, entry offset,
 -- entry length. Batches are lent so, and tables hold them so.
-use Rattle.std.specs.Prelude.{Bool, cond, ◌&&◌, List, [], ◌∷◌, ℕ, zero, suc, ◌<◌, ◌^◌, eqb, ltb, get_or, drop}
+use Rattle.std.specs.Prelude.{Bool, cond, ◌&&◌, List, [], ◌∷◌, ℕ, zero, suc, ◌^◌, eqb, ltb, get_or, drop}
 use Rattle.pipe_log.specs.declared.LogQueue.{LogQueue, TheVariants.Append, TheVariants.Rewrite}
 use Rattle.pipe_log.specs.declared.FileBlockHandle.{FileBlockHandle}
 use Rattle.pipe_log.specs.declared.CompressionType.{CompressionType, TheVariants.None, TheVariants.Lz4}
-use Rattle.pipe_log.specs.declared.EntryBlock.{EntryBlock, TheVariants.Absent, TheVariants.At}
+use Rattle.pipe_log.specs.declared.EntryBlock.{TheVariants.Absent, TheVariants.At}
 use Rattle.pipe_log.specs.declared.EntryIndex.{EntryIndex}
 
 -- numbers in a row
