@@ -107,7 +107,7 @@ module _ {K A : Type 0} (o : Order K) (law : Lawful o) where
   pub ascending-merge_with : (f : Option A → A → A) (older newer : Map K A) → Ascending o older → Ascending o (merge_with o f older newer)
   unfolding merge_with
   ascending-merge_with f older [] h = h
-  ascending-merge_with f older (x ∷ xs) h = ascending-merge_with f _ xs (ascending-insert x.key (f (lookup o x.key older) x.val) older h)
+  ascending-merge_with f older (x ∷ xs) h = ascending-merge_with f (insert o x.key (f (lookup o x.key older) x.val) older) xs (ascending-insert x.key (f (lookup o x.key older) x.val) older h)
 
   -- ---- lookups
 
@@ -186,6 +186,10 @@ module _ {K A : Type 0} (o : Order K) (law : Lawful o) where
       (λ s. rw (law.same-eq k x.key s) (lookup_below x.key xs hx ∙ sym (rw (← p) at (lookup_below y.key ys hy))))
       (λ s. let t : o.same k y.key ≡ false = rw p at s in rw (s, t) at (e k))
 
+  -- `lookup_head` at an equal key
+  head_at : (k : K) (y : Pair K A) (ys : Map K A) → k ≡ y.key → lookup o k (y ∷ ys) ≡ some y.val
+  head_at k y ys p = rw p (lookup_head y ys)
+
   pub ext : (m n : Map K A) → Ascending o m → Ascending o n → ((k : K) → lookup o k m ≡ lookup o k n) → m ≡ n
   unfolding lookup AllBelow Ascending
   ext [] [] hm hn e = refl
@@ -194,7 +198,7 @@ module _ {K A : Type 0} (o : Order K) (law : Lawful o) where
   ext (x ∷ xs) (y ∷ ys) hm hn e =
       three o law x.key y.key
       (λ s p.
-      let v : x.val ≡ y.val = some-injective _ _ (sym (lookup_head x xs) ∙ e x.key ∙ rw p (lookup_head y ys)) in
+      let v : x.val ≡ y.val = some-injective _ _ (sym (lookup_head x xs) ∙ e x.key ∙ head_at x.key y ys p) in
       let t : xs ≡ ys = ext xs ys hm.1 hn.1 (tails x y xs ys p hm.0 hn.0 e) in
       λ i. pair (p i) (v i) ∷ t i)
       (λ s p. absurd (some-ne-none _ (sym (lookup_head x xs) ∙ e x.key ∙ lookup_below x.key (y ∷ ys) (p, below_all x.key y.key ys p hn.0))))
