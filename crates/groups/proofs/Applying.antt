@@ -19,7 +19,7 @@ use Rattle.maps.specs.Maps.{Map, lookup, insert, numbers}
 use Rattle.maps.specs.MapLaws.{pair, remove_absent, length-insert-none, length-insert-some}
 use Rattle.maps.specs.OrderLaws.{split, numbers_lawful}
 use Rattle.maps.specs.Cells.{map_of}
-use Rattle.maps.specs.CellLaws.{map-store_at, distinct-store_at, map-store-free, distinct-store-free, map-free, distinct-free, length-free}
+use Rattle.maps.proofs.CellLaws.{map-store_at, distinct-store_at, map-store-free, distinct-store-free, map-free, distinct-free, length-free}
 use Rattle.rules.specs.Causes.{Result, ok, refused, Refusal, refuse, and_then, limitPassed}
 use Rattle.rules.specs.Limits.{max_groups}
 use Rattle.rules.specs.Table.{Table, empty_table, made}

@@ -11,7 +11,7 @@ use Rattle.maps.specs.Maps.{lookup, numbers}
 use Rattle.maps.specs.MapLaws.{pair, Ascending}
 use Rattle.maps.specs.OrderLaws.{split, same_sym, numbers_lawful}
 use Rattle.maps.specs.Cells.{Cell, map_of, holds, is_free_cell}
-use Rattle.maps.specs.CellLaws.{lookup_at, lookup_absent, map_of-ascending, length-le, length-full, every-map_of, all-free}
+use Rattle.maps.proofs.CellLaws.{lookup_at, lookup_absent, map_of-ascending, length-le, length-full, every-map_of, all-free}
 use Rattle.rules.specs.Context.{table_fits}
 use Rattle.rules.specs.Table.{Table}
 use Rattle.stretch.specs.Layout.{stretch_width}

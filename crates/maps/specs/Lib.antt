@@ -6,4 +6,3 @@ pub mod MapLaws
 pub mod ListLaws
 pub mod BoolLaws
 pub mod Cells
-pub mod CellLaws

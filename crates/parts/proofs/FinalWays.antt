@@ -12,7 +12,7 @@ use Rattle.maps.specs.Lists.{select, or_else}
 use Rattle.maps.specs.ListLaws.{select-append}
 use Rattle.maps.specs.Maps.{Map, lookup, numbers}
 use Rattle.maps.specs.MapLaws.{pair}
-use Rattle.maps.specs.CellLaws.{length-le}
+use Rattle.maps.proofs.CellLaws.{length-le}
 use Rattle.rules.specs.Items as rules
 use Rattle.rules.specs.Context.{Part}
 use Rattle.rules_by_group.specs.Group.{Finished, finished_of}

@@ -17,7 +17,7 @@ use Rattle.maps.specs.Lists.{last, or_else}
 use Rattle.maps.specs.Maps.{Pair, lookup, numbers}
 use Rattle.maps.specs.MapLaws.{pair}
 use Rattle.maps.specs.Cells.{holds}
-use Rattle.maps.specs.CellLaws.{lookup_at, lookup_absent}
+use Rattle.maps.proofs.CellLaws.{lookup_at, lookup_absent}
 use Rattle.maps.specs.OrderLaws.{split}
 use Rattle.rules.specs.Items.{status_of}
 use Rattle.rules.specs.Context.{Part}

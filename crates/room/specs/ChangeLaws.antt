@@ -13,7 +13,7 @@ use Rattle.maps.specs.Maps.{Map, Pair, lookup, insert, remove, store, numbers}
 use Rattle.maps.specs.MapLaws.{pair, Ascending, sum-store}
 use Rattle.maps.specs.OrderLaws.{numbers_lawful}
 use Rattle.maps.specs.Cells.{Cell, map_of, Distinct}
-use Rattle.maps.specs.CellLaws.{lookup_at, map_of-ascending, map-store-free, distinct-store-free, map-store_at, distinct-store_at, map-free, distinct-free}
+use Rattle.maps.proofs.CellLaws.{lookup_at, map_of-ascending, map-store-free, distinct-store-free, map-store_at, distinct-store_at, map-free, distinct-free}
 use Rattle.rules.specs.Items.{status_of}
 use Rattle.rules.specs.Context.{Part}
 use Rattle.stores.specs.declared.Store.{Store}

@@ -5,7 +5,7 @@ use Rattle.cells.specs.Part.{part}
 use Rattle.cells.specs.PartLaws.{length_part, get_or-part}
 use Rattle.maps.specs.Lists.{select, sum}
 use Rattle.maps.specs.Cells.{map_of, Distinct}
-use Rattle.maps.specs.CellLaws.{all-free}
+use Rattle.maps.proofs.CellLaws.{all-free}
 use Rattle.stores.specs.declared.Store.{Store}
 use Rattle.stores.specs.Stores.{Area, store_items}
 use Rattle.stores.specs.StoreLaws.{stored-none, none-stored}

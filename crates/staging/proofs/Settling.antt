@@ -16,7 +16,7 @@ use Rattle.maps.specs.BoolLaws.{both}
 use Rattle.maps.specs.Maps.{Map, lookup, insert, numbers}
 use Rattle.maps.specs.MapLaws.{pair}
 use Rattle.maps.specs.Cells.{map_of}
-use Rattle.maps.specs.CellLaws.{map-store-free, distinct-store-free, length-free}
+use Rattle.maps.proofs.CellLaws.{map-store-free, distinct-store-free, length-free}
 use Rattle.rules.specs.Limits.{max_groups}
 use Rattle.rules.specs.Causes.{Result, ok, refused, Refusal}
 use Rattle.rules.specs.Table.{Table}

@@ -16,7 +16,7 @@ use Rattle.maps.specs.Maps.{Pair, Map}
 use Rattle.maps.specs.MapLaws.{pair}
 use Rattle.maps.specs.OrderLaws.{split}
 use Rattle.maps.specs.BoolLaws.{clash, both}
-use Rattle.maps.specs.CellLaws.{every-map_of}
+use Rattle.maps.proofs.CellLaws.{every-map_of}
 use Rattle.rules.specs.Items as rules
 use Rattle.rules.specs.Table.{Table}
 use Rattle.rules.specs.Context.{Part, Context, with_groups, with_waiting}

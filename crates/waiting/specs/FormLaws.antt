@@ -11,7 +11,7 @@ use Rattle.maps.specs.OrderLaws.{split, numbers_lawful}
 use Rattle.maps.specs.Maps.{Map, lookup, insert, store, numbers}
 use Rattle.maps.specs.MapLaws.{pair, length-insert-none, length-insert-some}
 use Rattle.maps.specs.Cells.{Cell, holds}
-use Rattle.maps.specs.CellLaws.{lookup_absent}
+use Rattle.maps.proofs.CellLaws.{lookup_absent}
 use Rattle.rules.specs.Items as rules
 use Rattle.rules.specs.Items.{status_of}
 use Rattle.rules.specs.Context.{Part}

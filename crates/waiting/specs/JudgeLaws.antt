@@ -12,7 +12,7 @@ use Rattle.maps.specs.Maps.{Pair, Map, lookup, insert, store, numbers}
 use Rattle.maps.specs.MapLaws.{pair, Ascending, length-insert-none, length-insert-some}
 use Rattle.maps.specs.Cells as places
 use Rattle.maps.specs.Cells.{Cell, map_of, Distinct}
-use Rattle.maps.specs.CellLaws.{length-full}
+use Rattle.maps.proofs.CellLaws.{length-full}
 use Rattle.rules.specs.Items as rules
 use Rattle.rules.specs.Context.{Part, waiting_fits}
 use Rattle.stores.specs.declared.Store.{Store}
