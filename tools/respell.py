@@ -18,6 +18,8 @@ import sys
 
 NAME = r"[^\s(){}.;,@\"«»]+"
 LINE = re.compile(r"^( *)((?:(?:pub|abbrev|unfoldable|data|record|open|deriving|mutual) )*)(" + NAME + r")((?: [({].*?[)}])*) :(?!:)(.*)$")
+# Several constructors of one type on a line.
+GROUP = re.compile(r"^( +)(?:pub )?((?:" + NAME + r" )+)(" + NAME + r") : [^=]*$")
 STD = ["/opt/rattle/rattle/std/specs", "/opt/rattle/rattle/std/proofs", "/opt/rattle/rattle/core/specs", "/opt/rattle/rattle/core/proofs"]
 # What the rule would give is in use beside it.
 CHOSEN = {"entryFound": "found_entry", "firstIndex": "first_index_of", "headIn": "head_part", "isFree": "is_free_cell", "rowCount": "row_count_of", "movesTo": "MovesForward", "movesOn": "MovesPast", "isDigit": "is_digit_byte", "noItems": "empty_items", "sameBytes": "equal_bytes"}
@@ -44,6 +46,11 @@ def declared(paths):
         for line in open(p, encoding="utf-8"):
             line = line.rstrip("\n")
             m = LINE.match(line)
+            group = GROUP.match(line)
+            if not m and group and record:
+                for name in (group[2] + group[3]).split():
+                    found.setdefault(name, set()).add("field" if record[0] == "record" else "constructor")
+                continue
             if not m:
                 if line.strip() and not line.startswith(" "):
                     record = None
@@ -160,7 +167,7 @@ def main(dry):
 
         def one(m):
             o = m[0]
-            if o not in mine or text[m.start() - 1 : m.start()] == ".":
+            if o not in mine or text[m.start() - 1 : m.start()] == "." and not HUMP.search(o):
                 return o
             return mine[o]
 

@@ -6,7 +6,7 @@ use Rattle.maps.specs.BoolLaws.{clash, both_right}
 use Rattle.maps.specs.OrderLaws.{split}
 use Rattle.maps.specs.Maps.{lookup, numbers}
 use Rattle.rules.specs.Limits.{max_tombstones, max_cleaned}
-use Rattle.rules.specs.Causes.{ok, refuse_at, and_then, placed, limitPassed}
+use Rattle.rules.specs.Causes.{ok, refuse_at, and_then, placed, limit_passed}
 use Rattle.rules.specs.Items.{LogItem, Call, is_tombstone}
 use Rattle.rules.specs.Table.{Table, made}
 use Rattle.rules.specs.Context.{Context, with_groups, fits, limited, keeps, step}
@@ -45,7 +45,7 @@ module _ (call : Call) (it : LogItem) (p : Option ℕ) (c : Context) (h : fits c
   step_room (deed.TheVariants.Change ch) s y =
       step-change call it p c h (rule_of ch rows key value) s.not-reserved (s.rule (lookup numbers it.group c.groups)) y
 
-  pub step_no-room : (d : deed.Deed) → DeedSays d call it.content rows key value → lists_have_room call it c ≡ false → step limited call (record { item = it; place = p }) c ≡ refuse_at limitPassed p
+  pub step_no-room : (d : deed.Deed) → DeedSays d call it.content rows key value → lists_have_room call it c ≡ false → step limited call (record { item = it; place = p }) c ≡ refuse_at limit_passed p
   unfolding DeedSays adds_cleaned
   step_no-room deed.TheVariants.Skip s y = step_skip call it p c h s ∙ rw y
   step_no-room deed.TheVariants.Clean s y = step-clean call it p c h s.0 s.1 ∙ rw y

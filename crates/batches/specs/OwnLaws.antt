@@ -7,7 +7,7 @@ use Rattle.maps.specs.BoolLaws.{clash, neither_left}
 use Rattle.maps.specs.Lists.{any}
 use Rattle.maps.specs.Maps.{lookup, numbers}
 use Rattle.rules.specs.Causes.{ok}
-use Rattle.rules.specs.Items.{Rewrite, has_file, Content, entries, command, kv, Placed, is_reserved, Call, replayAppend, replayRewrite, liveAppend, live_rewrite, writes}
+use Rattle.rules.specs.Items.{Rewrite, has_file, Content, entries, command, kv, Placed, is_reserved, Call, replay_append, replay_rewrite, live_append, live_rewrite, writes}
 use Rattle.rules.specs.Checks.{consecutive, is_incomplete, is_other_queue, is_rewrite_replay, checks}
 use Rattle.rules.specs.Table.{made}
 use Rattle.rules.specs.Context.{context, Context, with_groups, limited, step}
@@ -23,11 +23,11 @@ use Rattle.contexts.specs.Contexts.{context_of}
 use Rattle.batches.specs.Runs.{Keeping}
 
 -- the one call that is a Rewrite replay
-is-replay : (c : Call) → is_rewrite_replay c ≡ true → c ≡ replayRewrite
+is-replay : (c : Call) → is_rewrite_replay c ≡ true → c ≡ replay_rewrite
 unfolding is_rewrite_replay
-is-replay replayAppend e = absurd (clash e)
-is-replay replayRewrite e = refl
-is-replay liveAppend e = absurd (clash e)
+is-replay replay_append e = absurd (clash e)
+is-replay replay_rewrite e = refl
+is-replay live_append e = absurd (clash e)
 is-replay (live_rewrite g s) e = absurd (clash e)
 
 -- no other call asks for anything
@@ -43,7 +43,7 @@ unfolding context_of with_groups
 keeping-table c xs bs k g y = rewrite-made (context_of xs bs) (k.own y).kept (k.own y).is-kind g
 
 -- the entries of an item that passed the checks are of the Rewrite queue
-pub clear-own : (x : Content) → (is_reserved x ≡ false → Clear replayRewrite x) → each_entry (entry_by (context Rewrite)) x ≡ true
+pub clear-own : (x : Content) → (is_reserved x ≡ false → Clear replay_rewrite x) → each_entry (entry_by (context Rewrite)) x ≡ true
 unfolding each_entry entry_by is_reserved is_incomplete is_other_queue writes
 clear-own (entries es) k =
     queue-files Rewrite es (neither_left (any (λ e. not (has_file e.entries)) es) (not (consecutive es)) (k refl).complete) (k refl).own-queue
@@ -51,19 +51,19 @@ clear-own (command c) k = refl
 clear-own (kv y c) k = refl
 
 -- one item that is taken
-pub keeping_step : (c : Call) (x : Placed) (y z : Context) → (is_rewrite_replay c ≡ true → is_reserved x.item.content ≡ false → Clear replayRewrite x.item.content) → Keeping c y → step limited c x y ≡ ok z → Keeping c z
+pub keeping_step : (c : Call) (x : Placed) (y z : Context) → (is_rewrite_replay c ≡ true → is_reserved x.item.content ≡ false → Clear replay_rewrite x.item.content) → Keeping c y → step limited c x y ≡ ok z → Keeping c z
 keeping_step c x y z k h e =
     record {
       own = λ r.
-          step_keeps (context Rewrite) replayRewrite rewrite-keeps x y z (clear-own x.item.content (k r)) (h.own r) (ap (λ (d : Call). step limited d x y) (sym (is-replay c r)) ∙ e);
+          step_keeps (context Rewrite) replay_rewrite rewrite-keeps x y z (clear-own x.item.content (k r)) (h.own r) (ap (λ (d : Call). step limited d x y) (sym (is-replay c r)) ∙ e);
     }
 
 -- item i of a batch that passed the checks
-pub item-clear : (c : Call) (items es bs : List ℕ) (i : ℕ) → checks c (items_of items es bs) ≡ none → i < row_count_of items → is_rewrite_replay c ≡ true → is_reserved (item_at es bs (drop (i * 9) items)).content ≡ false → Clear replayRewrite (item_at es bs (drop (i * 9) items)).content
+pub item-clear : (c : Call) (items es bs : List ℕ) (i : ℕ) → checks c (items_of items es bs) ≡ none → i < row_count_of items → is_rewrite_replay c ≡ true → is_reserved (item_at es bs (drop (i * 9) items)).content ≡ false → Clear replay_rewrite (item_at es bs (drop (i * 9) items)).content
 item-clear c items es bs i p h r =
     let o = passed-opens c items es bs p i h in
     let e = item-opened es bs _ o.item o.opens in
     rw e (λ f. ap-call (is-replay c r) (passed-clear c (items_of items es bs) i (item_of o.item es bs) o.passed f))
   where
-    ap-call : {d : Call} {x : Content} → d ≡ replayRewrite → Clear d x → Clear replayRewrite x
+    ap-call : {d : Call} {x : Content} → d ≡ replay_rewrite → Clear d x → Clear replay_rewrite x
     ap-call e k = rw e at k

@@ -13,7 +13,7 @@ use Rattle.maps.specs.Lists.{every}
 use Rattle.maps.specs.Maps.{Pair, Map, lookup, insert, remove, store, numbers}
 use Rattle.maps.specs.MapLaws.{lookup-insert_same, every-lookup, every-insert, every-remove, length-remove-le}
 use Rattle.rules.specs.Limits.{max_groups, max_tombstones, max_cleaned}
-use Rattle.rules.specs.Causes.{Refusal, Result, ok, refused, refuse, refuse_at, and_then, placed, limitPassed}
+use Rattle.rules.specs.Causes.{Refusal, Result, ok, refused, refuse, refuse_at, and_then, placed, limit_passed}
 use Rattle.rules.specs.Items.{Append, same_queue, Content, entries, command, kv, clean, LogItem, Placed, is_reserved, is_clean, is_tombstone, writes, is_live_rewrite, Call}
 use Rattle.rules.specs.Table.{Table, made, change, command_to}
 use Rattle.rules.specs.Context.{Context, with_groups, with_cleaned, with_tombstones, table_fits, waiting_fits, fits, limited, keeps, add_cleaned, add_tombstone, act, step}
@@ -172,12 +172,12 @@ fits-removed g m h =
 
 -- ---- the steps
 
-pub limited_by : (p : Option ℕ) (c : Context) (b : Bool) → fits c ≡ b → limited p c ≡ cond b (ok c) (refuse_at limitPassed p)
+pub limited_by : (p : Option ℕ) (c : Context) (b : Bool) → fits c ≡ b → limited p c ≡ cond b (ok c) (refuse_at limit_passed p)
 unfolding limited
 limited_by p c b e = rw e
 
 -- a state judged by the limits: the lists decide where the groups fit
-judged : (call : Call) (it : LogItem) (p : Option ℕ) (m : Map ℕ Table) (c : Context) → fits c ≡ true → groups_fit m ≡ true → limited p (grown call it (with_groups m c)) ≡ cond (lists_have_room call it c) (ok (grown call it (with_groups m c))) (refuse_at limitPassed p)
+judged : (call : Call) (it : LogItem) (p : Option ℕ) (m : Map ℕ Table) (c : Context) → fits c ≡ true → groups_fit m ≡ true → limited p (grown call it (with_groups m c)) ≡ cond (lists_have_room call it c) (ok (grown call it (with_groups m c))) (refuse_at limit_passed p)
 judged call it p m c h g =
     limited_by p (grown call it (with_groups m c)) (lists_have_room call it c) (fits-grown call it m c h ∙ ap (λ (b : Bool). b && lists_have_room call it c) g)
 
@@ -200,7 +200,7 @@ module _ (call : Call) (it : LogItem) (p : Option ℕ) (c : Context) (h : fits c
   uncleaned d k = rw k
 
   -- a reserved item is skipped; as a Del it is kept as a tombstone all the same
-  pub step_skip : is_reserved it.content ≡ true → step limited call x c ≡ cond (lists_have_room call it c) (ok (grown call it c)) (refuse_at limitPassed p)
+  pub step_skip : is_reserved it.content ≡ true → step limited call x c ≡ cond (lists_have_room call it c) (ok (grown call it c)) (refuse_at limit_passed p)
   unfolding act adds_cleaned with_groups
   step_skip r =
       let k : adds_cleaned call it ≡ false = rw (reserved-not-clean it.content r) (and-false (same_queue (writes call) Append)) in
@@ -213,7 +213,7 @@ module _ (call : Call) (it : LogItem) (p : Option ℕ) (c : Context) (h : fits c
   cleans e l = rw (e, l)
 
   -- Clean removes the group
-  pub step-clean : it.content ≡ command clean → is_live_rewrite call ≡ false → step limited call x c ≡ cond (lists_have_room call it c) (ok (grown call it (with_groups (remove numbers it.group c.groups) c))) (refuse_at limitPassed p)
+  pub step-clean : it.content ≡ command clean → is_live_rewrite call ≡ false → step limited call x c ≡ cond (lists_have_room call it c) (ok (grown call it (with_groups (remove numbers it.group c.groups) c))) (refuse_at limit_passed p)
   step-clean e l =
       step_of (add_cleaned call it (with_groups (remove numbers it.group c.groups) c)) (cleans e l)
       ∙ ap (limited p) (grows call it (with_groups (remove numbers it.group c.groups) c))
@@ -230,7 +230,7 @@ module _ (call : Call) (it : LogItem) (p : Option ℕ) (c : Context) (h : fits c
     unfolding act and_then store
     inserts t q = rw (n, e, q)
 
-    taken : (t : Table) → by (made (lookup numbers it.group c.groups)) ≡ ok t → step limited call x c ≡ cond (groups_fit (with t) && lists_have_room call it c) (ok (grown call it (with_groups (with t) c))) (refuse_at limitPassed p)
+    taken : (t : Table) → by (made (lookup numbers it.group c.groups)) ≡ ok t → step limited call x c ≡ cond (groups_fit (with t) && lists_have_room call it c) (ok (grown call it (with_groups (with t) c))) (refuse_at limit_passed p)
     taken t q =
         step_of (add_cleaned call it (with_groups (with t) c)) (inserts t q)
         ∙ ap (limited p) (grows call it (with_groups (with t) c))
@@ -243,7 +243,7 @@ module _ (call : Call) (it : LogItem) (p : Option ℕ) (c : Context) (h : fits c
         taken t q
         ∙ rw (q, y, fits-inserted it.group t c.groups (groups-fit c h)) (by-fit (table_fits t && leb (length (with t)) max_groups))
       where
-        by-fit : (b : Bool) → cond (b && true) (ok (grown call it (with_groups (with t) c))) (refuse_at limitPassed p) ≡ placed p (and_then (cond b (ok (with t)) (refuse limitPassed)) (λ m. ok (grown call it (with_groups m c))))
+        by-fit : (b : Bool) → cond (b && true) (ok (grown call it (with_groups (with t) c))) (refuse_at limit_passed p) ≡ placed p (and_then (cond b (ok (with t)) (refuse limit_passed)) (λ m. ok (grown call it (with_groups m c))))
         by-fit true = refl
         by-fit false = refl
 
@@ -258,5 +258,5 @@ module _ (call : Call) (it : LogItem) (p : Option ℕ) (c : Context) (h : fits c
         by_result (ok t) q = accepted y t q
         by_result (refused f) q = refuses f q
 
-    pub step-full : lists_have_room call it c ≡ false → (t : Table) → by (made (lookup numbers it.group c.groups)) ≡ ok t → step limited call x c ≡ refuse_at limitPassed p
+    pub step-full : lists_have_room call it c ≡ false → (t : Table) → by (made (lookup numbers it.group c.groups)) ≡ ok t → step limited call x c ≡ refuse_at limit_passed p
     step-full y t q = taken t q ∙ rw (y, and-false (groups_fit (with t)))

@@ -11,7 +11,7 @@ use Rattle.cells.specs.Part.{put}
 use Rattle.cells.specs.PartLaws.{loan-front-in}
 use Rattle.pipe_log.specs.Numbers.{queue_number, compression_number}
 use Rattle.pipe_log.specs.Rows.{window}
-use Rattle.rules.specs.Causes.{Cause, Result, ok, refuse, and_then, groupAbsent}
+use Rattle.rules.specs.Causes.{Cause, Result, ok, refuse, and_then, group_absent}
 use Rattle.rules.specs.Items.{EntryIndex, file_of}
 use Rattle.rules.specs.Table.{Table}
 use Rattle.rules.specs.Queries.{in_group, answered, lent_after}
@@ -164,5 +164,5 @@ module _ {g : ℕ} {xs bs : List ℕ} {k : ℕ} (s : StandsAt g xs bs k) {h : He
   range-there query {rows} d range a b = rw (← by_entries_lem s e query d (range_of range h rows) a.rule) b
 
 -- a group that is absent: 9, and the slices are as they were
-pub fetched-absent : {a : Result (List EntryIndex)} {out : Columns} → refuse groupAbsent ≡ a → EntriesFetched a out answer.GroupAbsent out
-fetched-absent {out = out} e = rw (← e) (refused_fetched groupAbsent out answer.GroupAbsent refl)
+pub fetched-absent : {a : Result (List EntryIndex)} {out : Columns} → refuse group_absent ≡ a → EntriesFetched a out answer.GroupAbsent out
+fetched-absent {out = out} e = rw (← e) (refused_fetched group_absent out answer.GroupAbsent refl)

@@ -47,7 +47,7 @@ pub record Clear (c : rules.Call) (x : rules.Content) : Type 0 where
   pub own-queue : is_other_queue c x ≡ false
   pub rewritable : is_not_rewritable c x ≡ false
 
-module _ (c : rules.Call) (items : List rules.LogItem) (i : ℕ) (it : rules.LogItem) (p : Passed c items i it) (r : rules.isReserved it.content ≡ false) where
+module _ (c : rules.Call) (items : List rules.LogItem) (i : ℕ) (it : rules.LogItem) (p : Passed c items i it) (r : rules.is_reserved it.content ≡ false) where
   pub passed-clear : Clear c it.content
   unfolding meets3 unless_reserved
   passed-clear =
@@ -63,26 +63,26 @@ module _ (c : rules.Call) (items : List rules.LogItem) (i : ℕ) (it : rules.Log
 
 -- a replayed rewrite is of a group that has Rewrite entries alone
 abbrev pub OnlyRewrite : rules.Call → Table → Type 0
-OnlyRewrite c t = is_rewrite_replay c ≡ true → every rules.isRewrite t.entries ≡ true
+OnlyRewrite c t = is_rewrite_replay c ≡ true → every rules.is_rewrite t.entries ≡ true
 
 pub record Changes (c : rules.Call) (x : rules.Content) (ch : change'.Change) (rows key value : List ℕ) : Type 0 where
-  pub not-reserved : rules.isReserved x ≡ false
+  pub not-reserved : rules.is_reserved x ≡ false
   pub rule : (t : Option Table) → change c x t ≡ and_then (rule_of ch rows key value (made t)) (λ u. ok (some u))
   pub ready : (t : Table) → OnlyRewrite c t → Ready ch rows key value t
   -- a tombstone is never refused by its group
-  pub taken : rules.isTombstone x ≡ true → (t : Table) → (u : Table) × (rule_of ch rows key value t ≡ ok u)
+  pub taken : rules.is_tombstone x ≡ true → (t : Table) → (u : Table) × (rule_of ch rows key value t ≡ ok u)
   -- a Clean that changes its group is one of the Rewrite side
-  pub not-cleaned : rules.sameQueue (rules.writes c) rules.Append && rules.isClean x ≡ false
+  pub not-cleaned : rules.same_queue (rules.writes c) rules.Append && rules.is_clean x ≡ false
 
 unfoldable pub DeedSays : deed.Deed → rules.Call → rules.Content → List ℕ → List ℕ → List ℕ → Type 0
-DeedSays deed.TheVariants.Skip c x rows key value = rules.isReserved x ≡ true
-DeedSays deed.TheVariants.Clean c x rows key value = (x ≡ rules.command rules.clean) × (rules.isLiveRewrite c ≡ false)
+DeedSays deed.TheVariants.Skip c x rows key value = rules.is_reserved x ≡ true
+DeedSays deed.TheVariants.Clean c x rows key value = (x ≡ rules.command rules.clean) × (rules.is_live_rewrite c ≡ false)
 DeedSays (deed.TheVariants.Change ch) c x rows key value = Changes c x ch rows key value
 
 -- ---- lists of entries
 
 abbrev unfiled : rules.EntryIndex → Bool
-unfiled e = not (rules.hasFile e.entries)
+unfiled e = not (rules.has_file e.entries)
 
 module _ (c : rules.Call) (es : List ℕ) (e : EntryIndexes) (w : (e.at + e.count) * 8 ≤ length es) where
   abbrev rows : List ℕ
@@ -117,39 +117,39 @@ module _ (c : rules.Call) (es : List ℕ) (e : EntryIndexes) (w : (e.at + e.coun
 
 module _ (es : List ℕ) (e : EntryIndexes) (w : (e.at + e.count) * 8 ≤ length es) where
   abbrev list : rules.Content
-  list = rules.entries (entries_of e.count (rows rules.replayAppend es e w))
+  list = rules.entries (entries_of e.count (rows rules.replay_append es e w))
 
   entries_say : (c : call.Call) → Clear (call_of c) list → Changes (call_of c) list (entries_change c (get_or (rows (call_of c) es e w) 0 0)) (rows (call_of c) es e w) [] []
-  unfolding call_of rule_of Ready change entries_to rules.isReserved rules.isTombstone rules.isClean rules.writes rules.sameQueue is_rewrite_replay
+  unfolding call_of rule_of Ready change entries_to rules.is_reserved rules.is_tombstone rules.is_clean rules.writes rules.same_queue is_rewrite_replay
   entries_say call.TheVariants.ReplayAppend k =
       record {
         not-reserved = refl;
-        rule = λ t. rw (whole-window rules.replayAppend es e w k);
-        ready = λ t o. lent_rows_lem rules.replayAppend es e w k;
+        rule = λ t. rw (whole-window rules.replay_append es e w k);
+        ready = λ t o. lent_rows_lem rules.replay_append es e w k;
         taken = λ f t. absurd (clash f);
         not-cleaned = refl;
       }
   entries_say call.TheVariants.ReplayRewrite k =
       record {
         not-reserved = refl;
-        rule = λ t. rw (whole-window rules.replayRewrite es e w k);
-        ready = λ t o. (lent_rows_lem rules.replayRewrite es e w k, o refl);
+        rule = λ t. rw (whole-window rules.replay_rewrite es e w k);
+        ready = λ t o. (lent_rows_lem rules.replay_rewrite es e w k, o refl);
         taken = λ f t. absurd (clash f);
         not-cleaned = refl;
       }
   entries_say call.TheVariants.LiveAppend k =
       record {
         not-reserved = refl;
-        rule = λ t. rw (whole-window rules.liveAppend es e w k);
-        ready = λ t o. lent_rows_lem rules.liveAppend es e w k;
+        rule = λ t. rw (whole-window rules.live_append es e w k);
+        ready = λ t o. lent_rows_lem rules.live_append es e w k;
         taken = λ f t. absurd (clash f);
         not-cleaned = refl;
       }
   entries_say (call.TheVariants.LiveRewrite g s) k =
       record {
         not-reserved = refl;
-        rule = λ t. rw (whole-window (rules.liveRewrite (gate_of g) s) es e w k);
-        ready = λ t o. lent_rows_lem (rules.liveRewrite (gate_of g) s) es e w k;
+        rule = λ t. rw (whole-window (rules.live_rewrite (gate_of g) s) es e w k);
+        ready = λ t o. lent_rows_lem (rules.live_rewrite (gate_of g) s) es e w k;
         taken = λ f t. absurd (clash f);
         not-cleaned = refl;
       }
@@ -157,12 +157,12 @@ module _ (es : List ℕ) (e : EntryIndexes) (w : (e.at + e.count) * 8 ≤ length
 -- ---- commands
 
 compact-says : (c : rules.Call) (i : ℕ) → Changes c (rules.command (rules.compact i)) (change'.TheVariants.Compact i) [] [] []
-unfolding rule_of Ready change command_to and_then rules.isReserved rules.isTombstone rules.isClean
+unfolding rule_of Ready change command_to and_then rules.is_reserved rules.is_tombstone rules.is_clean
 compact-says c i =
-    record { not-reserved = refl; rule = λ t. refl; ready = λ t o. tt; taken = λ f t. (_, refl); not-cleaned = and-false (rules.sameQueue (rules.writes c) rules.Append) }
+    record { not-reserved = refl; rule = λ t. refl; ready = λ t o. tt; taken = λ f t. (_, refl); not-cleaned = and-false (rules.same_queue (rules.writes c) rules.Append) }
 
 clean-says : (c : call.Call) → DeedSays (clean_deed c) (call_of c) (rules.command rules.clean) [] [] []
-unfolding DeedSays call_of rule_of Ready change command_to and_then rules.isReserved rules.isTombstone rules.isClean rules.isLiveRewrite rules.writes rules.sameQueue
+unfolding DeedSays call_of rule_of Ready change command_to and_then rules.is_reserved rules.is_tombstone rules.is_clean rules.is_live_rewrite rules.writes rules.same_queue
 clean-says call.TheVariants.ReplayAppend = (refl, refl)
 clean-says call.TheVariants.ReplayRewrite = (refl, refl)
 clean-says call.TheVariants.LiveAppend = (refl, refl)
@@ -178,25 +178,25 @@ command-says c (command.TheVariants.Compact i) = compact-says (call_of c) i
 
 module _ (key : List ℕ) (r : equal_bytes key reserved_key ≡ false) where
   delete-says : (c : rules.Call) → Changes c (rules.kv key rules.del) change'.TheVariants.Delete [] key []
-  unfolding rule_of Ready change change_to and_then rules.isReserved rules.isTombstone rules.isClean
+  unfolding rule_of Ready change change_to and_then rules.is_reserved rules.is_tombstone rules.is_clean
   delete-says c =
-      record { not-reserved = r; rule = λ t. refl; ready = λ t o. tt; taken = λ f t. (_, refl); not-cleaned = and-false (rules.sameQueue (rules.writes c) rules.Append) }
+      record { not-reserved = r; rule = λ t. refl; ready = λ t o. tt; taken = λ f t. (_, refl); not-cleaned = and-false (rules.same_queue (rules.writes c) rules.Append) }
 
   -- a live rewrite reads neither value nor file
-  move-says : (g : _) (s : ℕ) (v : Option (List ℕ)) (f : Option _) (value : List ℕ) → Changes (rules.liveRewrite (gate_of g) s) (rules.kv key (rules.put v f)) (change'.TheVariants.RewriteKey g s) [] key value
-  unfolding rule_of Ready change change_to put_to rules.isReserved rules.isTombstone rules.isClean
+  move-says : (g : _) (s : ℕ) (v : Option (List ℕ)) (f : Option _) (value : List ℕ) → Changes (rules.live_rewrite (gate_of g) s) (rules.kv key (rules.put v f)) (change'.TheVariants.RewriteKey g s) [] key value
+  unfolding rule_of Ready change change_to put_to rules.is_reserved rules.is_tombstone rules.is_clean
   move-says g s v f value =
-      record { not-reserved = r; rule = λ t. refl; ready = λ t o. tt; taken = λ f t. absurd (clash f); not-cleaned = and-false (rules.sameQueue (rules.writes (rules.liveRewrite (gate_of g) s)) rules.Append) }
+      record { not-reserved = r; rule = λ t. refl; ready = λ t o. tt; taken = λ f t. absurd (clash f); not-cleaned = and-false (rules.same_queue (rules.writes (rules.live_rewrite (gate_of g) s)) rules.Append) }
 
   -- a Put that is read has a value and a file
-  module _ (c : rules.Call) (l : rules.isLiveRewrite c ≡ false)
+  module _ (c : rules.Call) (l : rules.is_live_rewrite c ≡ false)
       (puts : (v : Option (List ℕ)) (f : Option rules.FileId) (t : Table) → put_to c key v f t ≡ ok (put_held key v f t)) where
     lacks : (x : rules.Change) → is_incomplete c (rules.kv key x) ≡ false → (lacks_value x || lacks_file x) ≡ false
     unfolding is_incomplete
     lacks x e = rw l at e
 
     put-says : (v : value.Value) (f : file.KeyFile) (bs : List ℕ) → Clear c (rules.kv key (rules.put (value_of v bs) (key_file_of f))) → DeedSays (put_held_deed f) c (rules.kv key (rules.put (value_of v bs) (key_file_of f))) [] key (value_part v bs)
-    unfolding DeedSays rule_of Ready change change_to put_held and_then value_of key_file_of lacks_value lacks_file long long_change or_else rules.isReserved rules.isTombstone rules.isClean
+    unfolding DeedSays rule_of Ready change change_to put_held and_then value_of key_file_of lacks_value lacks_file long long_change or_else rules.is_reserved rules.is_tombstone rules.is_clean
     put-says v file.TheVariants.Absent bs k = absurd (clash (sym (neither_right (lacks_value (rules.put (value_of v bs) none)) true (lacks (rules.put (value_of v bs) none) k.complete))))
     put-says value.TheVariants.Absent (file.TheVariants.Of f) bs k = absurd (clash (sym (neither_left true false (lacks (rules.put none (some f)) k.complete))))
     put-says (value.TheVariants.At a n) (file.TheVariants.Of f) bs k =
@@ -207,14 +207,14 @@ module _ (key : List ℕ) (r : equal_bytes key reserved_key ≡ false) where
           rule = λ t. rw (puts (some (part a n bs)) (some f) (made t));
           ready = λ t o. (ltb-false max_bytes (length key) (neither_left x y k.short), ltb-false max_bytes (length (part a n bs)) (neither_right x y k.short));
           taken = λ f t. absurd (clash f);
-          not-cleaned = and-false (rules.sameQueue (rules.writes c) rules.Append);
+          not-cleaned = and-false (rules.same_queue (rules.writes c) rules.Append);
         }
 
   put_by-call : (c : call.Call) (v : value.Value) (f : file.KeyFile) (bs : List ℕ) → Clear (call_of c) (rules.kv key (rules.put (value_of v bs) (key_file_of f))) → DeedSays (put_deed c f) (call_of c) (rules.kv key (rules.put (value_of v bs) (key_file_of f))) [] key (value_part v bs)
-  unfolding DeedSays call_of put_to rules.isLiveRewrite
-  put_by-call call.TheVariants.ReplayAppend v f bs k = put-says rules.replayAppend refl (λ v f t. refl) v f bs k
-  put_by-call call.TheVariants.ReplayRewrite v f bs k = put-says rules.replayRewrite refl (λ v f t. refl) v f bs k
-  put_by-call call.TheVariants.LiveAppend v f bs k = put-says rules.liveAppend refl (λ v f t. refl) v f bs k
+  unfolding DeedSays call_of put_to rules.is_live_rewrite
+  put_by-call call.TheVariants.ReplayAppend v f bs k = put-says rules.replay_append refl (λ v f t. refl) v f bs k
+  put_by-call call.TheVariants.ReplayRewrite v f bs k = put-says rules.replay_rewrite refl (λ v f t. refl) v f bs k
+  put_by-call call.TheVariants.LiveAppend v f bs k = put-says rules.live_append refl (λ v f t. refl) v f bs k
   put_by-call (call.TheVariants.LiveRewrite g s) v f bs k = move-says g s (value_of v bs) (key_file_of f) (value_part v bs)
 
   op-says : (c : call.Call) (o : op.OpType) (v : value.Value) (f : file.KeyFile) (bs : List ℕ) → BareOp o v → Clear (call_of c) (rules.kv key (change_of o v f bs)) → DeedSays (op_deed c o f) (call_of c) (rules.kv key (change_of o v f bs)) [] key (value_part v bs)
@@ -224,8 +224,8 @@ module _ (key : List ℕ) (r : equal_bytes key reserved_key ≡ false) where
 
 -- ---- any item
 
-pub deed-says : (c : call.Call) (x : content.LogItemContent) (es bs : List ℕ) → Within x (length es) (length bs) → Bare x → (rules.isReserved (content_of x es bs) ≡ false → Clear (call_of c) (content_of x es bs)) → DeedSays (deed_of c x es bs) (call_of c) (content_of x es bs) (rows_in x es) (key_in x bs) (value_in x bs)
-unfolding DeedSays deed_of content_of key_content key_change rules.isReserved
+pub deed-says : (c : call.Call) (x : content.LogItemContent) (es bs : List ℕ) → Within x (length es) (length bs) → Bare x → (rules.is_reserved (content_of x es bs) ≡ false → Clear (call_of c) (content_of x es bs)) → DeedSays (deed_of c x es bs) (call_of c) (content_of x es bs) (rows_in x es) (key_in x bs) (value_in x bs)
+unfolding DeedSays deed_of content_of key_content key_change rules.is_reserved
 deed-says c (content.TheVariants.EntryIndexes e) es bs w d k = entries_say es e w.rows c (k refl)
 deed-says c (content.TheVariants.Command m) es bs w d k = command-says c m
 deed-says c (content.TheVariants.Kv x) es bs w d k =

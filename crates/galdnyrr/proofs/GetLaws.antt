@@ -9,7 +9,7 @@ use borrow.Author.Tests.{le-leb, lt-leb}
 use Rattle.cells.specs.Part.{put}
 use Rattle.maps.specs.Lists.{or_else}
 use Rattle.maps.specs.Maps.{lookup, numbers}
-use Rattle.rules.specs.Causes.{Result, ok, refuse, groupAbsent}
+use Rattle.rules.specs.Causes.{Result, ok, refuse, group_absent}
 use Rattle.rules.specs.Table.{Table}
 use Rattle.rules.specs.Context.{Context}
 use Rattle.rules.specs.Queries.{in_group}
@@ -17,12 +17,12 @@ use Rattle.queries.specs.Fetches.{told_of, value_of, Got}
 use Rattle.galdnyrr.specs.Asked.{absent, number_or_absent, in_bytes, copy_after, length_after, GotTold}
 
 -- an answer is 9, an absent key or a value
-module _ (P : Result (Option (List ℕ)) → Type 0) (nine : P (refuse groupAbsent)) (nothing : P (ok none)) (value : (v : List ℕ) → P (ok (some v))) where
+module _ (P : Result (Option (List ℕ)) → Type 0) (nine : P (refuse group_absent)) (nothing : P (ok none)) (value : (v : List ℕ) → P (ok (some v))) where
   by_value : (x : Option (List ℕ)) → P (ok x)
   by_value none = nothing
   by_value (some v) = value v
 
-  by-group : (q : Table → Option (List ℕ)) (o : Option Table) → P (or_else (refuse groupAbsent) (λ t. ok (q t)) o)
+  by-group : (q : Table → Option (List ℕ)) (o : Option Table) → P (or_else (refuse group_absent) (λ t. ok (q t)) o)
   unfolding or_else
   by-group q none = nine
   by-group q (some t) = by_value (q t)
@@ -45,7 +45,7 @@ module _ (out : List ℕ) (len told : ℕ) (v : List ℕ) where
   Copied a =
       Got a told v → (told ≡ 9 → ⊥) → (told ≡ 0 → ⊥) → length v ≤ length out → (out' : List ℕ) → out' ≡ put out 0 v → GotTold a out len 0 out' (length v)
 
-  nine-refused : Nine (refuse groupAbsent)
+  nine-refused : Nine (refuse group_absent)
   unfolding number_or_absent in_bytes copy_after length_after
   nine-refused g e = record { number_is = refl; copy_is = refl; length-is = refl }
 
@@ -57,7 +57,7 @@ module _ (out : List ℕ) (len told : ℕ) (v : List ℕ) where
   unfolding told_of
   nine-some w g e = absurd (omega (arith, g.told_is, e))
 
-  absent-refused : Absent (refuse groupAbsent)
+  absent-refused : Absent (refuse group_absent)
   unfolding told_of
   absent-refused g e = absurd (omega (arith, g.told_is, e))
 
@@ -69,7 +69,7 @@ module _ (out : List ℕ) (len told : ℕ) (v : List ℕ) where
   unfolding told_of
   absent-some w g e = absurd (omega (arith, g.told_is, e))
 
-  short-refused : Short (refuse groupAbsent)
+  short-refused : Short (refuse group_absent)
   unfolding told_of
   short-refused g n z l = absurd (n g.told_is)
 
@@ -90,7 +90,7 @@ module _ (out : List ℕ) (len told : ℕ) (v : List ℕ) where
   unfolding value_of
   short-some w g n z l = short-value w (rw g.value-is at l)
 
-  copied-refused : Copied (refuse groupAbsent)
+  copied-refused : Copied (refuse group_absent)
   unfolding told_of
   copied-refused g n z l out' p = absurd (n g.told_is)
 

@@ -2,7 +2,7 @@
 use Rattle.std.specs.Prelude.{Bool, cond, List, [], ◌∷◌, ◌≡◌, ℕ, leb, length}
 use Rattle.std.proofs.Math.Option.{Option, none, some}
 use Rattle.cells.specs.Part.{put}
-use Rattle.rules.specs.Causes.{Result, ok, refused, refuse, listTooShort, and_then}
+use Rattle.rules.specs.Causes.{Result, ok, refused, refuse, list_too_short, and_then}
 use Rattle.rules.specs.Items.{EntryIndex}
 use Rattle.rules.specs.TableQueries.{KeyValue}
 use Rattle.rules.specs.Queries.{answered, lent_after, take_cleaned, after_taking}
@@ -54,7 +54,7 @@ flagged r = and_then r (λ b. ok (flag_of b))
 -- a record that finds no room in the lent row
 unfoldable pub in_row : List ℕ → Result (Option EntryIndex) → Result (Option EntryIndex)
 in_row row (ok none) = ok none
-in_row row (ok (some e)) = cond (leb 8 (length row)) (ok (some e)) (refuse listTooShort)
+in_row row (ok (some e)) = cond (leb 8 (length row)) (ok (some e)) (refuse list_too_short)
 in_row row (refused r) = refused r
 
 unfoldable pub row_after : List ℕ → Result (Option EntryIndex) → List ℕ
@@ -102,7 +102,7 @@ pub record CleanedTold (xs bs lent : List ℕ) (count number count' : ℕ) (xs' 
 -- a value that finds no room in them
 unfoldable pub in_bytes : List ℕ → Result (Option (List ℕ)) → Result (Option (List ℕ))
 in_bytes out (ok none) = ok none
-in_bytes out (ok (some v)) = cond (leb (length v) (length out)) (ok (some v)) (refuse listTooShort)
+in_bytes out (ok (some v)) = cond (leb (length v) (length out)) (ok (some v)) (refuse list_too_short)
 in_bytes out (refused r) = refused r
 
 unfoldable pub copy_after : List ℕ → Result (Option (List ℕ)) → List ℕ

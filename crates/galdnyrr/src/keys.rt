@@ -108,7 +108,7 @@ pub extern "C" fn galdnyrr_fetch_kvs_before(
     count: &mut u64,
 ) -> u64
     requires { Wf xs.now bs.now }
-    ensures { KeysTold (in_group group (λ t. ok (rules.fetchKvsBefore gate t)) (context_of xs.now bs.now)) lens.old out.old count.old result count.new lens.new out.new }
+    ensures { KeysTold (in_group group (λ t. ok (rules.fetch_kvs_before gate t)) (context_of xs.now bs.now)) lens.old out.old count.old result count.new lens.new out.new }
 {
     let fetched = queries::fetch_kvs_before(xs, bs, group, gate, lens, out);
     tell_fetched(fetched, count)
@@ -125,7 +125,7 @@ pub extern "C" fn galdnyrr_fetch_rewritten_kvs(
     count: &mut u64,
 ) -> u64
     requires { Wf xs.now bs.now }
-    ensures { KeysTold (in_group group (λ t. ok (rules.fetchRewrittenKvs t)) (context_of xs.now bs.now)) lens.old out.old count.old result count.new lens.new out.new }
+    ensures { KeysTold (in_group group (λ t. ok (rules.fetch_rewritten_kvs t)) (context_of xs.now bs.now)) lens.old out.old count.old result count.new lens.new out.new }
 {
     let fetched = queries::fetch_rewritten_kvs(xs, bs, group, lens, out);
     tell_fetched(fetched, count)

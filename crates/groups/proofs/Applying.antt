@@ -20,7 +20,7 @@ use Rattle.maps.specs.MapLaws.{pair, remove_absent, length-insert-none, length-i
 use Rattle.maps.specs.OrderLaws.{split, numbers_lawful}
 use Rattle.maps.specs.Cells.{map_of}
 use Rattle.maps.proofs.CellLaws.{map-store_at, distinct-store_at, map-store-free, distinct-store-free, map-free, distinct-free, length-free}
-use Rattle.rules.specs.Causes.{Result, ok, refused, Refusal, refuse, and_then, limitPassed}
+use Rattle.rules.specs.Causes.{Result, ok, refused, Refusal, refuse, and_then, limit_passed}
 use Rattle.rules.specs.Limits.{max_groups}
 use Rattle.rules.specs.Table.{Table, empty_table, made}
 use Rattle.rules.specs.Context.{table_fits}
@@ -54,7 +54,7 @@ same-refused : {A B : Type 0} {c d : Refusal} → ◌≡◌ {A = Result A} (refu
 same-refused e = cc
 
 module _ (g : ℕ) (m : Map ℕ Table) where
-  result_ok : (r : Result Table) (t : Table) → limited_table r ≡ ok t → length (insert numbers g t m) ≤ slots → and_then r (λ u. cond (table_fits u && leb (length (insert numbers g u m)) max_groups) (ok (insert numbers g u m)) (refuse limitPassed)) ≡ ok (insert numbers g t m)
+  result_ok : (r : Result Table) (t : Table) → limited_table r ≡ ok t → length (insert numbers g t m) ≤ slots → and_then r (λ u. cond (table_fits u && leb (length (insert numbers g u m)) max_groups) (ok (insert numbers g u m)) (refuse limit_passed)) ≡ ok (insert numbers g t m)
   unfolding limited_table and_then
   result_ok (ok u) t e l =
       split (table_fits u)
@@ -62,7 +62,7 @@ module _ (g : ℕ) (m : Map ℕ Table) where
       (λ f. absurd (not-ok (rw f at e)))
   result_ok (refused c) t e l = absurd (not-ok e)
 
-  result-refused : (r : Result Table) (c : Refusal) → limited_table r ≡ refused c → and_then r (λ u. cond (table_fits u && leb (length (insert numbers g u m)) max_groups) (ok (insert numbers g u m)) (refuse limitPassed)) ≡ refused c
+  result-refused : (r : Result Table) (c : Refusal) → limited_table r ≡ refused c → and_then r (λ u. cond (table_fits u && leb (length (insert numbers g u m)) max_groups) (ok (insert numbers g u m)) (refuse limit_passed)) ≡ refused c
   unfolding limited_table and_then
   result-refused (ok u) c e =
       split (table_fits u)
@@ -80,7 +80,7 @@ module _ (by : Table → Result Table) (g : ℕ) (m : Map ℕ Table) (t : Table)
   on-refused c f = rw e (sym (result-refused g m (by t) c f))
 
   -- the table is taken, and there is one group too many
-  on-full : (u : Table) → by t ≡ ok u → slots < length (insert numbers g u m) → refuse limitPassed ≡ on_group by g m
+  on-full : (u : Table) → by t ≡ ok u → slots < length (insert numbers g u m) → refuse limit_passed ≡ on_group by g m
   unfolding on_group and_then
   on-full u f l = rw (e, f, lt-leb _ 8 l, and-false)
 

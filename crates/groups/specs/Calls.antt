@@ -1,7 +1,7 @@
 -- What the calls on groups promise.
 use Rattle.std.specs.Prelude.{cond, false, ◌&&◌, List, ◌≡◌, ℕ, leb, length}
 use Rattle.maps.specs.Maps.{Map, lookup, insert, remove, numbers}
-use Rattle.rules.specs.Causes.{Result, ok, refuse, and_then, limitPassed}
+use Rattle.rules.specs.Causes.{Result, ok, refuse, and_then, limit_passed}
 use Rattle.rules.specs.Limits.{max_groups}
 use Rattle.rules.specs.Table.{Table, made}
 use Rattle.rules.specs.Context.{table_fits}
@@ -19,7 +19,7 @@ use Rattle.groups.specs.Area.{stretch_at, bytes_at, cells, groups_of, Wf, Only, 
 unfoldable pub on_group : (Table → Result Table) → ℕ → Map ℕ Table → Result (Map ℕ Table)
 on_group by g m =
     and_then (by (made (lookup numbers g m)))
-    (λ t. cond (table_fits t && leb (length (insert numbers g t m)) max_groups) (ok (insert numbers g t m)) (refuse limitPassed))
+    (λ t. cond (table_fits t && leb (length (insert numbers g t m)) max_groups) (ok (insert numbers g t m)) (refuse limit_passed))
 
 -- stretch k is changed by a rule, and nothing else
 pub record ChangedAt (by : Table → Result Table) (k : ℕ) (xs bs : List ℕ) (r : Outcome) (xs' bs' : List ℕ) : Type 0 where

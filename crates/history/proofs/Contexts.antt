@@ -16,7 +16,7 @@ use Rattle.maps.specs.OrderLaws.{split, numbers_lawful, bytes_lawful}
 use Rattle.maps.specs.MapLaws.{Ascending, laid, ascending-nil, ascending-store, lookup-store, every_intro, every-lookup, length-sub, length-newer}
 use Rattle.rules.specs.Limits.{max_groups, max_entries, max_keys, max_tombstones, max_cleaned}
 use Rattle.rules.specs.Causes.{ok}
-use Rattle.rules.specs.Items.{Append, same_queue, put, del, Content, entries, command, kv, LogItem, Placed, is_reserved, is_tombstone, writes, replayAppend}
+use Rattle.rules.specs.Items.{Append, same_queue, put, del, Content, entries, command, kv, LogItem, Placed, is_reserved, is_tombstone, writes, replay_append}
 use Rattle.rules.specs.Table.{Table, made, over_keys}
 use Rattle.rules.specs.Context.{context, Context, fresh, table_fits, waiting_fits, fits, limited, keeps, step}
 use Rattle.rules.specs.Calls.{merge_table}
@@ -46,7 +46,7 @@ pub record GoodContext (c : Context) : Type 0 where
   pub tombs : all_tombstones c.tombstones ≡ true
   pub within : fits c ≡ true
 
-good-changed : (x : Content) (o t : Option Table) → GoodIf o → FitIf x → changed replayAppend x o ≡ ok t → GoodIf t
+good-changed : (x : Content) (o t : Option Table) → GoodIf o → FitIf x → changed replay_append x o ≡ ok t → GoodIf t
 unfolding FitIf changed
 good-changed x o t g f h =
     split (is_reserved x)
@@ -60,12 +60,12 @@ tables-store k t m asc tables gt g =
     (split (eqb g k) (λ e. rw e gt) (λ e. rw e (tables g)))
 
 -- an accepted step leaves a good context
-pub good_step : (x : Placed) (c d : Context) → GoodContext c → FitIf x.item.content → step limited replayAppend x c ≡ ok d → GoodContext d
+pub good_step : (x : Placed) (c d : Context) → GoodContext c → FitIf x.item.content → step limited replay_append x c ≡ ok d → GoodContext d
 good_step x c d g f h =
-    let s = step-taken replayAppend x c d g.ascend h in
+    let s = step-taken replay_append x c d g.ascend h in
     rw s.2 (good-after s.0 s.1 (rw s.2 at s.3))
   where
-    good-after : (t : Option Table) → changed replayAppend x.item.content (lookup numbers x.item.group c.groups) ≡ ok t → fits (after replayAppend x.item t c) ≡ true → GoodContext (after replayAppend x.item t c)
+    good-after : (t : Option Table) → changed replay_append x.item.content (lookup numbers x.item.group c.groups) ≡ ok t → fits (after replay_append x.item t c) ≡ true → GoodContext (after replay_append x.item t c)
     good-after t e w =
         record {
           is-append = unfold after kept_by cleaned_by keeps writes same_queue in g.is-append;
@@ -100,11 +100,11 @@ leaves_reserved (kv k c) o h = tt
 
 pub record SimulatedIf (x : Content) (o n s : Option Table) : Type 0 where
   pub next : Option Table
-  pub taken : changed replayAppend x n ≡ ok next
+  pub taken : changed replay_append x n ≡ ok next
   pub again : s ≡ lay (effected x o) next
   pub leaves : Leaves x n
 
-pub simulate_if : (x : Content) (o n s : Option Table) → GoodIf o → GoodIf n → FitIf x → Leaves x (lay o n) → changed replayAppend x (lay o n) ≡ ok s → SimulatedIf x o n s
+pub simulate_if : (x : Content) (o n s : Option Table) → GoodIf o → GoodIf n → FitIf x → Leaves x (lay o n) → changed replay_append x (lay o n) ≡ ok s → SimulatedIf x o n s
 unfolding FitIf changed effected
 simulate_if x o n s go gn f l h = split (is_reserved x) skipped taken
   where
@@ -263,7 +263,7 @@ LeavesAt it c = Leaves it.content (lookup numbers it.group c.groups)
 
 pub record Stepped (older pass newer : Context) (x : Placed) : Type 0 where
   pub next : Context
-  pub taken : step limited replayAppend x newer ≡ ok next
+  pub taken : step limited replay_append x newer ≡ ok next
   pub related : Related older pass next
   pub leaves : LeavesAt x.item newer
 
@@ -287,7 +287,7 @@ module _ (older pass newer : Context) (x : Placed) (r : Related older pass newer
       ∙ ap (lay (tombed g (newer.tombstones ++ tomb_of x.item) (lookup numbers g older.groups))) (sym (lookup-store numbers numbers_lawful g x.item.group n newer.groups r.good-newer.ascend))
 
   -- the newer context after the item
-  module _ (f : FitIf x.item.content) (s : Option Table) (w : fits (after replayAppend x.item s pass) ≡ true) (v : SimulatedIf x.item.content (tombed_older x.item.group) (lookup numbers x.item.group newer.groups) s) where
+  module _ (f : FitIf x.item.content) (s : Option Table) (w : fits (after replay_append x.item s pass) ≡ true) (v : SimulatedIf x.item.content (tombed_older x.item.group) (lookup numbers x.item.group newer.groups) s) where
     next-tombs : pass.tombstones ++ tomb_of x.item ≡ older.tombstones ++ (newer.tombstones ++ tomb_of x.item)
     next-tombs = ap (λ l. l ++ tomb_of x.item) r.same-tombs ∙ append_assoc older.tombstones newer.tombstones (tomb_of x.item)
 
@@ -297,31 +297,31 @@ module _ (older pass newer : Context) (x : Placed) (r : Related older pass newer
     longer : {A : Type 0} (l m n : List A) → l ≡ m ++ n → length n ≤ length l
     longer l m n e = rw (e, length-append m n) (omega arith)
 
-    next_fits : fits (after replayAppend x.item v.next newer) ≡ true
+    next_fits : fits (after replay_append x.item v.next newer) ≡ true
     next_fits =
         unfold after kept_by cleaned_by keeps writes same_queue in
-        fits-newer (after replayAppend x.item s pass) (after replayAppend x.item v.next newer) (λ g. tombed g (newer.tombstones ++ tomb_of x.item) (lookup numbers g older.groups)) (next-groups s v.next v.again) (ascending-store numbers numbers_lawful x.item.group v.next newer.groups r.good-newer.ascend) (tables-store x.item.group v.next newer.groups r.good-newer.ascend r.good-newer.tables (good-changed x.item.content (lookup numbers x.item.group newer.groups) v.next (r.good-newer.tables x.item.group) f v.taken)) (longer (pass.tombstones ++ tomb_of x.item) older.tombstones (newer.tombstones ++ tomb_of x.item) next-tombs) (longer (pass.cleaned ++ clean_of x.item) older.cleaned (newer.cleaned ++ clean_of x.item) next-cleaned) (r.good-newer.none-waits ∙ sym r.good-pass.none-waits) w
+        fits-newer (after replay_append x.item s pass) (after replay_append x.item v.next newer) (λ g. tombed g (newer.tombstones ++ tomb_of x.item) (lookup numbers g older.groups)) (next-groups s v.next v.again) (ascending-store numbers numbers_lawful x.item.group v.next newer.groups r.good-newer.ascend) (tables-store x.item.group v.next newer.groups r.good-newer.ascend r.good-newer.tables (good-changed x.item.content (lookup numbers x.item.group newer.groups) v.next (r.good-newer.tables x.item.group) f v.taken)) (longer (pass.tombstones ++ tomb_of x.item) older.tombstones (newer.tombstones ++ tomb_of x.item) next-tombs) (longer (pass.cleaned ++ clean_of x.item) older.cleaned (newer.cleaned ++ clean_of x.item) next-cleaned) (r.good-newer.none-waits ∙ sym r.good-pass.none-waits) w
 
-    next_step : step limited replayAppend x newer ≡ ok (after replayAppend x.item v.next newer)
-    next_step = step_of limited replayAppend x newer r.good-newer.ascend v.next v.taken ∙ limited-fits x.place (after replayAppend x.item v.next newer) next_fits
+    next_step : step limited replay_append x newer ≡ ok (after replay_append x.item v.next newer)
+    next_step = step_of limited replay_append x newer r.good-newer.ascend v.next v.taken ∙ limited-fits x.place (after replay_append x.item v.next newer) next_fits
 
   -- a step that the pass takes, the newer context takes, and they stay related
-  pub related_step : (next-pass : Context) → FitIf x.item.content → LeavesAt x.item pass → step limited replayAppend x pass ≡ ok next-pass → Stepped older next-pass newer x
+  pub related_step : (next-pass : Context) → FitIf x.item.content → LeavesAt x.item pass → step limited replay_append x pass ≡ ok next-pass → Stepped older next-pass newer x
   unfolding LeavesAt after kept_by cleaned_by keeps writes same_queue
   related_step next-pass f l h =
-      let t = step-taken replayAppend x pass next-pass r.good-pass.ascend h in
+      let t = step-taken replay_append x pass next-pass r.good-pass.ascend h in
       let here = r.same-groups x.item.group in
       let v =
-      simulate_if x.item.content (tombed_older x.item.group) (lookup numbers x.item.group newer.groups) t.0 (good-tombed x.item.group newer.tombstones (lookup numbers x.item.group older.groups) (r.good-older.tables x.item.group)) (r.good-newer.tables x.item.group) f (rw here at l) ((sym (ap (changed replayAppend x.item.content) here) ∙ t.1)) in
+      simulate_if x.item.content (tombed_older x.item.group) (lookup numbers x.item.group newer.groups) t.0 (good-tombed x.item.group newer.tombstones (lookup numbers x.item.group older.groups) (r.good-older.tables x.item.group)) (r.good-newer.tables x.item.group) f (rw here at l) ((sym (ap (changed replay_append x.item.content) here) ∙ t.1)) in
       let w = rw t.2 at t.3 in
       rw t.2
       (record {
-        next = after replayAppend x.item v.next newer;
+        next = after replay_append x.item v.next newer;
         taken = next_step f t.0 w v;
         related = record {
           good-older = r.good-older;
           good-pass = rw t.2 at (good_step x pass next-pass r.good-pass f h);
-          good-newer = good_step x newer (after replayAppend x.item v.next newer) r.good-newer f (next_step f t.0 w v);
+          good-newer = good_step x newer (after replay_append x.item v.next newer) r.good-newer f (next_step f t.0 w v);
           same-tombs = next-tombs f t.0 w v;
           same-cleaned = next-cleaned f t.0 w v;
           same-groups = next-groups t.0 v.next v.again;

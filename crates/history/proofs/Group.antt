@@ -12,8 +12,8 @@ use Rattle.maps.specs.Maps.{Map, lookup, insert, remove, merge_with, bytes}
 use Rattle.maps.specs.ListLaws.{every_append, every-selected}
 use Rattle.maps.specs.OrderLaws.{split, bytes_lawful}
 use Rattle.maps.specs.MapLaws.{Ascending, laid, ascending-nil, ascending-insert, ascending-remove, ascending-merge_with, lookup-insert_same, lookup-insert-other, lookup-remove_same, lookup-remove-other, lookup-merge_with, ext, every-insert, every-remove}
-use Rattle.rules.specs.Causes.{ok, refuse, and_then, aboveLast}
-use Rattle.rules.specs.Items.{Append, FileId, EntryIndex, same_queue, file_of, clean, compact, put, del, Content, entries, command, kv, replayAppend, is_live_rewrite}
+use Rattle.rules.specs.Causes.{ok, refuse, and_then, above_last}
+use Rattle.rules.specs.Items.{Append, FileId, EntryIndex, same_queue, file_of, clean, compact, put, del, Content, entries, command, kv, replay_append, is_live_rewrite}
 use Rattle.rules.specs.Checks.{consecutive}
 use Rattle.rules.specs.Table.{Held, Table, empty_table, made, with_entries, with_keys, with_span, entries_below, entries_from, is_above_last, over, appended, compacted, put_key, delete_key, over_keys, put_held, entries_to, put_to, change_to, command_to, change}
 use Rattle.rules.specs.Calls.{over_of, merge_table}
@@ -189,7 +189,7 @@ module _ (o : Option Table) (t : Table) where
 -- ---- the item's three ways through a table
 
 -- entries
-pub append-refused : (e : EntryIndex) (es : List EntryIndex) (t : Table) → is_above_last e.index t.entries ≡ true → appended false (e ∷ es) t ≡ refuse aboveLast
+pub append-refused : (e : EntryIndex) (es : List EntryIndex) (t : Table) → is_above_last e.index t.entries ≡ true → appended false (e ∷ es) t ≡ refuse above_last
 unfolding appended
 append-refused e es t h = rw h
 
@@ -241,34 +241,34 @@ delete-laid k o t go gt =
 
 -- ---- what an item does, by its content
 
-pub change-entries : (es : List EntryIndex) (o : Option Table) → change replayAppend (entries es) o ≡ and_then (appended false es (made o)) (λ x. ok (some x))
+pub change-entries : (es : List EntryIndex) (o : Option Table) → change replay_append (entries es) o ≡ and_then (appended false es (made o)) (λ x. ok (some x))
 unfolding change entries_to
 change-entries es o = refl
 
-pub change-clean : (o : Option Table) → change replayAppend (command clean) o ≡ ok none
+pub change-clean : (o : Option Table) → change replay_append (command clean) o ≡ ok none
 unfolding change command_to is_live_rewrite
 change-clean o = refl
 
-pub change-compact : (i : ℕ) (o : Option Table) → change replayAppend (command (compact i)) o ≡ ok (some (compacted i (made o)))
+pub change-compact : (i : ℕ) (o : Option Table) → change replay_append (command (compact i)) o ≡ ok (some (compacted i (made o)))
 unfolding change command_to
 change-compact i o = refl
 
-pub change-put : (k v : List ℕ) (f : FileId) (o : Option Table) → change replayAppend (kv k (put (some v) (some f))) o ≡ ok (some (put_key k (record { value = v; file = f }) (made o)))
+pub change-put : (k v : List ℕ) (f : FileId) (o : Option Table) → change replay_append (kv k (put (some v) (some f))) o ≡ ok (some (put_key k (record { value = v; file = f }) (made o)))
 unfolding change change_to put_to put_held and_then
 change-put k v f o = refl
 
-pub change-del : (k : List ℕ) (o : Option Table) → change replayAppend (kv k del) o ≡ ok (some (delete_key k (made o)))
+pub change-del : (k : List ℕ) (o : Option Table) → change replay_append (kv k del) o ≡ ok (some (delete_key k (made o)))
 unfolding change change_to and_then
 change-del k o = refl
 
 -- the newer table takes what the laid one takes, and stays the one that is laid over the older one
 pub record Simulated (x : Content) (o n s : Option Table) : Type 0 where
   pub next : Option Table
-  pub taken : change replayAppend x n ≡ ok next
+  pub taken : change replay_append x n ≡ ok next
   pub again : s ≡ lay (effect x o) next
   pub leaves : Leaves x n
 
-simulate-entries : (es : List EntryIndex) (o n s : Option Table) → GoodIf n → change replayAppend (entries es) (lay o n) ≡ ok s → Simulated (entries es) o n s
+simulate-entries : (es : List EntryIndex) (o n s : Option Table) → GoodIf n → change replay_append (entries es) (lay o n) ≡ ok s → Simulated (entries es) o n s
 unfolding Leaves effect
 simulate-entries es o n s gn h =
     let whole = and_then_ok (appended false es (made (lay o n))) (λ x. ok (some x)) s (sym (change-entries es (lay o n)) ∙ h) in
@@ -280,12 +280,12 @@ simulate-entries es o n s gn h =
       leaves = tt;
     }
 
-simulate-clean : (o n s : Option Table) → change replayAppend (command clean) (lay o n) ≡ ok s → Simulated (command clean) o n s
+simulate-clean : (o n s : Option Table) → change replay_append (command clean) (lay o n) ≡ ok s → Simulated (command clean) o n s
 unfolding Leaves effect lay laid
 simulate-clean o n s h =
     record { next = none; taken = change-clean n; again = sym (ok_inj (sym (change-clean (lay o n)) ∙ h)); leaves = tt }
 
-simulate-compact : (i : ℕ) (o n s : Option Table) → GoodIf n → Leaves (command (compact i)) (lay o n) → change replayAppend (command (compact i)) (lay o n) ≡ ok s → Simulated (command (compact i)) o n s
+simulate-compact : (i : ℕ) (o n s : Option Table) → GoodIf n → Leaves (command (compact i)) (lay o n) → change replay_append (command (compact i)) (lay o n) ≡ ok s → Simulated (command (compact i)) o n s
 unfolding Leaves effect
 simulate-compact i o n s gn lx h =
     let p = premise-over i (made o).entries (made n).entries (rw (made-lay o n, merged-entries o (made n)) at lx) (good-made n gn).window in
@@ -296,7 +296,7 @@ simulate-compact i o n s gn lx h =
       leaves = p;
     }
 
-simulate-del : (k : List ℕ) (o n s : Option Table) → GoodIf o → GoodIf n → change replayAppend (kv k del) (lay o n) ≡ ok s → Simulated (kv k del) o n s
+simulate-del : (k : List ℕ) (o n s : Option Table) → GoodIf o → GoodIf n → change replay_append (kv k del) (lay o n) ≡ ok s → Simulated (kv k del) o n s
 unfolding Leaves effect
 simulate-del k o n s go gn h =
     record {
@@ -306,7 +306,7 @@ simulate-del k o n s go gn h =
       leaves = tt;
     }
 
-simulate-put : (k : List ℕ) (v : Option (List ℕ)) (f : Option FileId) (o n s : Option Table) → GoodIf o → GoodIf n → FitPut v f → change replayAppend (kv k (put v f)) (lay o n) ≡ ok s → Simulated (kv k (put v f)) o n s
+simulate-put : (k : List ℕ) (v : Option (List ℕ)) (f : Option FileId) (o n s : Option Table) → GoodIf o → GoodIf n → FitPut v f → change replay_append (kv k (put v f)) (lay o n) ≡ ok s → Simulated (kv k (put v f)) o n s
 unfolding Leaves effect FitPut
 simulate-put k none f o n s go gn fx h = absurd fx
 simulate-put k (some v) none o n s go gn fx h = absurd fx
@@ -318,7 +318,7 @@ simulate-put k (some v) (some f) o n s go gn fx h =
       leaves = tt;
     }
 
-pub simulate : (x : Content) (o n s : Option Table) → GoodIf o → GoodIf n → Fit x → Leaves x (lay o n) → change replayAppend x (lay o n) ≡ ok s → Simulated x o n s
+pub simulate : (x : Content) (o n s : Option Table) → GoodIf o → GoodIf n → Fit x → Leaves x (lay o n) → change replay_append x (lay o n) ≡ ok s → Simulated x o n s
 unfolding Fit
 simulate (entries es) o n s go gn fx lx h = simulate-entries es o n s gn h
 simulate (command clean) o n s go gn fx lx h = simulate-clean o n s h
@@ -396,7 +396,7 @@ good_delete k t g =
 good-is : (o s : Option Table) → o ≡ s → GoodIf o → GoodIf s
 good-is o s p g = rw p at g
 
-good-put_if : (k : List ℕ) (v : Option (List ℕ)) (f : Option FileId) (o s : Option Table) → GoodIf o → FitPut v f → change replayAppend (kv k (put v f)) o ≡ ok s → GoodIf s
+good-put_if : (k : List ℕ) (v : Option (List ℕ)) (f : Option FileId) (o s : Option Table) → GoodIf o → FitPut v f → change replay_append (kv k (put v f)) o ≡ ok s → GoodIf s
 unfolding FitPut
 good-put_if k none f o s g fx h = absurd fx
 good-put_if k (some v) none o s g fx h = absurd fx
@@ -404,7 +404,7 @@ good-put_if k (some v) (some f) o s g fx h =
     good-is (some (put_key k (record { value = v; file = f }) (made o))) s (ok_inj (sym (change-put k v f o) ∙ h)) (good-some (put_key k (record { value = v; file = f }) (made o)) (good-put k (record { value = v; file = f }) (made o) (good-made o g) fx))
 
 -- an accepted item leaves a good table
-pub good-change : (x : Content) (o s : Option Table) → GoodIf o → Fit x → change replayAppend x o ≡ ok s → GoodIf s
+pub good-change : (x : Content) (o s : Option Table) → GoodIf o → Fit x → change replay_append x o ≡ ok s → GoodIf s
 unfolding Fit GoodIf
 good-change (entries es) o s g fx h =
     let whole = and_then_ok (appended false es (made o)) (λ x. ok (some x)) s (sym (change-entries es o) ∙ h) in

@@ -8,8 +8,8 @@ use Prim.Native.Nat.{ℕ, suc}
 use borrow.Author.Tests.{eq-eqb}
 use Rattle.maps.specs.Lists.{select, or_else}
 use Rattle.maps.specs.Maps.{lookup, numbers}
-use Rattle.rules.specs.Causes.{Refusal, Result, ok, refused, refuse, wrongKind, in_order, left}
-use Rattle.rules.specs.Items.{LogQueue, Append, Rewrite, same_queue, clean, compact, Content, entries, command, kv, LogItem, Batch, Placed, placed_from, replayAppend}
+use Rattle.rules.specs.Causes.{Refusal, Result, ok, refused, refuse, wrong_kind, in_order, left}
+use Rattle.rules.specs.Items.{LogQueue, Append, Rewrite, same_queue, clean, compact, Content, entries, command, kv, LogItem, Batch, Placed, placed_from, replay_append}
 use Rattle.rules.specs.Table.{made, entries_from}
 use Rattle.rules.specs.Checks.{checks}
 use Rattle.rules.specs.Context.{context, is_context, Context, limited, step, run}
@@ -28,8 +28,8 @@ use Rattle.history.proofs.Rule.{HeldBy, held_step, entries-snoc, left-own, left-
 -- a batch that an Append context took has an Append file, passes the checks, and its items were taken in order
 pub record Taken (b : Batch) (c d : Context) : Type 0 where
   pub append-file : b.file.queue ≡ Append
-  pub checks-none : checks replayAppend b.items ≡ none
-  pub ran : run limited replayAppend (placed_from 0 b.items) c ≡ ok d
+  pub checks-none : checks replay_append b.items ≡ none
+  pub ran : run limited replay_append (placed_from 0 b.items) c ≡ ok d
 
 unless-none : (a : Result Context) (r : Option Refusal) → r ≡ none → or_else a (λ x. refused x) r ≡ a
 unfolding or_else
@@ -41,27 +41,27 @@ unless-some a r x e = rw e
 
 module _ (b : Batch) (c : Context) (k : c.kind ≡ context Append) where
   abbrev items-ran : Result Context
-  items-ran = run limited replayAppend (placed_from 0 b.items) c
+  items-ran = run limited replay_append (placed_from 0 b.items) c
 
-  replay-append : b.file.queue ≡ Append → replay b c ≡ or_else items-ran (λ r. refused r) (checks replayAppend b.items)
+  replay-append : b.file.queue ≡ Append → replay b c ≡ or_else items-ran (λ r. refused r) (checks replay_append b.items)
   unfolding replay is_context same_queue replay_batch checked run_batch
   replay-append q = rw (q, k)
 
-  replay-other : b.file.queue ≡ Rewrite → replay b c ≡ refuse wrongKind
+  replay-other : b.file.queue ≡ Rewrite → replay b c ≡ refuse wrong_kind
   unfolding replay is_context same_queue
   replay-other q = rw (q, k)
 
   pub replay-taken : (d : Context) → replay b c ≡ ok d → Taken b c d
   replay-taken d h = by_queue b.file.queue refl
     where
-      passed : (r : Option Refusal) → checks replayAppend b.items ≡ r → b.file.queue ≡ Append → Taken b c d
+      passed : (r : Option Refusal) → checks replay_append b.items ≡ r → b.file.queue ≡ Append → Taken b c d
       passed none e q =
-          record { append-file = q; checks-none = e; ran = sym (unless-none items-ran (checks replayAppend b.items) e) ∙ sym (replay-append q) ∙ h }
+          record { append-file = q; checks-none = e; ran = sym (unless-none items-ran (checks replay_append b.items) e) ∙ sym (replay-append q) ∙ h }
       passed (some r) e q =
-          absurd (refused_not_ok (sym (unless-some items-ran (checks replayAppend b.items) r e) ∙ sym (replay-append q) ∙ h))
+          absurd (refused_not_ok (sym (unless-some items-ran (checks replay_append b.items) r e) ∙ sym (replay-append q) ∙ h))
 
       by_queue : (q : LogQueue) → b.file.queue ≡ q → Taken b c d
-      by_queue Append e = passed (checks replayAppend b.items) refl e
+      by_queue Append e = passed (checks replay_append b.items) refl e
       by_queue Rewrite e = absurd (refused_not_ok (sym (replay-other e) ∙ h))
 
 -- ---- the premise, of what is left of a list
@@ -119,12 +119,12 @@ leaves_of pre x c h p = by_content x.content refl
     by_content (command (compact i)) e = unfold Leaves in rw e (compacts i e)
     by_content (kv k d) e = unfold Leaves in rw e tt
 
-pub steps_of : (xs : List LogItem) (n : ℕ) (pre : List LogItem) (c d : Context) → GoodContext c → HeldBy pre c → AllFit xs → PremiseFrom pre xs → run limited replayAppend (placed_from n xs) c ≡ ok d → Steps (placed_from n xs) c d × HeldBy (pre ++ xs) d
+pub steps_of : (xs : List LogItem) (n : ℕ) (pre : List LogItem) (c d : Context) → GoodContext c → HeldBy pre c → AllFit xs → PremiseFrom pre xs → run limited replay_append (placed_from n xs) c ≡ ok d → Steps (placed_from n xs) c d × HeldBy (pre ++ xs) d
 unfolding placed_from run in_order AllFit
 steps_of [] n pre c d g h f p r = (rw (← (ok_inj r)) Steps.done, rw (append-nil pre, ← (ok_inj r)) h)
 steps_of (x ∷ xs) n pre c d g h f p r =
     let here : Placed = record { item = x; place = some n } in
-    let s = and_then_ok (step limited replayAppend here c) (in_order (step limited replayAppend) (placed_from (suc n) xs)) d r in
+    let s = and_then_ok (step limited replay_append here c) (in_order (step limited replay_append) (placed_from (suc n) xs)) d r in
     let rest = steps_of xs (suc n) (pre ++ (x ∷ [])) s.0 d (good_step here c s.0 g f.0 s.1) (held_step pre here c s.0 g f.0 s.1 h) f.1 (premise-right pre (x ∷ []) xs p) s.2 in
     (Steps.more s.0 s.1 f.0 (leaves_of pre x c h (premise-first pre x xs p)) rest.0, rw (append_assoc pre (x ∷ []) xs) at rest.1)
 

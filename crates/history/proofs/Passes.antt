@@ -11,8 +11,8 @@ use borrow.Author.Tests.{not-false}
 use Rattle.maps.specs.Lists.{every, any, or_else, find_from}
 use Rattle.maps.specs.OrderLaws.{split}
 use Rattle.rules.specs.Limits.{max_items}
-use Rattle.rules.specs.Causes.{Cause, tooLong, incomplete, outOfRange, wrongQueue, Refusal, ok, in_order}
-use Rattle.rules.specs.Items.{Append, FileId, same_queue, has_file, file_of, put, del, Content, entries, command, kv, LogItem, Batch, Placed, placed_from, is_reserved, writes, replayAppend, is_live_rewrite}
+use Rattle.rules.specs.Causes.{Cause, too_long, incomplete, out_of_range, wrong_queue, Refusal, ok, in_order}
+use Rattle.rules.specs.Items.{Append, FileId, same_queue, has_file, file_of, put, del, Content, entries, command, kv, LogItem, Batch, Placed, placed_from, is_reserved, writes, replay_append, is_live_rewrite}
 use Rattle.rules.specs.Checks.{consecutive, long, is_incomplete, is_out_of_range, is_other_queue, other_file, lacks_value, lacks_file, meets3, or_next, unless_reserved, checks}
 use Rattle.rules.specs.Context.{context, is_context, Context, fresh, limited, step, run}
 use Rattle.rules.specs.Calls.{checked, run_batch, replay_batch, replay, merge}
@@ -26,13 +26,13 @@ use Rattle.history.proofs.Merging.{merge-related}
 
 -- ---- the checks
 
-fit-put : (k : List ℕ) (v : Option (List ℕ)) (f : Option FileId) → is_incomplete replayAppend (kv k (put v f)) ≡ false → is_other_queue replayAppend (kv k (put v f)) ≡ false → FitPut v f
+fit-put : (k : List ℕ) (v : Option (List ℕ)) (f : Option FileId) → is_incomplete replay_append (kv k (put v f)) ≡ false → is_other_queue replay_append (kv k (put v f)) ≡ false → FitPut v f
 unfolding is_incomplete is_other_queue is_live_rewrite lacks_value lacks_file other_file writes or_else FitPut
 fit-put k none f h q = absurd (true≢false h)
 fit-put k (some v) none h q = absurd (true≢false h)
 fit-put k (some v) (some f) h q = not-false (same_queue f.queue Append) q
 
-fit_of : (x : Content) → is_incomplete replayAppend x ≡ false → is_other_queue replayAppend x ≡ false → Fit x
+fit_of : (x : Content) → is_incomplete replay_append x ≡ false → is_other_queue replay_append x ≡ false → Fit x
 unfolding Fit
 fit_of (entries es) h q = (window, files)
   where
@@ -45,7 +45,7 @@ fit_of (command c) h q = tt
 fit_of (kv k (put v f)) h q = fit-put k v f h q
 fit_of (kv k del) h q = tt
 
-fit_if : (x : Content) (i : ℕ) (it : LogItem) → it.content ≡ x → meets3 replayAppend x ≡ false → unless_reserved (is_other_queue replayAppend) i it ≡ false → FitIf x
+fit_if : (x : Content) (i : ℕ) (it : LogItem) → it.content ≡ x → meets3 replay_append x ≡ false → unless_reserved (is_other_queue replay_append) i it ≡ false → FitIf x
 unfolding FitIf meets3 unless_reserved
 fit_if x i it e h q =
     split (is_reserved x)
@@ -66,11 +66,11 @@ unfoldable pub AllFit : List LogItem → Type 0
 AllFit [] = Unit {0}
 AllFit (x ∷ xs) = FitIf x.content × AllFit xs
 
-found-fit : (i : ℕ) (xs : List LogItem) → find_from (λ j it. meets3 replayAppend it.content) i xs ≡ none → find_from (unless_reserved (is_other_queue replayAppend)) i xs ≡ none → AllFit xs
+found-fit : (i : ℕ) (xs : List LogItem) → find_from (λ j it. meets3 replay_append it.content) i xs ≡ none → find_from (unless_reserved (is_other_queue replay_append)) i xs ≡ none → AllFit xs
 unfolding AllFit
 found-fit i [] h q = tt
 found-fit i (x ∷ xs) h q =
-    (fit_if x.content i x refl (find_head (λ j it. meets3 replayAppend it.content) i x xs h) (find_head (unless_reserved (is_other_queue replayAppend)) i x xs q), found-fit (suc i) xs (find-tail (λ j it. meets3 replayAppend it.content) i x xs h) (find-tail (unless_reserved (is_other_queue replayAppend)) i x xs q))
+    (fit_if x.content i x refl (find_head (λ j it. meets3 replay_append it.content) i x xs h) (find_head (unless_reserved (is_other_queue replay_append)) i x xs q), found-fit (suc i) xs (find-tail (λ j it. meets3 replay_append it.content) i x xs h) (find-tail (unless_reserved (is_other_queue replay_append)) i x xs q))
 
 none_of : (n : Cause) (o : Option ℕ) (next : Option Refusal) → or_next n o next ≡ none → (o ≡ none) × (next ≡ none)
 unfolding or_next
@@ -78,24 +78,24 @@ none_of n none next h = (refl, h)
 none_of n (some i) next h = absurd (some-not-none h)
 
 -- a batch that the checks pass has fit items
-pub checks-fit : (items : List LogItem) → checks replayAppend items ≡ none → AllFit items
+pub checks-fit : (items : List LogItem) → checks replay_append items ≡ none → AllFit items
 unfolding checks
 checks-fit items h =
-    let a = none_of tooLong (find_from (λ i it. eqb i max_items || long it.content) 0 items) _ h in
-    let b = none_of incomplete (find_from (λ i it. meets3 replayAppend it.content) 0 items) _ a.1 in
-    let c = none_of outOfRange (find_from (unless_reserved is_out_of_range) 0 items) _ b.1 in
-    let d = none_of wrongQueue (find_from (unless_reserved (is_other_queue replayAppend)) 0 items) _ c.1 in
+    let a = none_of too_long (find_from (λ i it. eqb i max_items || long it.content) 0 items) _ h in
+    let b = none_of incomplete (find_from (λ i it. meets3 replay_append it.content) 0 items) _ a.1 in
+    let c = none_of out_of_range (find_from (unless_reserved is_out_of_range) 0 items) _ b.1 in
+    let d = none_of wrong_queue (find_from (unless_reserved (is_other_queue replay_append)) 0 items) _ c.1 in
     found-fit 0 items b.0 d.0
 
 -- ---- a pass that is accepted and meets the premise
 
 pub data Steps : List Placed → Context → Context → Type 0 where
   done : {c : Context} → Steps [] c c
-  more : {x : Placed} {xs : List Placed} {c e : Context} (d : Context) → step limited replayAppend x c ≡ ok d → FitIf x.item.content → LeavesAt x.item c → Steps xs d e → Steps (x ∷ xs) c e
+  more : {x : Placed} {xs : List Placed} {c e : Context} (d : Context) → step limited replay_append x c ≡ ok d → FitIf x.item.content → LeavesAt x.item c → Steps xs d e → Steps (x ∷ xs) c e
 
 pub data Pass : List Batch → Context → Context → Type 0 where
   done : {c : Context} → Pass [] c c
-  more : {b : Batch} {bs : List Batch} {c e : Context} (d : Context) → b.file.queue ≡ Append → checks replayAppend b.items ≡ none → Steps (placed_from 0 b.items) c d → Pass bs d e → Pass (b ∷ bs) c e
+  more : {b : Batch} {bs : List Batch} {c e : Context} (d : Context) → b.file.queue ≡ Append → checks replay_append b.items ≡ none → Steps (placed_from 0 b.items) c d → Pass bs d e → Pass (b ∷ bs) c e
 
 pub steps-good : {xs : List Placed} {c d : Context} → Steps xs c d → GoodContext c → GoodContext d
 steps-good done g = g
@@ -106,17 +106,17 @@ pass-good done g = g
 pass-good (more d q k s p) g = pass-good p (steps-good s g)
 
 -- the steps are the calls
-pub steps_run : {xs : List Placed} {c d : Context} → Steps xs c d → run limited replayAppend xs c ≡ ok d
+pub steps_run : {xs : List Placed} {c d : Context} → Steps xs c d → run limited replay_append xs c ≡ ok d
 unfolding run in_order
 steps_run done = refl
-steps_run (more {x = x} {xs = xs} {c = c} d h f l s) = and_then_of (step limited replayAppend x c) (in_order (step limited replayAppend) xs) d h ∙ steps_run s
+steps_run (more {x = x} {xs = xs} {c = c} d h f l s) = and_then_of (step limited replay_append x c) (in_order (step limited replay_append) xs) d h ∙ steps_run s
 
 -- a batch in an Append context whose checks pass
-pub replay_run : (b : Batch) (c : Context) → c.kind ≡ context Append → b.file.queue ≡ Append → checks replayAppend b.items ≡ none → replay b c ≡ run limited replayAppend (placed_from 0 b.items) c
+pub replay_run : (b : Batch) (c : Context) → c.kind ≡ context Append → b.file.queue ≡ Append → checks replay_append b.items ≡ none → replay b c ≡ run limited replay_append (placed_from 0 b.items) c
 unfolding replay is_context same_queue replay_batch checked or_else run_batch
 replay_run b c k q h = rw (q, k, h)
 
-pub batch-replay : (b : Batch) {c d : Context} → GoodContext c → b.file.queue ≡ Append → checks replayAppend b.items ≡ none → Steps (placed_from 0 b.items) c d → replay b c ≡ ok d
+pub batch-replay : (b : Batch) {c d : Context} → GoodContext c → b.file.queue ≡ Append → checks replay_append b.items ≡ none → Steps (placed_from 0 b.items) c d → replay b c ≡ ok d
 batch-replay b {c} g q h s = replay_run b c g.is-append q h ∙ steps_run s
 
 pub pass_calls : {bs : List Batch} {c d : Context} → GoodContext c → Pass bs c d → in_order replay bs c ≡ ok d

@@ -15,7 +15,7 @@ use Rattle.maps.specs.OrderLaws.{split, numbers_lawful, bytes_lawful}
 use Rattle.maps.specs.MapLaws.{Ascending, lookup-store, lookup-insert_same, lookup-insert-other, lookup-remove_same, lookup-remove-other}
 use Rattle.rules.specs.Limits.{reserved_key}
 use Rattle.rules.specs.Causes.{ok}
-use Rattle.rules.specs.Items.{Append, FileId, EntryIndex, clean, compact, put, del, Content, entries, command, kv, LogItem, Placed, is_reserved, replayAppend}
+use Rattle.rules.specs.Items.{Append, FileId, EntryIndex, clean, compact, put, del, Content, entries, command, kv, LogItem, Placed, is_reserved, replay_append}
 use Rattle.rules.specs.Table.{Held, Table, empty_table, made, with_entries, with_keys, entries_below, entries_from, over, appended, compacted, put_key, delete_key, change}
 use Rattle.rules.specs.Context.{Context, fresh, limited, step}
 use Rattle.history.specs.Held.{ends_entry, entry_stays, list_of, appended_to, entries_held, ends_key, key_stays, held_of, put_of, put_to, key_held}
@@ -133,7 +133,7 @@ with_entries_lem : (es : List EntryIndex) (t : Table) → (with_entries es t).en
 unfolding with_entries
 with_entries_lem es t = refl
 
-put-kept : (k : List ℕ) (v : Option (List ℕ)) (f : Option FileId) (o t : Option Table) → FitPut v f → change replayAppend (kv k (put v f)) o ≡ ok t → (made t).entries ≡ left_of (kv k (put v f)) (made o).entries ++ list_of (kv k (put v f))
+put-kept : (k : List ℕ) (v : Option (List ℕ)) (f : Option FileId) (o t : Option Table) → FitPut v f → change replay_append (kv k (put v f)) o ≡ ok t → (made t).entries ≡ left_of (kv k (put v f)) (made o).entries ++ list_of (kv k (put v f))
 unfolding FitPut
 put-kept k none f o t x h = absurd x
 put-kept k (some v) none o t x h = absurd x
@@ -141,7 +141,7 @@ put-kept k (some v) (some f) o t x h =
     unchanged (kv k (put (some v) (some f))) o t (put_key k (record { value = v; file = f }) (made o)) (ok_inj (sym (change-put k v f o) ∙ h)) (put_entries k (record { value = v; file = f }) (made o)) (λ i. unfold ends_entry in refl) (unfold list_of in refl)
 
 -- what an accepted content leaves of the entries and adds to them
-entries-change : (x : Content) (o t : Option Table) → Fit x → change replayAppend x o ≡ ok t → (made t).entries ≡ left_of x (made o).entries ++ list_of x
+entries-change : (x : Content) (o t : Option Table) → Fit x → change replay_append x o ≡ ok t → (made t).entries ≡ left_of x (made o).entries ++ list_of x
 unfolding Fit
 entries-change (entries es) o t f h =
     let whole = and_then_ok (appended false es (made o)) (λ x. ok (some x)) t (sym (change-entries es o) ∙ h) in
@@ -181,7 +181,7 @@ entries-skipped (kv k c) o h = sym (append_of ∙ left_all (kv k c) (made o).ent
     append_of : left_of (kv k c) (made o).entries ++ list_of (kv k c) ≡ left_of (kv k c) (made o).entries
     append_of = unfold list_of in append-nil (left_of (kv k c) (made o).entries)
 
-pub entries-kept : (x : Content) (o t : Option Table) → FitIf x → changed replayAppend x o ≡ ok t → (made t).entries ≡ left_of x (made o).entries ++ list_of x
+pub entries-kept : (x : Content) (o t : Option Table) → FitIf x → changed replay_append x o ≡ ok t → (made t).entries ≡ left_of x (made o).entries ++ list_of x
 unfolding FitIf changed
 entries-kept x o t f h =
     split (is_reserved x)
@@ -272,7 +272,7 @@ key_delete k j m asc =
     (λ e. rw e (rw (bytes_lawful.same-eq k j e) (lookup-remove_same bytes bytes_lawful j m asc)))
     (λ e. rw e (lookup-remove-other bytes bytes_lawful k j m e))
 
-key-put_if : (j : List ℕ) (v : Option (List ℕ)) (f : Option FileId) (o t : Option Table) (k : List ℕ) → FitPut v f → change replayAppend (kv j (put v f)) o ≡ ok t → lookup bytes k (made t).keys ≡ key_by (ends_key k (kv j (put v f))) (put_of k (kv j (put v f))) (lookup bytes k (made o).keys)
+key-put_if : (j : List ℕ) (v : Option (List ℕ)) (f : Option FileId) (o t : Option Table) (k : List ℕ) → FitPut v f → change replay_append (kv j (put v f)) o ≡ ok t → lookup bytes k (made t).keys ≡ key_by (ends_key k (kv j (put v f))) (put_of k (kv j (put v f))) (lookup bytes k (made o).keys)
 unfolding FitPut ends_key put_of held_of or_else
 key-put_if j none f o t k x h = absurd x
 key-put_if j (some v) none o t k x h = absurd x
@@ -281,7 +281,7 @@ key-put_if j (some v) (some f) o t k x h =
     ∙ ap (lookup bytes k) (put-keys j (record { value = v; file = f }) (made o))
     ∙ key-put k j (record { value = v; file = f }) (made o).keys
 
-keys-change : (x : Content) (o t : Option Table) (k : List ℕ) → GoodIf o → Fit x → change replayAppend x o ≡ ok t → lookup bytes k (made t).keys ≡ key_by (ends_key k x) (put_of k x) (lookup bytes k (made o).keys)
+keys-change : (x : Content) (o t : Option Table) (k : List ℕ) → GoodIf o → Fit x → change replay_append x o ≡ ok t → lookup bytes k (made t).keys ≡ key_by (ends_key k x) (put_of k x) (lookup bytes k (made o).keys)
 unfolding Fit
 keys-change (entries es) o t k g f h =
     let whole = and_then_ok (appended false es (made o)) (λ x. ok (some x)) t (sym (change-entries es o) ∙ h) in
@@ -320,7 +320,7 @@ keys-skipped (kv j (put v f)) o k n h =
     key-stayed k (kv j (put v f)) o o refl (unfold ends_key in refl) (unfold put_of in rw (ap (equal_bytes k) (bytes_lawful.same-eq j reserved_key h) ∙ n))
 
 -- what an accepted content does to a key that is not reserved
-pub keys_kept : (x : Content) (o t : Option Table) (k : List ℕ) → equal_bytes k reserved_key ≡ false → GoodIf o → FitIf x → changed replayAppend x o ≡ ok t → lookup bytes k (made t).keys ≡ key_by (ends_key k x) (put_of k x) (lookup bytes k (made o).keys)
+pub keys_kept : (x : Content) (o t : Option Table) (k : List ℕ) → equal_bytes k reserved_key ≡ false → GoodIf o → FitIf x → changed replay_append x o ≡ ok t → lookup bytes k (made t).keys ≡ key_by (ends_key k x) (put_of k x) (lookup bytes k (made o).keys)
 unfolding FitIf changed
 keys_kept x o t k n g f h =
     split (is_reserved x)
@@ -367,8 +367,8 @@ at_store F G g k t m asc e =
     (λ u. rw u (e ∙ ap (λ j. G (F (lookup numbers j m))) (sym (eqb-true g k u))))
     (λ u. rw u)
 
-module _ (items : List LogItem) (x : Placed) (c : Context) (good : GoodContext c) (f : FitIf x.item.content) (held : HeldBy items c) (t : Option Table) (e : changed replayAppend x.item.content (lookup numbers x.item.group c.groups) ≡ ok t) where
-  held-entries : (g : ℕ) → entries_in g (after replayAppend x.item t c) ≡ entries_held g (items ++ (x.item ∷ []))
+module _ (items : List LogItem) (x : Placed) (c : Context) (good : GoodContext c) (f : FitIf x.item.content) (held : HeldBy items c) (t : Option Table) (e : changed replay_append x.item.content (lookup numbers x.item.group c.groups) ≡ ok t) where
+  held-entries : (g : ℕ) → entries_in g (after replay_append x.item t c) ≡ entries_held g (items ++ (x.item ∷ []))
   unfolding entries_in after
   held-entries g =
       at_store (λ o. (made o).entries) (λ es. left_of x.item.content es ++ list_of x.item.content) g x.item.group t c.groups good.ascend (entries-kept x.item.content (lookup numbers x.item.group c.groups) t f e)
@@ -376,7 +376,7 @@ module _ (items : List LogItem) (x : Placed) (c : Context) (good : GoodContext c
       ∙ ap (λ es. select (left_by g x.item) es ++ appended_to g x.item) (held.entries-held g)
       ∙ sym (entries-snoc g items x.item)
 
-  held-keys : (g : ℕ) (k : List ℕ) → equal_bytes k reserved_key ≡ false → key_in g k (after replayAppend x.item t c) ≡ key_held g k (items ++ (x.item ∷ []))
+  held-keys : (g : ℕ) (k : List ℕ) → equal_bytes k reserved_key ≡ false → key_in g k (after replay_append x.item t c) ≡ key_held g k (items ++ (x.item ∷ []))
   unfolding key_in after
   held-keys g k n =
       at_store (λ o. lookup bytes k (made o).keys) (λ old. key_by (ends_key k x.item.content) (put_of k x.item.content) old) g x.item.group t c.groups good.ascend (keys_kept x.item.content (lookup numbers x.item.group c.groups) t k n (good.tables x.item.group) f e)
@@ -385,9 +385,9 @@ module _ (items : List LogItem) (x : Placed) (c : Context) (good : GoodContext c
       ∙ sym (key-snoc g k items x.item)
 
 -- one step more, and one item more
-pub held_step : (items : List LogItem) (x : Placed) (c d : Context) → GoodContext c → FitIf x.item.content → step limited replayAppend x c ≡ ok d → HeldBy items c → HeldBy (items ++ (x.item ∷ [])) d
+pub held_step : (items : List LogItem) (x : Placed) (c d : Context) → GoodContext c → FitIf x.item.content → step limited replay_append x c ≡ ok d → HeldBy items c → HeldBy (items ++ (x.item ∷ [])) d
 held_step items x c d good f h held =
-    let s = step-taken replayAppend x c d good.ascend h in
+    let s = step-taken replay_append x c d good.ascend h in
     rw s.2
     (record { entries-held = held-entries items x c good f held s.0 s.1; keys-held = held-keys items x c good f held s.0 s.1 })
 

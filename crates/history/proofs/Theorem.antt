@@ -61,17 +61,17 @@ made-pass (Made.replayed {bs = bs} {c = c} b d m h) before after e p =
     let q = made-pass m before (b ∷ after) e (rw (append_assoc bs (b ∷ []) after) at p) in
     let s = stretch before (bs ++ (b ∷ [])) after e p in
     rw (← (ok_inj (sym h ∙ next-batch bs b c s.0 q s.1))) at s.1
-made-pass (Made.mergedInto {s = older} {t = newer} {c = c} {d = d} x m n h) before after e p =
+made-pass (Made.merged_into {s = older} {t = newer} {c = c} {d = d} x m n h) before after e p =
     let q = made-pass m before (batches_of newer ++ after) e (rw (append_assoc (batches_of older) (batches_of newer) after) at p) in
     let r = made-pass n (before ++ batches_of older) after e (rw (append_assoc (batches_of older) (batches_of newer) after, ← (append_assoc before (batches_of older) (batches_of newer ++ after))) at p) in
     let s = stretch before (batches_of older ++ batches_of newer) after e p in
     rw (← (ok_inj (sym h ∙ next-merge (batches_of older) (batches_of newer) c d s.0 q r s.1))) at s.1
-made-pass (Made.refusedReplay {c = c} b r m h) before after e p = rw (left-refused c (replay b c) r h) (made-pass m before after e p)
-made-pass (Made.refusedMerge {c = c} d r m h) before after e p = rw (left-refused c (merge d c) r h) (made-pass m before after e p)
-made-pass (Made.refusedJoin {c = c} d r m h) before after e p = rw (left-refused c (join d c) r h) (made-pass m before after e p)
-made-pass (Made.refusedAppend {c = c} b r m h) before after e p = rw (left-refused c (append b c) r h) (made-pass m before after e p)
-made-pass (Made.refusedRewrite {c = c} gate b r m h) before after e p = rw (left-refused c (rewrite gate b c) r h) (made-pass m before after e p)
-made-pass (Made.refusedTaking {c = c} lent r m h) before after e p = rw (taking-refused c (take_cleaned lent c) r h) (made-pass m before after e p)
+made-pass (Made.refused_replay {c = c} b r m h) before after e p = rw (left-refused c (replay b c) r h) (made-pass m before after e p)
+made-pass (Made.refused_merge {c = c} d r m h) before after e p = rw (left-refused c (merge d c) r h) (made-pass m before after e p)
+made-pass (Made.refused_join {c = c} d r m h) before after e p = rw (left-refused c (join d c) r h) (made-pass m before after e p)
+made-pass (Made.refused_append {c = c} b r m h) before after e p = rw (left-refused c (append b c) r h) (made-pass m before after e p)
+made-pass (Made.refused_rewrite {c = c} gate b r m h) before after e p = rw (left-refused c (rewrite gate b c) r h) (made-pass m before after e p)
+made-pass (Made.refused_taking {c = c} lent r m h) before after e p = rw (taking-refused c (take_cleaned lent c) r h) (made-pass m before after e p)
 
 -- ---- the theorem
 
@@ -152,7 +152,7 @@ module _ (batches : List Batch) (d : Demand3 batches) where
       let o = reaches older before (batches_of newer ++ after) l in
       let n = reaches newer (before ++ batches_of older) after (l ∙ sym (append_assoc before (batches_of older) (batches_of newer ++ after))) in
       let m = d.merge-accepted before after older newer o.0 n.0 e o.1 n.1 in
-      (m.0, Made.mergedInto m.0 o.1 n.1 m.1)
+      (m.0, Made.merged_into m.0 o.1 n.1 m.1)
 
   reached-last : (runs : Runs) → batches_of runs ≡ history batches (fresh Append) → (c : Context) × Made runs c × Last batches c
   reached-last runs e =

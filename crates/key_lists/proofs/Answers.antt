@@ -21,7 +21,7 @@ use Rattle.maps.specs.Maps.{Map, bytes, bytes_below}
 use Rattle.maps.specs.OrderLaws.{split}
 use Rattle.maps.specs.MapLaws.{Ascending}
 use Rattle.maps.specs.ListLaws.{select-select, length-select}
-use Rattle.rules.specs.Causes.{ok, refuse, and_then, badRange}
+use Rattle.rules.specs.Causes.{ok, refuse, and_then, bad_range}
 use Rattle.rules.specs.Items.{Append, Rewrite, same_queue}
 use Rattle.rules.specs.Table.{Held, Table}
 use Rattle.rules.specs.TableQueries.{KeyValue, row_of, in_bounds, start_above_end, in_direction, scan, keys_of, fetch_kvs_before, fetch_rewritten_kvs}
@@ -174,7 +174,7 @@ module _ (A : List KeyValue) (lens out : List ℕ) where
       let f = le-leb (length A) (length (lent_list lens out)) h in
       record { answer = rw f; lens-are = rw f; bytes-are = rw f }
 
-  pub bad-range : Fetches (refuse badRange) lens out BadRange lens out
+  pub bad-range : Fetches (refuse bad_range) lens out BadRange lens out
   unfolding answered and_then fetched_as lens_after bytes_after
   bad-range = record { answer = refl; lens-are = refl; bytes-are = refl }
 
@@ -231,7 +231,7 @@ module _ (n : ℕ) (rows bs : List ℕ) (low high : ℕ) (b : Bool) (count limit
 
 module _ (K : Map (List ℕ) Held) (t : Table) (k : t.keys ≡ K) where
   pub scan-is : (start end : Option (List ℕ)) (backwards : Bool) (count : ℕ)
-      → scan start end backwards count t ≡ cond (start_above_end start end || eqb count 0) (refuse badRange) (ok (take count (in_direction backwards (map row_of (select (λ p. in_bounds start end p.key) K)))))
+      → scan start end backwards count t ≡ cond (start_above_end start end || eqb count 0) (refuse bad_range) (ok (take count (in_direction backwards (map row_of (select (λ p. in_bounds start end p.key) K)))))
   unfolding scan
   scan-is start end backwards count = rw k
 

@@ -4,7 +4,7 @@ use Rattle.std.proofs.Math.Option.{Option}
 use Rattle.cells.specs.Part.{part, put}
 use Rattle.maps.specs.Lists.{select}
 use Rattle.maps.specs.Maps.{Pair, Map}
-use Rattle.rules.specs.Causes.{Result, ok, refused, refuse, and_then, badRange, listTooShort}
+use Rattle.rules.specs.Causes.{Result, ok, refused, refuse, and_then, bad_range, list_too_short}
 use Rattle.rules.specs.Items.{Append, Rewrite, same_queue}
 use Rattle.rules.specs.Table.{Held, Table}
 use Rattle.rules.specs.TableQueries.{KeyValue, row_of, in_direction, scan, fetch_kvs_before, fetch_rewritten_kvs}
@@ -64,8 +64,8 @@ lent_list lens out = list_from 0 (min (length lens / 2) (length out / 64)) lens 
 -- 01's number of each refusal; otherwise the number of rows
 unfoldable pub fetched_as : Fetched → Result ℕ
 fetched_as (Done n) = ok n
-fetched_as BadRange = refuse badRange
-fetched_as TooShort = refuse listTooShort
+fetched_as BadRange = refuse bad_range
+fetched_as TooShort = refuse list_too_short
 
 unfoldable pub lens_after : Result (List KeyValue) → List ℕ → List ℕ
 lens_after (ok rows) lens = lent_lens 0 rows lens

@@ -15,7 +15,7 @@ use Rattle.maps.specs.Lists.{or_else}
 use Rattle.maps.specs.Maps.{Map, lookup, insert, bytes}
 use Rattle.maps.specs.OrderLaws.{bytes_lawful}
 use Rattle.maps.specs.MapLaws.{pair, insert-again}
-use Rattle.rules.specs.Causes.{ok, refuse, keyGoesBack, and_then}
+use Rattle.rules.specs.Causes.{ok, refuse, key_goes_back, and_then}
 use Rattle.rules.specs.Items.{Append, Rewrite, same_queue}
 use Rattle.rules.specs.Table.{Held, Table, with_keys, put_key, rewrite_file, rewritten_key}
 use Rattle.kvs.specs.declared.Place.TheVariants.{At, Before}
@@ -125,7 +125,7 @@ module _ (n : ℕ) (rows bs k : List ℕ) (gate : Option ℕ) (s : ℕ) (w : Wf 
           }
 
       -- it would go back
-      goes_back : rewrite_file held.file.queue gate s held ≡ refuse keyGoesBack → moves gate s held ≡ false → RewriteKey n rows bs k gate s GoesBack rows
+      goes_back : rewrite_file held.file.queue gate s held ≡ refuse key_goes_back → moves gate s held ≡ false → RewriteKey n rows bs k gate s GoesBack rows
       unfolding rewritten_key rewritten_as rewritten_rows or_else and_then
       goes_back f g =
           let look : lookup bytes k (keys_in n rows bs) ≡ some held = found ∙ ap some (sym h) in

@@ -4,7 +4,7 @@ use Rattle.std.proofs.Math.Option.{Option, none, some}
 use Rattle.cells.specs.Part.{put}
 use Rattle.maps.specs.Lists.{or_else}
 use Rattle.maps.specs.Maps.{Map, lookup, insert, remove, bytes}
-use Rattle.rules.specs.Causes.{Result, ok, refuse, keyGoesBack}
+use Rattle.rules.specs.Causes.{Result, ok, refuse, key_goes_back}
 use Rattle.rules.specs.Items.{LogQueue, Append, same_queue}
 use Rattle.rules.specs.Table.{Held, Table, with_keys, rewritten_key}
 use Rattle.rules.specs.TableQueries.{get_key, keys_of, least_seq}
@@ -86,7 +86,7 @@ pub record GetKey (n : ℕ) (rows bs k : List ℕ) (found : Bool) (value : List 
 -- 17, or the table with the key's file moved
 unfoldable pub rewritten_as : Rewritten → Table → Result Table
 rewritten_as Accepted t = ok t
-rewritten_as GoesBack t = refuse keyGoesBack
+rewritten_as GoesBack t = refuse key_goes_back
 
 -- whether the key's file becomes Rewrite file s
 unfoldable pub moves : Option ℕ → ℕ → Held → Bool

@@ -10,8 +10,8 @@ use lib.Dec.{ltb}
 use lib.ListN.{drop}
 use borrow.Author.Tests.{ltb-true, ltb-false}
 use Rattle.maps.specs.Lists.{find_from}
-use Rattle.rules.specs.Causes.{Cause, number_of, Refusal, tooLong, incomplete, outOfRange, wrongQueue, notRewritable, badMark}
-use Rattle.rules.specs.Items.{LogItem, Call, replayAppend, replayRewrite, liveAppend, live_rewrite}
+use Rattle.rules.specs.Causes.{Cause, number_of, Refusal, too_long, incomplete, out_of_range, wrong_queue, not_rewritable, bad_mark}
+use Rattle.rules.specs.Items.{LogItem, Call, replay_append, replay_rewrite, live_append, live_rewrite}
 use Rattle.rules.specs.Checks.{Mark, is_rewrite_replay, meets7, first_mark, or_next, checks}
 use Rattle.log_batch.specs.declared.checks.Best.{Best}
 use Rattle.log_batch.specs.Lent.{row_count_of, item_at, items_from, items_of}
@@ -55,18 +55,18 @@ module _ (items : List LogItem) where
   -- marks are looked at in Rewrite replay alone
   seventh : (call : Call) → find_from (meets7 call (first_mark 0 items)) 0 items ≡ find_from (judge call (mark_for call items) 7) 0 items
   unfolding meets7 judge mark_for is_rewrite_replay
-  seventh replayAppend = refl
-  seventh replayRewrite = refl
-  seventh liveAppend = refl
+  seventh replay_append = refl
+  seventh replay_rewrite = refl
+  seventh live_append = refl
   seventh (live_rewrite g s) = refl
 
   checks_chain : (call : Call) → checks call items ≡ chain (λ (n : ℕ). find_from (judge call (mark_for call items) n) 0 items) 6 2
   unfolding checks chain judge
   checks_chain call =
-      or-next tooLong _ _ _ _ refl
+      or-next too_long _ _ _ _ refl
       (or-next incomplete _ _ _ _ refl
-      (or-next outOfRange _ _ _ _ refl
-      (or-next wrongQueue _ _ _ _ refl (or-next notRewritable _ _ _ _ refl (or-next badMark _ _ _ _ (seventh call) refl)))))
+      (or-next out_of_range _ _ _ _ refl
+      (or-next wrong_queue _ _ _ _ refl (or-next not_rewritable _ _ _ _ refl (or-next bad_mark _ _ _ _ (seventh call) refl)))))
 
 -- ---- the pass
 

@@ -24,10 +24,10 @@ use Rattle.log_batch.specs.declared.checks.Best.{Best}
 -- ---- calls and marks
 
 unfoldable pub call_of : call.Call → rules.Call
-call_of call.TheVariants.ReplayAppend = rules.replayAppend
-call_of call.TheVariants.ReplayRewrite = rules.replayRewrite
-call_of call.TheVariants.LiveAppend = rules.liveAppend
-call_of (call.TheVariants.LiveRewrite g s) = rules.liveRewrite (gate_of g) s
+call_of call.TheVariants.ReplayAppend = rules.replay_append
+call_of call.TheVariants.ReplayRewrite = rules.replay_rewrite
+call_of call.TheVariants.LiveAppend = rules.live_append
+call_of (call.TheVariants.LiveRewrite g s) = rules.live_rewrite (gate_of g) s
 
 unfoldable pub status_as : status.AtomicGroupStatus → rules.Status
 status_as status.TheVariants.Begin = rules.begin
@@ -47,14 +47,14 @@ mark_as (first.TheVariants.Found m) = some (mark_of m)
 
 -- the mark that item i is, if it is one
 unfoldable pub mark_here : ℕ → rules.LogItem → Option Mark
-mark_here i it = map_option (λ (b : ℕ). record { at = i; group = it.group; byte = b }) (rules.markByte it.content)
+mark_here i it = map_option (λ (b : ℕ). record { at = i; group = it.group; byte = b }) (rules.mark_byte it.content)
 
 -- ---- a list of entries
 
 unfoldable pub entry_meets : test.EntryTest → EntryIndex → Bool
-entry_meets test.TheVariants.WithoutFile e = not (rules.hasFile e.entries)
+entry_meets test.TheVariants.WithoutFile e = not (rules.has_file e.entries)
 entry_meets test.TheVariants.OutOfRange e = ltb max_index e.index || ltb max_entry_len e.entry_len
-entry_meets (test.TheVariants.OtherQueue q) e = rules.hasFile e.entries && not (rules.sameQueue (rules.fileOf e).queue q)
+entry_meets (test.TheVariants.OtherQueue q) e = rules.has_file e.entries && not (rules.same_queue (rules.file_of e).queue q)
 
 unfoldable pub entries_incomplete : List EntryIndex → Bool
 entries_incomplete es = any (entry_meets test.TheVariants.WithoutFile) es || not (consecutive es)
@@ -76,7 +76,7 @@ long_places (content.TheVariants.Command c) = false
 long_places (content.TheVariants.Kv k) = long_key k
 
 unfoldable pub del_or_compact : rules.Content → Bool
-del_or_compact c = rules.isTombstone c && not (rules.isClean c)
+del_or_compact c = rules.is_tombstone c && not (rules.is_clean c)
 
 -- the least of 3 to 6 that an item of no reserved key meets, and otherwise 7
 unfoldable pub least_content : rules.Call → rules.Content → ℕ

@@ -17,7 +17,7 @@ use Rattle.cells.specs.PartLaws.{length_part, get_or-part, part_none, part-snoc,
 use Rattle.maps.specs.Lists.{front, first, last, map_option, or_else}
 use Rattle.maps.specs.Maps.{Map}
 use Rattle.pipe_log.specs.Rows.{window}
-use Rattle.rules.specs.Causes.{ok, refuse, and_then, appendLeft, alreadyRewritten}
+use Rattle.rules.specs.Causes.{ok, refuse, and_then, append_left, already_rewritten}
 use Rattle.rules.specs.Items.{EntryIndex, is_rewrite, file_of}
 use Rattle.rules.specs.Table.{Held, with_entries, first_index_of, entries_below, entries_from, replaces, replaced, stops_at, meets_rewrite, rewrite_overlap, rewritten}
 use Rattle.memtable.specs.declared.Head.{Head}
@@ -35,9 +35,9 @@ use Rattle.memtable.specs.WindowLaws.{row_at-drop, window_same, window-cut, wind
 overlap-some : (gate : Option ℕ) (before : List EntryIndex) (a n b m : ℕ) (ys zs : List ℕ) → 0 < n → 0 < m
     → rewrite_overlap gate before (window a n ys) (window b m zs)
     ≡ cond (or_else false (λ (e : EntryIndex). not (is_rewrite e)) (last before))
-    (refuse appendLeft)
+    (refuse append_left)
     (cond (meets_rewrite gate (stops_at gate (window a n ys) (window b m zs)))
-    (refuse alreadyRewritten)
+    (refuse already_rewritten)
     (ok (before ++ replaced gate (window a n ys) (window b m zs))))
 unfolding rewrite_overlap window
 overlap-some gate before a zero b m ys zs u v = absurd (omega arith)
@@ -184,8 +184,8 @@ module _ (gate : Option ℕ) (h : Head) (xs : List ℕ) (s : ℕ) (rows : List �
         → rewritten gate list (table_of h xs keys counted)
         ≡ and_then
         (cond (or_else false (λ (e : EntryIndex). not (is_rewrite e)) (last before))
-        (refuse appendLeft)
-        (cond (meets_rewrite gate (stops_at gate held lent)) (refuse alreadyRewritten) (ok (before ++ replaced gate held lent))))
+        (refuse append_left)
+        (cond (meets_rewrite gate (stops_at gate held lent)) (refuse already_rewritten) (ok (before ++ replaced gate held lent))))
         (λ es. ok (with_entries es (table_of h xs keys counted)))
     by_rows keys counted =
         by_overlap keys counted (omega arith) (omega arith)

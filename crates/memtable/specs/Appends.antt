@@ -2,7 +2,7 @@
 use Rattle.std.specs.Prelude.{Bool, true, false, cond, not, ◌&&◌, List, [], ◌∷◌, ◌≡◌, ℕ, ◌+◌, ◌-◌, ◌*◌, ◌/◌, ◌≤◌, ◌^◌, leb, length}
 use Rattle.cells.specs.Part.{put}
 use Rattle.maps.specs.Maps.{Map}
-use Rattle.rules.specs.Causes.{Result, ok, refuse, and_then, belowFirst, aboveLast, limitPassed}
+use Rattle.rules.specs.Causes.{Result, ok, refuse, and_then, below_first, above_last, limit_passed}
 use Rattle.rules.specs.Items.{EntryIndex}
 use Rattle.rules.specs.Table.{Held, Table, with_entries, is_below_first, is_above_last, over}
 use Rattle.memtable.specs.declared.Head.{Head}
@@ -42,13 +42,13 @@ part_after Full xs rows = xs
 -- the rules' result for each answer: 13, 14, and 18 where the part has no room
 abbrev pub appended_of : Appended → List ℕ → Map (List ℕ) Held → Bool → Result Table
 appended_of (Done h) xs keys counted = ok (table_of h xs keys counted)
-appended_of BelowFirst xs keys counted = refuse belowFirst
-appended_of AboveLast xs keys counted = refuse aboveLast
-appended_of Full xs keys counted = refuse limitPassed
+appended_of BelowFirst xs keys counted = refuse below_first
+appended_of AboveLast xs keys counted = refuse above_last
+appended_of Full xs keys counted = refuse limit_passed
 
 -- a result with more entries than there is room for is refused
 unfoldable pub fitting : ℕ → Result Table → Result Table
-fitting room r = and_then r (λ t. cond (leb (length t.entries) room) (ok t) (refuse limitPassed))
+fitting room r = and_then r (λ t. cond (leb (length t.entries) room) (ok t) (refuse limit_passed))
 
 -- of head h and part xs, with rows laid over by a rule; ys is the part at exit
 pub record Laying (by : Table → Result Table) (h : Head) (xs rows : List ℕ) (r : Appended) (ys : List ℕ) : Type 0 where
@@ -63,7 +63,7 @@ unfoldable pub laid_by : Bool → Bool → List EntryIndex → Table → Result 
 laid_by overwrite hole [] t = ok t
 laid_by overwrite hole (e ∷ es) t =
     cond (not overwrite && is_below_first e.index t.entries)
-    (refuse belowFirst)
+    (refuse below_first)
     (cond (is_above_last e.index t.entries)
-    (cond hole (ok (with_entries (e ∷ es) t)) (refuse aboveLast))
+    (cond hole (ok (with_entries (e ∷ es) t)) (refuse above_last))
     (ok (with_entries (over t.entries (e ∷ es)) t)))

@@ -2,7 +2,7 @@
 use Rattle.std.specs.Prelude.{cond, List, [], ◌∷◌, map, ◌≡◌, ℕ, zero, suc, leb, length, get_or, drop}
 use Rattle.cells.specs.Part.{put}
 use Rattle.pipe_log.specs.Numbers.{queue_number, compression_number}
-use Rattle.rules.specs.Causes.{Result, ok, refused, refuse, and_then, entryCompacted, entryNotFound, listTooShort}
+use Rattle.rules.specs.Causes.{Result, ok, refused, refuse, and_then, entry_compacted, entry_not_found, list_too_short}
 use Rattle.rules.specs.Items.{EntryIndex, EntryBlock, Absent, At, file_of}
 use Rattle.memtable.specs.declared.Fetched.{Fetched, TheVariants.Done, TheVariants.EntryCompacted, TheVariants.EntryNotFound, TheVariants.ListTooShort}
 
@@ -44,7 +44,7 @@ laid_into out es =
 
 -- an answer longer than the lent list, which has room for n records, is refused (rules' `answered`)
 unfoldable pub judged : ℕ → Result (List EntryIndex) → Result (List EntryIndex)
-judged n r = and_then r (λ es. cond (leb (length es) n) (ok es) (refuse listTooShort))
+judged n r = and_then r (λ es. cond (leb (length es) n) (ok es) (refuse list_too_short))
 
 -- the slices after the call
 unfoldable pub columns_after : Columns → Result (List EntryIndex) → Columns
@@ -54,9 +54,9 @@ columns_after out (refused r) = out
 -- the rules' result for each answer: the number of records, or 11, 12 and 19
 abbrev pub fetched_of : Fetched → Result ℕ
 fetched_of (Done n) = ok n
-fetched_of EntryCompacted = refuse entryCompacted
-fetched_of EntryNotFound = refuse entryNotFound
-fetched_of ListTooShort = refuse listTooShort
+fetched_of EntryCompacted = refuse entry_compacted
+fetched_of EntryNotFound = refuse entry_not_found
+fetched_of ListTooShort = refuse list_too_short
 
 -- the slices have one length
 pub record SameLength (out : Columns) : Type 0 where

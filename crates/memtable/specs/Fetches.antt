@@ -2,7 +2,7 @@
 use Rattle.std.specs.Prelude.{Bool, List, ◌≡◌, ℕ, ◌+◌, ◌*◌, ◌≤◌, drop}
 use Rattle.maps.specs.Maps.{Map}
 use Rattle.pipe_log.specs.Rows.{window}
-use Rattle.rules.specs.Causes.{Result, ok, refuse, entryCompacted, entryNotFound}
+use Rattle.rules.specs.Causes.{Result, ok, refuse, entry_compacted, entry_not_found}
 use Rattle.rules.specs.Items.{EntryIndex}
 use Rattle.rules.specs.Table.{Held, Table}
 use Rattle.rules.specs.TableQueries.{fetch_rewritten_entry_indexes}
@@ -16,8 +16,8 @@ entries_at a n h xs = window (h.first_index + a) n (drop (a * 8) xs)
 
 abbrev pub range_of : Range → Head → List ℕ → Result (List EntryIndex)
 range_of (Rows a n) h xs = ok (entries_at a n h xs)
-range_of EntryCompacted h xs = refuse entryCompacted
-range_of EntryNotFound h xs = refuse entryNotFound
+range_of EntryCompacted h xs = refuse entry_compacted
+range_of EntryNotFound h xs = refuse entry_not_found
 
 abbrev pub range_end : Range → ℕ
 range_end (Rows a n) = a + n

@@ -2,7 +2,7 @@
 use Rattle.std.specs.Prelude.{Bool, List, ◌++◌, ◌≡◌, ℕ, suc, ◌-◌, ◌≤◌}
 use Rattle.maps.specs.Maps.{Map}
 use Rattle.pipe_log.specs.Rows.{window}
-use Rattle.rules.specs.Causes.{Result, ok, refuse, belowFirst, aboveLast}
+use Rattle.rules.specs.Causes.{Result, ok, refuse, below_first, above_last}
 use Rattle.rules.specs.Table.{Held, Table, with_entries}
 use Rattle.memtable.specs.declared.Head.{Head}
 use Rattle.memtable.specs.declared.append.Prepared.{Prepared, TheVariants.Kept, TheVariants.BelowFirst, TheVariants.AboveLast}
@@ -20,8 +20,8 @@ kept AboveLast = 0
 
 abbrev pub prepared_of : Prepared → ℕ → List ℕ → ℕ → List ℕ → Table → Result Table
 prepared_of (Kept k) s xs n rows t = ok (behind k s xs n rows t)
-prepared_of BelowFirst s xs n rows t = refuse belowFirst
-prepared_of AboveLast s xs n rows t = refuse aboveLast
+prepared_of BelowFirst s xs n rows t = refuse below_first
+prepared_of AboveLast s xs n rows t = refuse above_last
 
 pub record Preparing (overwrite hole : Bool) (h : Head) (s : ℕ) (p : Prepared) : Type 0 where
   pub rule : (xs : List ℕ) (m : ℕ) (rows : List ℕ) (keys : Map (List ℕ) Held) (counted : Bool)

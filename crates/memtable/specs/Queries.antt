@@ -4,7 +4,7 @@ use Rattle.std.proofs.Math.Option.{Option, none, some}
 use Rattle.maps.specs.Lists.{first, least, map_option, select}
 use Rattle.maps.specs.Maps.{Map}
 use Rattle.pipe_log.specs.Rows.{window}
-use Rattle.rules.specs.Causes.{Result, ok, refuse, badRange}
+use Rattle.rules.specs.Causes.{Result, ok, refuse, bad_range}
 use Rattle.rules.specs.Items.{LogQueue, EntryIndex, same_queue, file_of}
 use Rattle.rules.specs.Table.{Held, first_index_of, last_index}
 use Rattle.rules.specs.TableQueries.{get_entry, run_of, rewrite_count, by_span, has_at_least_some_entries_before}
@@ -26,7 +26,7 @@ found_entry (entry.At e) = some e
 
 -- the answer, or 10
 abbrev pub some_before_of : SomeBefore → Result Bool
-some_before_of BadRange = refuse badRange
+some_before_of BadRange = refuse bad_range
 some_before_of (Is b) = ok b
 
 abbrev pub EntryAnswer : Head → List ℕ → ℕ → FoundEntry → Type 0

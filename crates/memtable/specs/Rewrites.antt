@@ -5,7 +5,7 @@ use Rattle.cells.specs.Part.{part, put}
 use Rattle.maps.specs.Lists.{front}
 use Rattle.maps.specs.Maps.{Map}
 use Rattle.pipe_log.specs.Rows.{window}
-use Rattle.rules.specs.Causes.{Result, ok, refuse, appendLeft, alreadyRewritten}
+use Rattle.rules.specs.Causes.{Result, ok, refuse, append_left, already_rewritten}
 use Rattle.rules.specs.Items.{EntryIndex}
 use Rattle.rules.specs.Table.{Held, Table, entries_from, replaces, meets_rewrite, rewritten}
 use Rattle.memtable.specs.declared.Head.{Head}
@@ -16,8 +16,8 @@ use Rattle.memtable.specs.Views.{table_of, row_at, Wf}
 -- the rules' result for each answer
 abbrev pub rewritten_of : Rewritten → List ℕ → Map (List ℕ) Held → Bool → Result Table
 rewritten_of (Done h) xs keys counted = ok (table_of h xs keys counted)
-rewritten_of AppendLeft xs keys counted = refuse appendLeft
-rewritten_of AlreadyRewritten xs keys counted = refuse alreadyRewritten
+rewritten_of AppendLeft xs keys counted = refuse append_left
+rewritten_of AlreadyRewritten xs keys counted = refuse already_rewritten
 
 -- the head after the call
 abbrev pub rewritten_head : Head → Rewritten → Head

@@ -1,7 +1,7 @@
 -- `apply_rewrite_atomic_group`: what its answers say.
 use Rattle.std.specs.Prelude.{Bool, List, ◌≡◌, ℕ}
 use Rattle.maps.specs.Maps.{Map}
-use Rattle.rules.specs.Causes.{Result, ok, refuse, filesGoBack}
+use Rattle.rules.specs.Causes.{Result, ok, refuse, files_go_back}
 use Rattle.rules.specs.Table.{Held, Table, spanned}
 use Rattle.memtable.specs.declared.AtomicGroup.{AtomicGroup}
 use Rattle.memtable.specs.declared.Head.{Head}
@@ -20,7 +20,7 @@ spanned_head h FilesGoBack = h
 -- the rules' result for each answer
 abbrev pub spanned_of : Spanned → List ℕ → Map (List ℕ) Held → Bool → Result Table
 spanned_of (Done h) xs keys counted = ok (table_of h xs keys counted)
-spanned_of FilesGoBack xs keys counted = refuse filesGoBack
+spanned_of FilesGoBack xs keys counted = refuse files_go_back
 
 pub record SpanSet (h : Head) (start end : ℕ) (r : Spanned) : Type 0 where
   pub rule : (xs : List ℕ) (keys : Map (List ℕ) Held) (counted : Bool)

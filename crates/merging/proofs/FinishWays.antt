@@ -7,7 +7,7 @@ use native.Mathlib.Omega.{arith}
 use lib.ListN.{length, get_or, take, drop}
 use borrow.Author.Rules.{part_to_end}
 use Rattle.maps.specs.BoolLaws.{clash, both_left, both_right}
-use Rattle.rules.specs.Causes.{Cause, Result, ok, refuse, number_of, wrongKind, limitPassed, left}
+use Rattle.rules.specs.Causes.{Cause, Result, ok, refuse, number_of, wrong_kind, limit_passed, left}
 use Rattle.rules.specs.Items.{LogQueue, Append, Rewrite, same_queue}
 use Rattle.rules.specs.Context.{Kind, context, index, is_context, Context, with_groups, with_waiting}
 use Rattle.rules.specs.Calls.{merge, join, both}
@@ -132,10 +132,10 @@ module _ (call : Context → Result Context) (x : Cause) (d : Context) (f : Flag
 
   module _ (c : f.clashed ≡ false) where
     pub finish-passed : f.passed ≡ true → Answered call xs bs (answer.Refused 18 position.None) xs bs
-    finish-passed p = refused_with call limitPassed 18 xs bs w refl (answered-passed x d f xs bs _ a c (rw p))
+    finish-passed p = refused_with call limit_passed 18 xs bs w refl (answered-passed x d f xs bs _ a c (rw p))
 
     pub finish-over : rest_fits d ≡ false → Answered call xs bs (answer.Refused 18 position.None) xs bs
-    finish-over n = refused_with call limitPassed 18 xs bs w refl (answered-passed x d f xs bs _ a c (rw n (or-true f.passed)))
+    finish-over n = refused_with call limit_passed 18 xs bs w refl (answered-passed x d f xs bs _ a c (rw n (or-true f.passed)))
 
     pub finish-taken : f.passed ≡ false → rest_fits d ≡ true → (xs' bs' : List ℕ) → Taken d xs bs xs' bs' → Answered call xs bs answer.Accepted xs' bs'
     unfolding left answer_as
@@ -228,11 +228,11 @@ unfolding context_of rest_at with_groups with_waiting
 kind-is xs bs k e = rest-kind (drop 9376 xs) (drop 16384 bs) ∙ sym (rw (part_to_end xs 9376) at e)
 
 -- a call on the wrong kind is refused, and leaves all as it was
-wrong-called : (call : Context → Result Context) (xs bs : List ℕ) → Wf xs bs → call (context_of xs bs) ≡ refuse wrongKind → Called call xs bs (answer.Refused 1 position.None) xs bs
+wrong-called : (call : Context → Result Context) (xs bs : List ℕ) → Wf xs bs → call (context_of xs bs) ≡ refuse wrong_kind → Called call xs bs (answer.Refused 1 position.None) xs bs
 wrong-called call xs bs w h =
     answered-called call xs bs (answer.Refused 1 position.None) xs bs w
     (λ d k. absurd (refused_not_ok (sym h ∙ k)))
-    (refused_with call wrongKind 1 xs bs w refl h)
+    (refused_with call wrong_kind 1 xs bs w refl h)
 
 module _ (xs bs ys cs : List ℕ) (o n : Kind) (p : o ≡ kind_of (get_or (take (length xs - 9376) (drop 9376 xs)) 0 0)) (q : n ≡ kind_of (get_or (take (length ys - 9376) (drop 9376 ys)) 0 0)) where
   -- the kinds, by the tests of both

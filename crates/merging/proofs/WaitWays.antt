@@ -15,7 +15,7 @@ use Rattle.cells.specs.PartLaws.{part-is, length-put, part-drop, part-put-before
 use Rattle.maps.specs.BoolLaws.{clash, both_left, both_right}
 use Rattle.maps.specs.Maps.{Map}
 use Rattle.maps.specs.OrderLaws.{split}
-use Rattle.rules.specs.Causes.{Result, ok, refuse, filesGoBack}
+use Rattle.rules.specs.Causes.{Result, ok, refuse, files_go_back}
 use Rattle.rules.specs.Items.{LogItem}
 use Rattle.rules.specs.Context.{Part, Context, waiting_fits, with_groups, with_tombstones, with_cleaned, with_waiting}
 use Rattle.rules_by_group.specs.Stage.{waiting_after, finished_tombs, merged_rest, rest_fits}
@@ -225,7 +225,7 @@ accepted-waiting xs bs ys cs ws vs ws' vs' r e f t =
     (rw (part-is 10019 3490 ys, part-is 20480 8192 cs, e, f) at t)
 
 module _ (x : Result (Map ℕ (List Part))) (ws vs : List ℕ) where
-  pub parts_back : (r : Bool) → r ≡ false → PartsTaken x r ws vs → x ≡ refuse filesGoBack
+  pub parts_back : (r : Bool) → r ≡ false → PartsTaken x r ws vs → x ≡ refuse files_go_back
   parts_back true e t = absurd (clash (sym e))
   parts_back false e t = t
 

@@ -37,11 +37,11 @@ use Rattle.parts.proofs.WalkWays.{walked_all, none_left, next-lookup, next-is}
 
 -- ---- one item
 
-pub tomb-in : (x : rules.LogItem) (xs : List rules.LogItem) → rules.isTombstone x.content ≡ true → tombs_of (x ∷ xs) ≡ x ∷ tombs_of xs
+pub tomb-in : (x : rules.LogItem) (xs : List rules.LogItem) → rules.is_tombstone x.content ≡ true → tombs_of (x ∷ xs) ≡ x ∷ tombs_of xs
 unfolding tombs_of select
 tomb-in x xs e = rw e
 
-pub tomb-out : (x : rules.LogItem) (xs : List rules.LogItem) → rules.isTombstone x.content ≡ false → tombs_of (x ∷ xs) ≡ tombs_of xs
+pub tomb-out : (x : rules.LogItem) (xs : List rules.LogItem) → rules.is_tombstone x.content ≡ false → tombs_of (x ∷ xs) ≡ tombs_of xs
 unfolding tombs_of select
 tomb-out x xs e = rw e
 
@@ -60,11 +60,11 @@ module _ (s : Store) (a : Area) (ts : List ℕ) (v : Stored s a) (n : s.items �
     abbrev x : rules.LogItem
     x = item_of it a.entries a.bytes
 
-    pub count-not : rules.isTombstone (content_of it.content a.entries a.bytes) ≡ false → count + length (tombs_of (rest (j + 1))) ≡ count + length (tombs_of (rest j))
+    pub count-not : rules.is_tombstone (content_of it.content a.entries a.bytes) ≡ false → count + length (tombs_of (rest (j + 1))) ≡ count + length (tombs_of (rest j))
     count-not f =
         ap (λ (y : List rules.LogItem). count + length y) (sym (ap tombs_of (here-is s a ts v n t j l an_item it at e) ∙ tomb-out x (rest (j + 1)) (unfold item_of in f)))
 
-    pub count-one : rules.isTombstone (content_of it.content a.entries a.bytes) ≡ true → count + 1 + length (tombs_of (rest (j + 1))) ≡ count + length (tombs_of (rest j))
+    pub count-one : rules.is_tombstone (content_of it.content a.entries a.bytes) ≡ true → count + 1 + length (tombs_of (rest (j + 1))) ≡ count + length (tombs_of (rest j))
     count-one f =
         let q : length (tombs_of (rest j)) ≡ suc (length (tombs_of (rest (j + 1)))) = ap length (ap tombs_of (here-is s a ts v n t j l an_item it at e) ∙ tomb-in x (rest (j + 1)) (unfold item_of in f)) in
         omega (arith, q)
@@ -86,8 +86,8 @@ module _ (g : ℕ) (ws vs us ds : List ℕ) (w : RoomWf 16 ws vs) (u : RoomWf 16
   group-some e q m n a b =
       rw (is vs ds w u, q)
       (unfold finished_as or_else in
-      (let p = length-append (select (λ (it : rules.LogItem). rules.isTombstone it.content) (items_with e.older (tagged ws vs))) (select (λ (it : rules.LogItem). rules.isTombstone it.content) (items_with e.newer (tagged us ds))) in
-      rw (select-append (λ (it : rules.LogItem). rules.isTombstone it.content) (items_with e.older (tagged ws vs)) (items_with e.newer (tagged us ds)), a, b) (sym p)))
+      (let p = length-append (select (λ (it : rules.LogItem). rules.is_tombstone it.content) (items_with e.older (tagged ws vs))) (select (λ (it : rules.LogItem). rules.is_tombstone it.content) (items_with e.newer (tagged us ds))) in
+      rw (select-append (λ (it : rules.LogItem). rules.is_tombstone it.content) (items_with e.older (tagged ws vs)) (items_with e.newer (tagged us ds)), a, b) (sym p)))
 
 -- ---- all groups
 

@@ -84,8 +84,8 @@ count-after a ys cs ys' cs' w k =
 
 -- ---- the items of a tag
 
-pub no-entries : (x : content.LogItemContent) (es bs : List ℕ) → rules.isTombstone (content_of x es bs) ≡ true → count_of x ≡ 0
-unfolding rules.isTombstone content_of
+pub no-entries : (x : content.LogItemContent) (es bs : List ℕ) → rules.is_tombstone (content_of x es bs) ≡ true → count_of x ≡ 0
+unfolding rules.is_tombstone content_of
 no-entries (content.TheVariants.EntryIndexes e) es bs h = absurd (clash h)
 no-entries (content.TheVariants.Command c) es bs h = refl
 no-entries (content.TheVariants.Kv k) es bs h = refl
@@ -124,7 +124,7 @@ module _ (s : Store) (a : Area) (ts : List ℕ) (v : Stored s a) (n : s.items �
     abbrev x : rules.LogItem
     x = item_of it a.entries a.bytes
 
-    pub keep-not : rules.isTombstone (content_of it.content a.entries a.bytes) ≡ false → Keeping (rest j) (rest (j + 1)) ys cs ys cs
+    pub keep-not : rules.is_tombstone (content_of it.content a.entries a.bytes) ≡ false → Keeping (rest j) (rest (j + 1)) ys cs ys cs
     keep-not f =
         record {
           front = [];
@@ -132,7 +132,7 @@ module _ (s : Store) (a : Area) (ts : List ℕ) (v : Stored s a) (n : s.items �
           added = added_none ys cs w;
         }
 
-    module _ (f : rules.isTombstone (content_of it.content a.entries a.bytes) ≡ true) where
+    module _ (f : rules.is_tombstone (content_of it.content a.entries a.bytes) ≡ true) where
       here : tombs_of (rest j) ≡ x ∷ tombs_of (rest (j + 1))
       here = ap tombs_of (here-is s a ts v n t j l an_item it at e) ∙ tomb-in x (rest (j + 1)) (unfold item_of in f)
 
@@ -164,7 +164,7 @@ module _ (g : ℕ) (ws vs us ds : List ℕ) (w : RoomWf 16 ws vs) (u : RoomWf 16
 
     some-there : tombs_in (finished_in g ws vs us ds) ≡ older ++ newer
     unfolding tombs_in tombs_of
-    some-there = rw (is vs ds w u, q) (unfold finished_as or_else in select-append (λ (it : rules.LogItem). rules.isTombstone it.content) (items_with e.older (tagged ws vs)) (items_with e.newer (tagged us ds)))
+    some-there = rw (is vs ds w u, q) (unfold finished_as or_else in select-append (λ (it : rules.LogItem). rules.is_tombstone it.content) (items_with e.older (tagged ws vs)) (items_with e.newer (tagged us ds)))
 
     module _ (h : get_or ys 1 0 + length (tombs_in (finished_in g ws vs us ds)) ≤ 64) where
       sums : length (tombs_in (finished_in g ws vs us ds)) ≡ length older + length newer

@@ -10,7 +10,7 @@ use borrow.Author.Tests.{ne_eqb}
 use Rattle.cells.specs.Part.{part}
 use Rattle.maps.specs.Maps.{Pair, Map, lookup, numbers}
 use Rattle.maps.specs.MapLaws.{pair, Ascending}
-use Rattle.rules.specs.Causes.{Result, ok, refuse, and_then, filesGoBack}
+use Rattle.rules.specs.Causes.{Result, ok, refuse, and_then, files_go_back}
 use Rattle.rules.specs.Items.{status_of}
 use Rattle.rules.specs.Context.{Part}
 use Rattle.rules.specs.Waiting.{Accepted, wait, finish, back, accept, some_parts}
@@ -87,7 +87,7 @@ ascends ws vs = waiting-ascends (store_of ws) (room_of 16 ws vs)
 only-taken : (g : ℕ) (p : Part) (ws vs : List ℕ) (r : Bool) (ws' vs' : List ℕ) → TakenAs g p ws vs r ws' vs' → PartsTaken (accept_parts_of (pair g (p ∷ [])) (waiting_of ws vs)) r ws' vs'
 only-taken g p ws vs true ws' vs' t =
     (one-taken g (waiting_of ws vs) p t.parts t.accepts ∙ ap (λ (m : Map ℕ (List Part)). ok m) (sym t.waiting), t.room)
-only-taken g p ws vs false ws' vs' t = one-refused g (waiting_of ws vs) p (refusal_of filesGoBack) t.refuses
+only-taken g p ws vs false ws' vs' t = one-refused g (waiting_of ws vs) p (refusal_of files_go_back) t.refuses
 
 -- ---- a cell
 
@@ -174,7 +174,7 @@ module _ (us ds : List ℕ) (k : ℕ) (l : k < 16) where
       older_back r ws' vs' f t =
           let b : GoesBack group older_part ws vs ws' vs' = rw f at t in
           ap (λ (x : Pair ℕ (List Part)). accept_parts_of x (waiting_of ws vs)) cell_two
-          ∙ two-refused group (waiting_of ws vs) newest_part older_part (refusal_of filesGoBack) b.refuses
+          ∙ two-refused group (waiting_of ws vs) newest_part older_part (refusal_of files_go_back) b.refuses
 
       -- the older part is accepted; the newest follows
       module _ (r : Bool) (ws' vs' : List ℕ) (y : r ≡ true) (t : TakenAs group older_part ws vs r ws' vs') where
@@ -208,11 +208,11 @@ pub record Taking (i : ℕ) (b : bound.Bound) (us ds ws vs ws' vs' : List ℕ) :
   pub room : RoomWf 16 ws' vs'
 
 after_none : (w : Map ℕ (List Part)) → waiting_after [] w ≡ ok w
-unfolding waiting_after Rattle.rules.specs.Causes.inOrder
+unfolding waiting_after Rattle.rules.specs.Causes.in_order
 after_none w = refl
 
 after_more : (x : Pair ℕ (List Part)) (xs w : Map ℕ (List Part)) → waiting_after (x ∷ xs) w ≡ and_then (accept_parts_of x w) (waiting_after xs)
-unfolding waiting_after Rattle.rules.specs.Causes.inOrder
+unfolding waiting_after Rattle.rules.specs.Causes.in_order
 after_more x xs w = refl
 
 empty : (m : Map ℕ (List Part)) → length m ≡ 0 → m ≡ []
@@ -273,8 +273,8 @@ module _ (us ds ws vs : List ℕ) (u : RoomWf 16 us ds) where
         module _ (r : Bool) (ws'' vs'' : List ℕ) (t : PartsTaken (accept_parts_of (newer_cell k us ds) (waiting_of ws' vs')) r ws'' vs'') where
           pub taken_back : r ≡ false → PartsTaken (waiting_after newer (waiting_of ws vs)) false ws'' vs''
           taken_back f =
-              let x : accept_parts_of (newer_cell k us ds) (waiting_of ws' vs') ≡ refuse filesGoBack = rw f at t in
-              here ∙ and_then-refused (accept_parts_of (newer_cell k us ds) (waiting_of ws' vs')) (waiting_after rest) (refusal_of filesGoBack) x
+              let x : accept_parts_of (newer_cell k us ds) (waiting_of ws' vs') ≡ refuse files_go_back = rw f at t in
+              here ∙ and_then-refused (accept_parts_of (newer_cell k us ds) (waiting_of ws' vs')) (waiting_after rest) (refusal_of files_go_back) x
 
           pub taken_more : i < 16 → r ≡ true → (g : ℕ) → g ≡ get_or us (2 + k * 10 + 1) 0 → Taking (i + 1) (bound.TheVariants.Above g) us ds ws vs ws'' vs''
           taken_more j y g e =

@@ -4,7 +4,7 @@ use Rattle.std.proofs.Math.Option.{Option}
 use Rattle.cells.specs.Part.{part}
 use Rattle.maps.specs.Maps.{Pair, Map, lookup, store, numbers}
 use Rattle.maps.specs.MapLaws.{pair}
-use Rattle.rules.specs.Causes.{Result, ok, refuse, filesGoBack}
+use Rattle.rules.specs.Causes.{Result, ok, refuse, files_go_back}
 use Rattle.rules.specs.Items.{status_of}
 use Rattle.rules.specs.Context.{Part}
 use Rattle.rules_by_group.specs.Group.{accept_part}
@@ -26,7 +26,7 @@ pub record Taken (g : ℕ) (new : Part) (ws vs ws' vs' : List ℕ) : Type 0 wher
 
 -- files go back, and all is as it was
 pub record GoesBack (g : ℕ) (new : Part) (ws vs ws' vs' : List ℕ) : Type 0 where
-  pub refuses : accept_part new (lookup numbers g (waiting_of ws vs)) ≡ refuse filesGoBack
+  pub refuses : accept_part new (lookup numbers g (waiting_of ws vs)) ≡ refuse files_go_back
   pub numbers-are : ws' ≡ ws
   pub bytes-are : vs' ≡ vs
 
@@ -49,4 +49,4 @@ pub record RoomForAll (more w : Map ℕ (List Part)) : Type 0 where
 -- x says what waits afterwards: the room has it, or files go back
 abbrev pub PartsTaken : Result (Map ℕ (List Part)) → Bool → List ℕ → List ℕ → Type 0
 PartsTaken x true ws' vs' = (x ≡ ok (waiting_of ws' vs')) × RoomWf 16 ws' vs'
-PartsTaken x false ws' vs' = x ≡ refuse filesGoBack
+PartsTaken x false ws' vs' = x ≡ refuse files_go_back

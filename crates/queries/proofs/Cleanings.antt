@@ -11,7 +11,7 @@ use borrow.Rule.Slice.PartMut.{put_mid}
 use Rattle.cells.specs.Part.{put}
 use Rattle.cells.specs.PartLaws.{length_part, same-around}
 use Rattle.maps.specs.OrderLaws.{split}
-use Rattle.rules.specs.Causes.{Refusal, ok, refused, refuse, and_then, wrongKind}
+use Rattle.rules.specs.Causes.{Refusal, ok, refused, refuse, and_then, wrong_kind}
 use Rattle.rules.specs.Items.{LogQueue}
 use Rattle.rules.specs.Context.{Context, is_index, with_groups, with_waiting, with_cleaned}
 use Rattle.rules.specs.Queries.{answered, lent_after, take_cleaned, after_taking}
@@ -76,7 +76,7 @@ module _ (xs bs lent : List ℕ) where
   context-cleaned = refl
 
   module _ (k : Kind) (e : kind_as k ≡ kind_of (get_or (drop 9376 xs) 0 0)) where
-    taking_wrong : (q : LogQueue) → k ≡ kind.Context q → take_cleaned lent (context_of xs bs) ≡ refuse wrongKind
+    taking_wrong : (q : LogQueue) → k ≡ kind.Context q → take_cleaned lent (context_of xs bs) ≡ refuse wrong_kind
     unfolding take_cleaned is_index kind_as
     taking_wrong q d = rw (context-kind, ← e, d)
 

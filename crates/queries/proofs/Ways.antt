@@ -7,7 +7,7 @@ use Prim.Native.Nat.{ℕ, ◌*◌, ◌≤◌, ◌<◌}
 use lib.ListN.{length}
 use Rattle.maps.specs.Lists.{map_option, or_else}
 use Rattle.maps.specs.Maps.{Map, lookup, bytes}
-use Rattle.rules.specs.Causes.{Result, ok, refuse, and_then, groupAbsent}
+use Rattle.rules.specs.Causes.{Result, ok, refuse, and_then, group_absent}
 use Rattle.rules.specs.Items.{LogQueue}
 use Rattle.rules.specs.Table.{Held, Table, first_index_of, last_index}
 use Rattle.rules.specs.TableQueries.{KeyValue, rewrite_count, get_key, min_file_seq}
@@ -86,7 +86,7 @@ module _ {g : ℕ} {xs bs : List ℕ} {k : ℕ} (s : StandsAt g xs bs k) where
     unfolding table_in table_of
     keys-are = rw (c, d, e)
 
-    pub keys-there : (query : Table → Result (List KeyValue)) (lens out lens' out' : List ℕ) (f : listed.Fetched) (r : Fetched) → ((t : Table) → t.keys ≡ keys_in n rows b → Fetches (query t) lens out f lens' out') → fetched_as r ≡ keys.fetchedAs f → ((t : Table) → t.keys ≡ keys_in n rows b → Short (query t)) → KeysFetched (in_group g query (context_of xs bs)) lens out r lens' out'
+    pub keys-there : (query : Table → Result (List KeyValue)) (lens out lens' out' : List ℕ) (f : listed.Fetched) (r : Fetched) → ((t : Table) → t.keys ≡ keys_in n rows b → Fetches (query t) lens out f lens' out') → fetched_as r ≡ keys.fetched_as f → ((t : Table) → t.keys ≡ keys_in n rows b → Short (query t)) → KeysFetched (in_group g query (context_of xs bs)) lens out r lens' out'
     keys-there query lens out lens' out' f r a m h =
         let t = table_in (stretch_at k xs) (bytes_at k bs) in
         let u = a t keys-are in
@@ -105,11 +105,11 @@ module _ {g : ℕ} {xs bs : List ℕ} {k : ℕ} (s : StandsAt g xs bs k) where
 
 -- ---- a group that is absent: 9, and the lists are as they were
 
-pub keys-absent : {answer : Result (List KeyValue)} {lens out : List ℕ} → refuse groupAbsent ≡ answer → KeysFetched answer lens out GroupAbsent lens out
+pub keys-absent : {answer : Result (List KeyValue)} {lens out : List ℕ} → refuse group_absent ≡ answer → KeysFetched answer lens out GroupAbsent lens out
 unfolding answered and_then lens_after bytes_after lent_after
 keys-absent e = rw (← e) (record { number = refl; lens-are = refl; bytes-are = refl; rows_are = refl })
 
-pub got-absent : {answer : Result (Option (List ℕ))} → refuse groupAbsent ≡ answer → Got answer 9 []
+pub got-absent : {answer : Result (Option (List ℕ))} → refuse group_absent ≡ answer → Got answer 9 []
 unfolding told_of value_of
 got-absent e = rw (← e) (record { told_is = refl; value-is = refl })
 

@@ -1,7 +1,7 @@
 -- A query of one group goes by the table of the stretch where the group stands. Assumes nothing.
 use Rattle.std.specs.Prelude.{List, ◌≡◌, refl, ℕ}
 use Rattle.maps.specs.Lists.{or_else}
-use Rattle.rules.specs.Causes.{Result, refuse, groupAbsent}
+use Rattle.rules.specs.Causes.{Result, refuse, group_absent}
 use Rattle.rules.specs.Table.{Table}
 use Rattle.rules.specs.Context.{with_groups}
 use Rattle.rules.specs.Queries.{in_group}
@@ -53,6 +53,6 @@ unfolding in_group or_else
 asked_at g query xs bs k s = rw s.table
 
 -- a group that stands nowhere is absent: 9
-pub asked-absent : {A : Type 0} (g : ℕ) (query : Table → Result A) (xs bs : List ℕ) (r : Place) → Stands g xs bs r → r ≡ Absent → refuse groupAbsent ≡ in_group g query (context_of xs bs)
+pub asked-absent : {A : Type 0} (g : ℕ) (query : Table → Result A) (xs bs : List ℕ) (r : Place) → Stands g xs bs r → r ≡ Absent → refuse group_absent ≡ in_group g query (context_of xs bs)
 unfolding Stands in_group or_else
 asked-absent g query xs bs r s e = rw (rw e at s)

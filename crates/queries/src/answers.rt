@@ -9,7 +9,7 @@ use crate::{Fetched, FoundEntry, FoundNumber, SomeBefore};
 
 // A number that a table gives.
 pub fn number_found(found: memtable::Found) -> FoundNumber
-    ensures { number_as result ≡ ok (table.foundOf found) }
+    ensures { number_as result ≡ ok (table.found_of found) }
 {
     match found {
         memtable::Found::Absent => FoundNumber::Absent,
@@ -19,7 +19,7 @@ pub fn number_found(found: memtable::Found) -> FoundNumber
 
 // A record that a table gives.
 pub fn entry_found(found: memtable::FoundEntry) -> FoundEntry
-    ensures { entry_as result ≡ ok (table.entryFound found) }
+    ensures { entry_as result ≡ ok (table.found_entry found) }
 {
     match found {
         memtable::FoundEntry::Absent => FoundEntry::Absent,
@@ -29,7 +29,7 @@ pub fn entry_found(found: memtable::FoundEntry) -> FoundEntry
 
 // Whether a table has some entries before a gate.
 pub fn some_before(answer: memtable::SomeBefore) -> SomeBefore
-    ensures { some_before_as result ≡ table.someBeforeOf answer }
+    ensures { some_before_as result ≡ table.some_before_of answer }
 {
     match answer {
         memtable::SomeBefore::BadRange => SomeBefore::BadRange,
@@ -39,7 +39,7 @@ pub fn some_before(answer: memtable::SomeBefore) -> SomeBefore
 
 // How a query of a table's keys ends.
 pub fn keys_fetched(answer: key_lists::Fetched) -> Fetched
-    ensures { fetched_as result ≡ keys.fetchedAs answer }
+    ensures { fetched_as result ≡ keys.fetched_as answer }
 {
     match answer {
         key_lists::Fetched::Done(count) => Fetched::Done(count),

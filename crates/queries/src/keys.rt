@@ -107,7 +107,7 @@ pub fn fetch_kvs_before(
     out: &mut [u8],
 ) -> Fetched
     requires { Wf xs.now bs.now }
-    ensures { KeysFetched (in_group group (λ t. ok (rules.fetchKvsBefore gate t)) (context_of xs.now bs.now)) lens.old out.old result lens.new out.new }
+    ensures { KeysFetched (in_group group (λ t. ok (rules.fetch_kvs_before gate t)) (context_of xs.now bs.now)) lens.old out.old result lens.new out.new }
 {
     let Place::At(k) = place_of(xs, group) else {
         return Fetched::GroupAbsent;
@@ -128,7 +128,7 @@ pub fn fetch_rewritten_kvs(
     out: &mut [u8],
 ) -> Fetched
     requires { Wf xs.now bs.now }
-    ensures { KeysFetched (in_group group (λ t. ok (rules.fetchRewrittenKvs t)) (context_of xs.now bs.now)) lens.old out.old result lens.new out.new }
+    ensures { KeysFetched (in_group group (λ t. ok (rules.fetch_rewritten_kvs t)) (context_of xs.now bs.now)) lens.old out.old result lens.new out.new }
 {
     let Place::At(k) = place_of(xs, group) else {
         return Fetched::GroupAbsent;

@@ -11,7 +11,7 @@ use borrow.Author.Tests.{le-leb, lt-leb}
 use Rattle.cells.specs.Part.{part, put}
 use Rattle.cells.specs.PartLaws.{length_part, get_or-part}
 use Rattle.pipe_log.specs.Rows.{window}
-use Rattle.rules.specs.Causes.{Cause, Result, ok, refuse, and_then, groupAbsent, entryCompacted, entryNotFound}
+use Rattle.rules.specs.Causes.{Cause, Result, ok, refuse, and_then, group_absent, entry_compacted, entry_not_found}
 use Rattle.rules.specs.Items.{EntryIndex}
 use Rattle.rules.specs.Table.{Table}
 use Rattle.rules.specs.Queries.{answered, lent_after, in_group}
@@ -75,8 +75,8 @@ module _ (query : Table → Result (List EntryIndex)) (g : ℕ) (xs bs : List �
   refused_by cause r e d = planned-refusal r (λ lent _. rw (← d) (fetched-refused lent cause r e))
 
   -- the group is absent
-  pub planned-absent : {r : Plan} → refuse groupAbsent ≡ in_group g query (context_of xs bs) → r ≡ refusal answer.GroupAbsent → Planned query g xs bs room r
-  planned-absent d e = rw e (refused_by groupAbsent answer.GroupAbsent refl d)
+  pub planned-absent : {r : Plan} → refuse group_absent ≡ in_group g query (context_of xs bs) → r ≡ refusal answer.GroupAbsent → Planned query g xs bs room r
+  planned-absent d e = rw e (refused_by group_absent answer.GroupAbsent refl d)
 
 -- ---- a plan for rows of stretch k
 
@@ -174,8 +174,8 @@ module _ {g : ℕ} {xs bs : List ℕ} {k : ℕ} (w : Wf xs bs) (s : StandsAt g x
             rw (lt-leb n room (omega arith))
             (planned-refusal query g xs bs room answer.ListTooShort (λ lent f. rw (← d) (fetched-short lent (entries_at a n h rows) n e (rw f (omega arith)))))
       ]
-  planned query EntryCompacted room r = refused_by query g xs bs room entryCompacted answer.EntryCompacted refl (range-there query EntryCompacted r)
-  planned query EntryNotFound room r = refused_by query g xs bs room entryNotFound answer.EntryNotFound refl (range-there query EntryNotFound r)
+  planned query EntryCompacted room r = refused_by query g xs bs room entry_compacted answer.EntryCompacted refl (range-there query EntryCompacted r)
+  planned query EntryNotFound room r = refused_by query g xs bs room entry_not_found answer.EntryNotFound refl (range-there query EntryNotFound r)
 
   module _ {head : Head} (e : head ≡ h) {lent : List ℕ} (d : lent ≡ rows) where
     pub rows_wf : table.Wf head lent

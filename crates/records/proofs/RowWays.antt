@@ -11,7 +11,7 @@ use borrow.Author.Tests.{le-leb, lt-leb}
 use Rattle.cells.specs.Part.{put}
 use Rattle.cells.specs.PartLaws.{length-put, put-nil, put-append}
 use Rattle.pipe_log.specs.Rows.{with_index, window}
-use Rattle.rules.specs.Causes.{Cause, Result, ok, refuse, and_then, groupAbsent, entryCompacted, entryNotFound}
+use Rattle.rules.specs.Causes.{Cause, Result, ok, refuse, and_then, group_absent, entry_compacted, entry_not_found}
 use Rattle.rules.specs.Items.{EntryIndex, file_of}
 use Rattle.rules.specs.Queries.{answered}
 use Rattle.log_batch.specs.OpenLaws.{length-entries}
@@ -182,11 +182,11 @@ module _ {g : ℕ} {xs bs : List ℕ} {k : ℕ} (w : Wf xs bs) (s : StandsAt g x
         rw (d, e) (rows-done out _ n (length-records w s a n within) m exits (rw (e, records_at w s a n within) at f))
 
   pub answer-compacted : (out : List ℕ) → range ≡ EntryCompacted → RowsFetched (range_of range head (entry_rows (stretch_at k xs))) out answer.EntryCompacted out
-  answer-compacted out d = rw d (rows-refused out entryCompacted answer.EntryCompacted refl)
+  answer-compacted out d = rw d (rows-refused out entry_compacted answer.EntryCompacted refl)
 
   pub answer-not-found : (out : List ℕ) → range ≡ EntryNotFound → RowsFetched (range_of range head (entry_rows (stretch_at k xs))) out answer.EntryNotFound out
-  answer-not-found out d = rw d (rows-refused out entryNotFound answer.EntryNotFound refl)
+  answer-not-found out d = rw d (rows-refused out entry_not_found answer.EntryNotFound refl)
 
 -- the group is absent
-pub answer-absent : {query : Result (List EntryIndex)} (out : List ℕ) → refuse groupAbsent ≡ query → RowsFetched query out answer.GroupAbsent out
-answer-absent out e = rows_same e (rows-refused out groupAbsent answer.GroupAbsent refl)
+pub answer-absent : {query : Result (List EntryIndex)} (out : List ℕ) → refuse group_absent ≡ query → RowsFetched query out answer.GroupAbsent out
+answer-absent out e = rows_same e (rows-refused out group_absent answer.GroupAbsent refl)

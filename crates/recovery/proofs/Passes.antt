@@ -42,13 +42,13 @@ answers-accepted call a z (Refused n p) d h e = absurd (refused_not_ok (h.answer
 pub made_by : {runs : Runs} {a : Area} → MadeBy runs a → Made runs (context_in a)
 made_by (MadeBy.started a f) = rw f.context-is Made.started
 made_by (MadeBy.replayed {a = a} b z m h) = Made.replayed b (context_in z) (made_by m) (accepted-is (replay b) a z h)
-made_by (MadeBy.mergedInto {a = a} {d = d} z m n h) = Made.mergedInto (context_in z) (made_by m) (made_by n) (accepted-is (merge (context_in d)) a z h)
-made_by (MadeBy.refusedReplay {a = a} b n p z m h) = rw h.leaves (Made.refusedReplay b (refusal_of n p) (made_by m) (refused-is (replay b) a z n p h))
-made_by (MadeBy.refusedMerge {a = a} d n p z m h) = rw h.leaves (Made.refusedMerge (context_in d) (refusal_of n p) (made_by m) (refused-is (merge (context_in d)) a z n p h))
-made_by (MadeBy.refusedJoin {a = a} d n p z m h) = rw h.leaves (Made.refusedJoin (context_in d) (refusal_of n p) (made_by m) (refused-is (join (context_in d)) a z n p h))
-made_by (MadeBy.refusedAppend {a = a} b n p z m h) = rw h.leaves (Made.refusedAppend b (refusal_of n p) (made_by m) (refused-is (append b) a z n p h))
-made_by (MadeBy.refusedRewrite {a = a} gate b n p z m h) = rw h.leaves (Made.refusedRewrite gate b (refusal_of n p) (made_by m) (refused-is (rewrite gate b) a z n p h))
-made_by (MadeBy.refusedTaking lent r z m e h w) = rw h (Made.refusedTaking lent r (made_by m) e)
+made_by (MadeBy.merged_into {a = a} {d = d} z m n h) = Made.merged_into (context_in z) (made_by m) (made_by n) (accepted-is (merge (context_in d)) a z h)
+made_by (MadeBy.refused_replay {a = a} b n p z m h) = rw h.leaves (Made.refused_replay b (refusal_of n p) (made_by m) (refused-is (replay b) a z n p h))
+made_by (MadeBy.refused_merge {a = a} d n p z m h) = rw h.leaves (Made.refused_merge (context_in d) (refusal_of n p) (made_by m) (refused-is (merge (context_in d)) a z n p h))
+made_by (MadeBy.refused_join {a = a} d n p z m h) = rw h.leaves (Made.refused_join (context_in d) (refusal_of n p) (made_by m) (refused-is (join (context_in d)) a z n p h))
+made_by (MadeBy.refused_append {a = a} b n p z m h) = rw h.leaves (Made.refused_append b (refusal_of n p) (made_by m) (refused-is (append b) a z n p h))
+made_by (MadeBy.refused_rewrite {a = a} gate b n p z m h) = rw h.leaves (Made.refused_rewrite gate b (refusal_of n p) (made_by m) (refused-is (rewrite gate b) a z n p h))
+made_by (MadeBy.refused_taking lent r z m e h w) = rw h (Made.refused_taking lent r (made_by m) e)
 
 -- ---- one pass
 
@@ -90,7 +90,7 @@ took-as (Took.accepted {bs = bs} {taken = taken} {a = a} b z t h) =
       context-is = h.leaves ∙ ap (λ c. left c (replay b c)) w.context-is ∙ sym (pass-more b bs (fresh Append));
       history-is = ap (λ hs. hs ++ (b ∷ [])) w.history-is ∙ sym (history-kept b bs (fresh Append) (context_in z) e);
     }
-took-as (Took.refusedOne {bs = bs} {taken = taken} {a = a} b n p z t h) =
+took-as (Took.refused_one {bs = bs} {taken = taken} {a = a} b n p z t h) =
     let w = took-as t in
     let e : replay b (one_pass bs (fresh Append)) ≡ refused (refusal_of n p) = rw w.context-is at (refused-is (replay b) a z n p h) in
     record {

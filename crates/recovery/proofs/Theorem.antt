@@ -59,13 +59,13 @@ lent_one (l ∷ lent) (x ∷ before) after b e = lent_one lent before after b cc
 made_wf : {runs : Runs} {a : Area} → MadeBy runs a → WfIn a
 made_wf (MadeBy.started a f) = f.wf
 made_wf (MadeBy.replayed b z m h) = h.wf
-made_wf (MadeBy.mergedInto z m n h) = h.wf
-made_wf (MadeBy.refusedReplay b n p z m h) = h.wf
-made_wf (MadeBy.refusedMerge d n p z m h) = h.wf
-made_wf (MadeBy.refusedJoin d n p z m h) = h.wf
-made_wf (MadeBy.refusedAppend b n p z m h) = h.wf
-made_wf (MadeBy.refusedRewrite gate b n p z m h) = h.wf
-made_wf (MadeBy.refusedTaking lent r z m e h w) = w
+made_wf (MadeBy.merged_into z m n h) = h.wf
+made_wf (MadeBy.refused_replay b n p z m h) = h.wf
+made_wf (MadeBy.refused_merge d n p z m h) = h.wf
+made_wf (MadeBy.refused_join d n p z m h) = h.wf
+made_wf (MadeBy.refused_append b n p z m h) = h.wf
+made_wf (MadeBy.refused_rewrite gate b n p z m h) = h.wf
+made_wf (MadeBy.refused_taking lent r z m e h w) = w
 
 module _ (ends : Ending) (batches : List Batch) (lent : List LentBatch) (a : Area) (d : Demand3 batches (map batch_in lent) a) where
   -- the next batch of a run, which was lent, is replayed
@@ -90,7 +90,7 @@ module _ (ends : Ending) (batches : List Batch) (lent : List LentBatch) (a : Are
   next-merged before after older newer c n e m k =
       let end = ends.merge-ends n c (made_wf k) (made_wf m) in
       let yes = d.merge-accepted before after older newer c n end.1 end.0 e m k end.2 in
-      (end.1, MadeBy.mergedInto end.1 m k (rw yes at end.2))
+      (end.1, MadeBy.merged_into end.1 m k (rw yes at end.2))
 
   started : (z : Area) × MadeBy (run []) z
   started = let f = ends.fresh-ends in (f.0, MadeBy.started f.0 f.1)

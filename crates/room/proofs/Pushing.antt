@@ -12,7 +12,7 @@ use lib.ListN.{length, drop}
 use borrow.Author.Tests.{ltb-false}
 use Rattle.maps.specs.Lists.{or_else}
 use Rattle.rules.specs.Items as rules
-use Rattle.rules.specs.Items.{is_mark, mark_byte, replayRewrite}
+use Rattle.rules.specs.Items.{is_mark, mark_byte, replay_rewrite}
 use Rattle.rules.specs.Checks.{long, checks}
 use Rattle.rules.specs.Context.{entries_in}
 use Rattle.log_batch.specs.declared.item.LogItem.{LogItem}
@@ -54,16 +54,16 @@ few-entries : (it : rules.LogItem) → long it.content ≡ false → entries_in 
 few-entries it e = few_of it.group it.content e
 
 -- a batch that passed has at most 32 items
-pub few-rows : (xs es bs : List ℕ) → checks replayRewrite (items_of xs es bs) ≡ none → row_count_of xs ≤ 32
+pub few-rows : (xs es bs : List ℕ) → checks replay_rewrite (items_of xs es bs) ≡ none → row_count_of xs ≤ 32
 few-rows xs es bs passed =
     elim (dec_le (row_count_of xs) 32) [
       | yes l ↦ l
-      | no l ↦ let early : true ≡ false = (passed-opens replayRewrite xs es bs passed 32 (omega arith)).passed.early in absurd (true≢false early)
+      | no l ↦ let early : true ≡ false = (passed-opens replay_rewrite xs es bs passed 32 (omega arith)).passed.early in absurd (true≢false early)
     ]
 
-module _ (xs es bs : List ℕ) (passed : checks replayRewrite (items_of xs es bs) ≡ none) (i : ℕ) (h : i < row_count_of xs) where
+module _ (xs es bs : List ℕ) (passed : checks replay_rewrite (items_of xs es bs) ≡ none) (i : ℕ) (h : i < row_count_of xs) where
   pub never-refused : {P : Type 0} (g : ℕ) → opened_row (drop (i * 9) xs) (length es / 8) (length bs) ≡ Refused g → P
-  never-refused g e = absurd (refused-item g _ (sym e ∙ (passed-opens replayRewrite xs es bs passed i h).opens))
+  never-refused g e = absurd (refused-item g _ (sym e ∙ (passed-opens replay_rewrite xs es bs passed i h).opens))
 
   module _ (it : LogItem) (e : opened_row (drop (i * 9) xs) (length es / 8) (length bs) ≡ Item it) (m : byte.MarkByte) (f : (ns : List ℕ) → byte_as m ≡ mark_byte (content_of it.content ns bs)) where
     pub is-mark : (b : ℕ) → m ≡ byte.TheVariants.Byte b → is_mark (item_at es bs (drop (i * 9) xs)) ≡ true
@@ -76,13 +76,13 @@ module _ (xs es bs : List ℕ) (passed : checks replayRewrite (items_of xs es bs
 
     pub is_plain : m ≡ byte.TheVariants.Absent → Plain xs es bs i it
     is_plain q =
-        let o = passed-opens replayRewrite xs es bs passed i h in
+        let o = passed-opens replay_rewrite xs es bs passed i h in
         let same : o.item ≡ it = cc (sym o.opens ∙ e) in
         let few = few-entries (item_of it es bs) (rw same at o.passed.short) in
         record {
           is = item-opened es bs (drop (i * 9) xs) it e;
           plain = no-mark q;
-          lent = checked-opens replayRewrite xs es bs passed i h it e;
+          lent = checked-opens replay_rewrite xs es bs passed i h it e;
           few = rw (entries-count it es bs) at few;
         }
 

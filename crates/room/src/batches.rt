@@ -1,7 +1,7 @@
 // The items of a marked batch but its mark: their counts, and all of them added to a room with one tag.
 ghost use Rattle.std.specs.Prelude.{[], ◌∷◌, ◌≡◌, ◌+◌, ◌*◌, ◌≤◌, ◌<◌, length, drop};
 ghost use Rattle.std.proofs.Math.Option.{none};
-ghost use Rattle.rules.specs.Items.{replayRewrite};
+ghost use Rattle.rules.specs.Items.{replay_rewrite};
 ghost use Rattle.rules.specs.Checks.{checks};
 ghost use Rattle.log_batch.specs.Lent.{row_count_of, item_at, items_of};
 ghost use Rattle.stores.specs.Stores.{Stored};
@@ -19,7 +19,7 @@ use stores::add::count_of;
 // Item `i` of a batch that passed the checks.
 fn unmarked_at(items: &[u64], entries: &[u64], bytes: &[u8], i: usize) -> Unmarked
     requires i_bound { i < row_count_of items.now }
-    requires bytes_value { checks replayRewrite (items_of items.now entries.now bytes.now) ≡ none }
+    requires bytes_value { checks replay_rewrite (items_of items.now entries.now bytes.now) ≡ none }
     ensures { Unmarks items.now entries.now bytes.now i result }
 {
     let Opened::Item(item) = open_item(items, entries, bytes, i) else {
@@ -35,7 +35,7 @@ fn unmarked_at(items: &[u64], entries: &[u64], bytes: &[u8], i: usize) -> Unmark
 // The counts so far, with item `i` unless it is the mark.
 fn count_item(count: Store, items: &[u64], entries: &[u64], bytes: &[u8], i: usize) -> Store
     requires i_bound { i < row_count_of items.now }
-    requires bytes_value { checks replayRewrite (items_of items.now entries.now bytes.now) ≡ none }
+    requires bytes_value { checks replay_rewrite (items_of items.now entries.now bytes.now) ≡ none }
     requires count_le_i { (count.items ≤ i) × (count.entries ≤ i * 32) }
     ensures result_value { result.items ≡ count.items + (counts_for (unmarked (item_at entries.now bytes.now (drop (i * 9) items.now) ∷ []))).items }
     ensures entries_value { result.entries ≡ count.entries + (counts_for (unmarked (item_at entries.now bytes.now (drop (i * 9) items.now) ∷ []))).entries }
@@ -54,7 +54,7 @@ fn count_item(count: Store, items: &[u64], entries: &[u64], bytes: &[u8], i: usi
 
 // The counts of the items of a batch but the mark.
 pub fn count_batch(items: &[u64], entries: &[u64], bytes: &[u8]) -> Store
-    requires { checks replayRewrite (items_of items.now entries.now bytes.now) ≡ none }
+    requires { checks replay_rewrite (items_of items.now entries.now bytes.now) ≡ none }
     ensures value { result ≡ counts_for (unmarked (items_of items.now entries.now bytes.now)) }
     ensures result_bound { (result.items ≤ 32) × (result.entries ≤ 1024) }
 {
@@ -86,7 +86,7 @@ fn push_item(
     requires ws_len { (length ws.old ≡ 2 + cells * 218) × (length vs.old ≡ cells * 512) }
     requires stored { Stored store (area_in (room_of cells ws.old vs.old)) }
     requires i_bound { i < row_count_of items.now }
-    requires bytes_value { checks replayRewrite (items_of items.now entries.now bytes.now) ≡ none }
+    requires bytes_value { checks replay_rewrite (items_of items.now entries.now bytes.now) ≡ none }
     requires bound { (store.items + (counts_for (unmarked (item_at entries.now bytes.now (drop (i * 9) items.now) ∷ []))).items ≤ cells * 8) × (store.entries + (counts_for (unmarked (item_at entries.now bytes.now (drop (i * 9) items.now) ∷ []))).entries ≤ cells * 16) }
     ensures { PushedAll store (room_of cells ws.old vs.old) tag (unmarked (item_at entries.now bytes.now (drop (i * 9) items.now) ∷ [])) result (room_of cells ws.new vs.new) }
 {
@@ -109,7 +109,7 @@ pub fn push_batch(
 ) -> Store
     requires ws_len { (length ws.old ≡ 2 + cells * 218) × (length vs.old ≡ cells * 512) }
     requires stored { Stored store (area_in (room_of cells ws.old vs.old)) }
-    requires bytes_value { checks replayRewrite (items_of items.now entries.now bytes.now) ≡ none }
+    requires bytes_value { checks replay_rewrite (items_of items.now entries.now bytes.now) ≡ none }
     requires bytes_bound { (store.items + (counts_for (unmarked (items_of items.now entries.now bytes.now))).items ≤ cells * 8) × (store.entries + (counts_for (unmarked (items_of items.now entries.now bytes.now))).entries ≤ cells * 16) }
     ensures { PushedAll store (room_of cells ws.old vs.old) tag (unmarked (items_of items.now entries.now bytes.now)) result (room_of cells ws.new vs.new) }
 {

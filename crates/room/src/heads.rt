@@ -2,7 +2,7 @@
 ghost use Rattle.std.specs.Prelude.{List, ◌≡◌, ℕ, ◌+◌, ◌*◌, ◌≤◌, ◌<◌, length, get_or};
 ghost use Rattle.std.proofs.Math.Option.{none};
 ghost use Rattle.cells.specs.Part.{part};
-ghost use Rattle.rules.specs.Items.{replayRewrite};
+ghost use Rattle.rules.specs.Items.{replay_rewrite};
 ghost use Rattle.rules.specs.Checks.{checks};
 ghost use Rattle.log_batch.specs.Lent.{items_of};
 ghost use Rattle.stores.specs.Stores.{Stored};
@@ -90,7 +90,7 @@ pub fn write_part(
 )
     requires ws_len { (length ws.old ≡ 2 + cells * 218) × (length vs.old ≡ cells * 512) × (k < cells) × (length head.now ≡ 10) }
     requires stored { Stored store (area_in (room_of cells ws.old vs.old)) }
-    requires bytes_value { checks replayRewrite (items_of items.now entries.now bytes.now) ≡ none }
+    requires bytes_value { checks replay_rewrite (items_of items.now entries.now bytes.now) ≡ none }
     requires bytes_bound { (store.items + (counts_for (unmarked (items_of items.now entries.now bytes.now))).items ≤ cells * 8) × (store.entries + (counts_for (unmarked (items_of items.now entries.now bytes.now))).entries ≤ cells * 16) }
     ensures { WroteIn k head.now tag (unmarked (items_of items.now entries.now bytes.now)) store (room_of cells ws.old vs.old) (store_of ws.new) (room_of cells ws.new vs.new) }
 {

@@ -4,7 +4,7 @@ use mathlib.Core.Bool.{true}
 use mathlib.Core.List.{List, [], ◌∷◌, ◌++◌, map}
 use mathlib.Core.Option.{Option, none, some}
 use Prim.Native.Nat.{ℕ}
-use Rattle.rules.specs.Causes.{Result, ok, refuse, and_then, entryCompacted, entryNotFound, belowFirst, aboveLast, appendLeft, alreadyRewritten}
+use Rattle.rules.specs.Causes.{Result, ok, refuse, and_then, entry_compacted, entry_not_found, below_first, above_last, append_left, already_rewritten}
 use Rattle.rules.specs.Items.{Append, Rewrite, EntryIndex, file_of, Batch, entries, command, compact}
 use Rattle.rules.specs.Table.{Table, Span, empty_table, appended, rewritten, compacted, compacted_count, with_entries, with_span}
 use Rattle.rules.specs.TableQueries.{fetch_entries_to, min_file_seq, rewrite_count}
@@ -60,24 +60,24 @@ pub record Bench : Type 0 where
   pub case-3-pass : held (recovered Rewrite (rewrite1 ++ rewrite2)) ≡ ok (4 ∷ 5 ∷ [])
   pub case-3-merge : held (merged (recovered Rewrite rewrite1) (recovered Rewrite rewrite2)) ≡ ok (1 ∷ 2 ∷ 3 ∷ 4 ∷ 5 ∷ [])
   -- 4. live 5..8: append at 4 is 13, 10 is 14; 9 and 6 are taken
-  pub case-4-below : appended true (several Append 2 4 1) live ≡ refuse belowFirst
-  pub case-4-above : appended true (several Append 2 10 1) live ≡ refuse aboveLast
+  pub case-4-below : appended true (several Append 2 4 1) live ≡ refuse below_first
+  pub case-4-above : appended true (several Append 2 10 1) live ≡ refuse above_last
   pub case-4-next : held_by (appended true (several Append 2 9 1) live) ≡ ok (5 ∷ 6 ∷ 7 ∷ 8 ∷ 9 ∷ [])
   pub case-4-inside : held_by (appended true (several Append 2 6 1) live) ≡ ok (5 ∷ 6 ∷ [])
   -- 5. the same: fetch [7,7) empty, [4,6) 11, [8,9) one, [8,10) 12
   pub case-5-empty : fetch_entries_to 7 7 none live ≡ ok []
-  pub case-5-compacted : fetch_entries_to 4 6 none live ≡ refuse entryCompacted
+  pub case-5-compacted : fetch_entries_to 4 6 none live ≡ refuse entry_compacted
   pub case-5-one : answer (fetch_entries_to 8 9 none live) ≡ ok (8 ∷ [])
-  pub case-5-missing : fetch_entries_to 8 10 none live ≡ refuse entryNotFound
+  pub case-5-missing : fetch_entries_to 8 10 none live ≡ refuse entry_not_found
   -- 6. lengths 0, 0, 9, 1, size 5: three records
   pub case-6 : answer (fetch_entries_to 1 5 (some 5) (table_of (sized_entry Append 1 1 0 ∷ sized_entry Append 1 2 0 ∷ sized_entry Append 1 3 9 ∷ sized_entry Append 1 4 1 ∷ []))) ≡ ok (1 ∷ 2 ∷ 3 ∷ [])
   -- 7. 5..8 in files 1, 1, 2, 3; rewrite 4..8, gate 2: three moved. Again: 16. Ungated: three renewed.
   pub case-7-moved : seqs (moved (some 2) 4 filed) ≡ ok (4 ∷ 4 ∷ 4 ∷ 3 ∷ [])
   pub case-7-count : and_then (moved (some 2) 4 filed) (λ t. ok (rewrite_count t)) ≡ ok 3
-  pub case-7-again : and_then (moved (some 2) 4 filed) (moved (some 2) 5) ≡ refuse alreadyRewritten
+  pub case-7-again : and_then (moved (some 2) 4 filed) (moved (some 2) 5) ≡ refuse already_rewritten
   pub case-7-renewed : seqs (and_then (moved (some 2) 4 filed) (moved none 5)) ≡ ok (5 ∷ 5 ∷ 5 ∷ 3 ∷ [])
   -- 8. 5..8 Append, rewrite 7..8: 15
-  pub case-8 : rewritten (some 9) (several Rewrite 1 7 2) live ≡ refuse appendLeft
+  pub case-8 : rewritten (some 9) (several Rewrite 1 7 2) live ≡ refuse append_left
   -- 9. Rewrite files 9, 4: least 9; span (3,12): 3; span (3,8): 9
   pub case-9-least : min_file_seq Rewrite (nine_four none) ≡ some 9
   pub case-9-inside : min_file_seq Rewrite (nine_four (some (record { start = 3; end = 12 }))) ≡ some 3

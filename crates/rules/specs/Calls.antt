@@ -1,10 +1,10 @@
 -- Rules of contexts: the calls that write. Each gives the state that it ends with, or the refusal; `left` is the state after either.
 use Rattle.std.specs.Prelude.{Bool, false, cond, ◌&&◌, [], ◌++◌, ℕ}
 use Rattle.std.proofs.Math.Option.{Option, none, some}
-use Rattle.rules.specs.Causes.{Cause, Result, refused, refuse, and_then, wrongKind, filesGoBack, aboveLast}
+use Rattle.rules.specs.Causes.{Cause, Result, refused, refuse, and_then, wrong_kind, files_go_back, above_last}
 use Rattle.maps.specs.Lists.{any, or_else}
 use Rattle.maps.specs.Maps.{Map, lookup, merge_with, numbers}
-use Rattle.rules.specs.Items.{LogQueue, Append, Rewrite, same_queue, Batch, placed_from, Call, replayAppend, replayRewrite, liveAppend, live_rewrite}
+use Rattle.rules.specs.Items.{LogQueue, Append, Rewrite, same_queue, Batch, placed_from, Call, replay_append, replay_rewrite, live_append, live_rewrite}
 use Rattle.rules.specs.Checks.{checks, first_mark}
 use Rattle.rules.specs.Table.{Table, made, uncounted, with_entries, with_keys, with_span, first_index_of, is_above_last, over, over_gap, over_keys, span_goes_back}
 use Rattle.rules.specs.Context.{index, is_context, is_index, Context, with_groups, with_tombstones, limited, run, replay_tombstones}
@@ -21,16 +21,16 @@ run_batch call b c = run limited call (placed_from 0 b.items) c
 -- ---- replay
 
 unfoldable pub replay_batch : LogQueue → Batch → Context → Result Context
-replay_batch Append b c = checked replayAppend b (run_batch replayAppend b c)
+replay_batch Append b c = checked replay_append b (run_batch replay_append b c)
 replay_batch Rewrite b c =
-    checked replayRewrite b
-    (or_else (run_batch replayRewrite b c)
+    checked replay_rewrite b
+    (or_else (run_batch replay_rewrite b c)
     (λ m. replay_marked m b.file.seq (placed_from 0 b.items) c)
     (first_mark 0 b.items))
 
 -- a batch replayed into a context of its file's queue
 unfoldable pub replay : Batch → Context → Result Context
-replay b c = cond (is_context b.file.queue c.kind) (replay_batch b.file.queue b c) (refuse wrongKind)
+replay b c = cond (is_context b.file.queue c.kind) (replay_batch b.file.queue b c) (refuse wrong_kind)
 
 -- ---- merge
 
@@ -41,8 +41,8 @@ clashes Rewrite older newer = or_else false (span_goes_back (made older).span) n
 
 -- what a clash of two tables is: an append above last + 1, or files of spans that go back
 unfoldable pub clash : LogQueue → Cause
-clash Append = aboveLast
-clash Rewrite = filesGoBack
+clash Append = above_last
+clash Rewrite = files_go_back
 
 -- a newer entries list is one replayed list of that queue
 unfoldable pub over_of : LogQueue → Table → Table → Table
@@ -62,8 +62,8 @@ merge_tables q newer c =
     (limited none (with_groups (merge_with numbers (merge_table q) c.groups newer.groups) c))
 
 unfoldable pub replay_call : LogQueue → Call
-replay_call Append = replayAppend
-replay_call Rewrite = replayRewrite
+replay_call Append = replay_append
+replay_call Rewrite = replay_rewrite
 
 -- newer tombstones are appended, newer waiting parts accepted, newer tombstones replayed; newer tables follow
 unfoldable pub merge_contexts : LogQueue → Context → Context → Result Context
@@ -80,7 +80,7 @@ unfoldable pub merge : Context → Context → Result Context
 merge newer c =
     cond (both Append newer c)
     (merge_contexts Append newer c)
-    (cond (both Rewrite newer c) (merge_contexts Rewrite newer c) (refuse wrongKind))
+    (cond (both Rewrite newer c) (merge_contexts Rewrite newer c) (refuse wrong_kind))
 
 -- ---- join
 
@@ -96,22 +96,22 @@ index_of g c = record { kind = index; groups = g; tombstones = []; cleaned = c.c
 
 unfoldable pub join_contexts : Context → Context → Result Context
 join_contexts newer c =
-    and_then (replay_tombstones liveAppend newer.tombstones c)
+    and_then (replay_tombstones live_append newer.tombstones c)
     (λ d. limited none (index_of (merge_with numbers join_table d.groups newer.groups) d))
 
 -- an Append context joined to the Rewrite context c, which becomes the index
 unfoldable pub join : Context → Context → Result Context
-join newer c = cond (is_context Append newer.kind && is_context Rewrite c.kind) (join_contexts newer c) (refuse wrongKind)
+join newer c = cond (is_context Append newer.kind && is_context Rewrite c.kind) (join_contexts newer c) (refuse wrong_kind)
 
 -- ---- live writes
 
 -- a call of the index that writes queue q takes a batch file of that queue
 unfoldable pub write : LogQueue → Call → Batch → Context → Result Context
 write q call b c =
-    cond (is_index c.kind && same_queue b.file.queue q) (checked call b (run_batch call b c)) (refuse wrongKind)
+    cond (is_index c.kind && same_queue b.file.queue q) (checked call b (run_batch call b c)) (refuse wrong_kind)
 
 unfoldable pub append : Batch → Context → Result Context
-append b c = write Append liveAppend b c
+append b c = write Append live_append b c
 
 -- a live rewrite, gated or not; a key's new number is the batch's
 unfoldable pub rewrite : Option ℕ → Batch → Context → Result Context

@@ -4,29 +4,29 @@ use Rattle.std.proofs.Math.Option.{Option, none}
 
 -- the causes, in the order of 01's table
 pub data Cause : Type 0 where
-  wrongKind tooLong incomplete outOfRange wrongQueue notRewritable badMark filesGoBack groupAbsent badRange : Cause
-  entryCompacted entryNotFound belowFirst aboveLast appendLeft alreadyRewritten keyGoesBack limitPassed listTooShort : Cause
+  wrong_kind too_long incomplete out_of_range wrong_queue not_rewritable bad_mark files_go_back group_absent bad_range : Cause
+  entry_compacted entry_not_found below_first above_last append_left already_rewritten key_goes_back limit_passed list_too_short : Cause
 
 abbrev pub number_of : Cause → ℕ
-number_of wrongKind = 1
-number_of tooLong = 2
+number_of wrong_kind = 1
+number_of too_long = 2
 number_of incomplete = 3
-number_of outOfRange = 4
-number_of wrongQueue = 5
-number_of notRewritable = 6
-number_of badMark = 7
-number_of filesGoBack = 8
-number_of groupAbsent = 9
-number_of badRange = 10
-number_of entryCompacted = 11
-number_of entryNotFound = 12
-number_of belowFirst = 13
-number_of aboveLast = 14
-number_of appendLeft = 15
-number_of alreadyRewritten = 16
-number_of keyGoesBack = 17
-number_of limitPassed = 18
-number_of listTooShort = 19
+number_of out_of_range = 4
+number_of wrong_queue = 5
+number_of not_rewritable = 6
+number_of bad_mark = 7
+number_of files_go_back = 8
+number_of group_absent = 9
+number_of bad_range = 10
+number_of entry_compacted = 11
+number_of entry_not_found = 12
+number_of below_first = 13
+number_of above_last = 14
+number_of append_left = 15
+number_of already_rewritten = 16
+number_of key_goes_back = 17
+number_of limit_passed = 18
+number_of list_too_short = 19
 
 -- what is returned of a refused call: the number, and the item position where the cause has one
 pub record Refusal : Type 0 where

@@ -2,9 +2,9 @@
 use Rattle.std.specs.Prelude.{Bool, true, false, cond, not, ◌&&◌, ◌||◌, List, [], ◌∷◌, ℕ, suc, ltb, eqb, length}
 use Rattle.std.proofs.Math.Option.{Option, none, some}
 use Rattle.rules.specs.Limits.{max_items, max_list_entries, max_bytes, max_index, max_entry_len, max_status}
-use Rattle.rules.specs.Causes.{Cause, number_of, Refusal, tooLong, incomplete, outOfRange, wrongQueue, notRewritable, badMark}
+use Rattle.rules.specs.Causes.{Cause, number_of, Refusal, too_long, incomplete, out_of_range, wrong_queue, not_rewritable, bad_mark}
 use Rattle.maps.specs.Lists.{any, or_else, find_from}
-use Rattle.rules.specs.Items.{LogQueue, FileId, EntryIndex, same_queue, has_file, file_of, clean, compact, Change, put, del, Content, entries, command, kv, LogItem, is_reserved, is_clean, is_tombstone, mark_byte, is_mark, Call, replayAppend, replayRewrite, liveAppend, live_rewrite, writes, is_live_rewrite}
+use Rattle.rules.specs.Items.{LogQueue, FileId, EntryIndex, same_queue, has_file, file_of, clean, compact, Change, put, del, Content, entries, command, kv, LogItem, is_reserved, is_clean, is_tombstone, mark_byte, is_mark, Call, replay_append, replay_rewrite, live_append, live_rewrite, writes, is_live_rewrite}
 
 -- 2: a list over 32 entries, a key or value over 32 bytes
 unfoldable pub long_change : Change → Bool
@@ -58,9 +58,9 @@ is_not_rewritable call c = is_live_rewrite call && is_tombstone c && not (is_cle
 
 -- marks and 7 are of Rewrite replay alone
 unfoldable pub is_rewrite_replay : Call → Bool
-is_rewrite_replay replayAppend = false
-is_rewrite_replay replayRewrite = true
-is_rewrite_replay liveAppend = false
+is_rewrite_replay replay_append = false
+is_rewrite_replay replay_rewrite = true
+is_rewrite_replay live_append = false
 is_rewrite_replay (live_rewrite g s) = false
 
 -- reserved keys meet none of 3 to 6, but a reserved Put without value is 3 in Rewrite replay
@@ -103,9 +103,9 @@ unless_reserved p i it = not (is_reserved it.content) && p it.content
 -- the least of 2 to 7 met by any item, at the first item that meets it; a batch over 32 is met at item 32
 unfoldable pub checks : Call → List LogItem → Option Refusal
 checks call items =
-    or_next tooLong (find_from (λ i it. eqb i max_items || long it.content) 0 items)
+    or_next too_long (find_from (λ i it. eqb i max_items || long it.content) 0 items)
     (or_next incomplete (find_from (λ i it. meets3 call it.content) 0 items)
-    (or_next outOfRange (find_from (unless_reserved is_out_of_range) 0 items)
-    (or_next wrongQueue (find_from (unless_reserved (is_other_queue call)) 0 items)
-    (or_next notRewritable (find_from (unless_reserved (is_not_rewritable call)) 0 items)
-    (or_next badMark (find_from (meets7 call (first_mark 0 items)) 0 items) none)))))
+    (or_next out_of_range (find_from (unless_reserved is_out_of_range) 0 items)
+    (or_next wrong_queue (find_from (unless_reserved (is_other_queue call)) 0 items)
+    (or_next not_rewritable (find_from (unless_reserved (is_not_rewritable call)) 0 items)
+    (or_next bad_mark (find_from (meets7 call (first_mark 0 items)) 0 items) none)))))

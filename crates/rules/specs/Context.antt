@@ -2,10 +2,10 @@
 use Rattle.std.specs.Prelude.{Bool, true, false, cond, ◌&&◌, List, [], ◌∷◌, ◌++◌, ℕ, leb, length}
 use Rattle.std.proofs.Math.Option.{Option}
 use Rattle.rules.specs.Limits.{max_groups, max_entries, max_keys, max_tombstones, max_cleaned, max_waiting_groups, max_waiting_items, max_waiting_entries}
-use Rattle.rules.specs.Causes.{Result, ok, refuse_at, and_then, in_order, placed, limitPassed}
+use Rattle.rules.specs.Causes.{Result, ok, refuse_at, and_then, in_order, placed, limit_passed}
 use Rattle.maps.specs.Lists.{every, sum}
 use Rattle.maps.specs.Maps.{Map, lookup, store, numbers}
-use Rattle.rules.specs.Items.{LogQueue, Append, Content, entries, command, kv, LogItem, Placed, Status, same_queue, is_reserved, is_clean, is_tombstone, writes, Call, replayAppend, replayRewrite, liveAppend, live_rewrite}
+use Rattle.rules.specs.Items.{LogQueue, Append, Content, entries, command, kv, LogItem, Placed, Status, same_queue, is_reserved, is_clean, is_tombstone, writes, Call, replay_append, replay_rewrite, live_append, live_rewrite}
 use Rattle.rules.specs.Table.{Table, change}
 
 -- a context of a queue, or the index
@@ -84,7 +84,7 @@ abbrev pub Judge : Type 0
 Judge = Option ℕ → Context → Result Context
 
 unfoldable pub limited : Judge
-limited p c = cond (fits c) (ok c) (refuse_at limitPassed p)
+limited p c = cond (fits c) (ok c) (refuse_at limit_passed p)
 
 unfoldable pub unjudged : Judge
 unjudged p c = ok c
@@ -105,9 +105,9 @@ act call it c =
 
 -- a replay keeps tombstones
 unfoldable pub keeps : Call → Bool
-keeps replayAppend = true
-keeps replayRewrite = true
-keeps liveAppend = false
+keeps replay_append = true
+keeps replay_rewrite = true
+keeps live_append = false
 keeps (live_rewrite g s) = false
 
 unfoldable pub add_tombstone : Call → LogItem → Context → Context

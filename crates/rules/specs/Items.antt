@@ -113,18 +113,18 @@ placed_at p xs = map (λ (x : LogItem). record { item = x; place = p }) xs
 
 -- the four calls that take a batch; a live rewrite has its gate and the batch's sequence number
 pub data Call : Type 0 where
-  replayAppend replayRewrite liveAppend : Call
+  replay_append replay_rewrite live_append : Call
   live_rewrite : Option ℕ → ℕ → Call
 
 -- the queue that a call writes
 unfoldable pub writes : Call → LogQueue
-writes replayAppend = Append
-writes replayRewrite = Rewrite
-writes liveAppend = Append
+writes replay_append = Append
+writes replay_rewrite = Rewrite
+writes live_append = Append
 writes (live_rewrite g s) = Rewrite
 
 unfoldable pub is_live_rewrite : Call → Bool
-is_live_rewrite replayAppend = false
-is_live_rewrite replayRewrite = false
-is_live_rewrite liveAppend = false
+is_live_rewrite replay_append = false
+is_live_rewrite replay_rewrite = false
+is_live_rewrite live_append = false
 is_live_rewrite (live_rewrite g s) = true

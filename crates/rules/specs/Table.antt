@@ -1,10 +1,10 @@
 -- Rules of one group: how a table changes.
 use Rattle.std.specs.Prelude.{Bool, true, false, cond, not, ◌&&◌, List, [], ◌∷◌, ◌++◌, ℕ, suc, ltb, leb, length}
 use Rattle.std.proofs.Math.Option.{Option, none, some}
-use Rattle.rules.specs.Causes.{Result, ok, refuse, and_then, filesGoBack, belowFirst, aboveLast, appendLeft, alreadyRewritten, keyGoesBack}
+use Rattle.rules.specs.Causes.{Result, ok, refuse, and_then, files_go_back, below_first, above_last, append_left, already_rewritten, key_goes_back}
 use Rattle.maps.specs.Lists.{select, first, last, map_option, or_else}
 use Rattle.maps.specs.Maps.{Map, lookup, insert, remove, merge_with, bytes}
-use Rattle.rules.specs.Items.{LogQueue, Append, Rewrite, FileId, EntryIndex, is_rewrite, file_of, Command, clean, compact, Change, put, del, Content, entries, command, kv, Call, replayAppend, replayRewrite, liveAppend, live_rewrite, is_live_rewrite}
+use Rattle.rules.specs.Items.{LogQueue, Append, Rewrite, FileId, EntryIndex, is_rewrite, file_of, Command, clean, compact, Change, put, del, Content, entries, command, kv, Call, replay_append, replay_rewrite, live_append, live_rewrite, is_live_rewrite}
 
 -- what a key holds: its value and its file
 pub record Held : Type 0 where
@@ -78,8 +78,8 @@ unfoldable pub appended : Bool → List EntryIndex → Table → Result Table
 appended live [] t = ok t
 appended live (e ∷ es) t =
     cond (live && is_below_first e.index t.entries)
-    (refuse belowFirst)
-    (cond (is_above_last e.index t.entries) (refuse aboveLast) (ok (with_entries (over t.entries (e ∷ es)) t)))
+    (refuse below_first)
+    (cond (is_above_last e.index t.entries) (refuse above_last) (ok (with_entries (over t.entries (e ∷ es)) t)))
 
 unfoldable pub replayed_rewrite : List EntryIndex → Table → Table
 replayed_rewrite es t = with_entries (over_gap t.entries es) t
@@ -119,9 +119,9 @@ rewrite_overlap gate before [] rs = ok before
 rewrite_overlap gate before (e ∷ es) [] = ok (before ++ (e ∷ es))
 rewrite_overlap gate before (e ∷ es) (r ∷ rs) =
     cond (or_else false (λ b. not (is_rewrite b)) (last before))
-    (refuse appendLeft)
+    (refuse append_left)
     (cond (meets_rewrite gate (stops_at gate (e ∷ es) (r ∷ rs)))
-    (refuse alreadyRewritten)
+    (refuse already_rewritten)
     (ok (before ++ replaced gate (e ∷ es) (r ∷ rs))))
 
 -- a list that starts at s, on entries that start at f; where either is empty nothing changes
@@ -147,7 +147,7 @@ rewrite_file Append none s h = ok h
 rewrite_file Append (some gate) s h =
     ok (cond (leb h.file.seq gate) (record { value = h.value; file = record { queue = Rewrite; seq = s } }) h)
 rewrite_file Rewrite gate s h =
-    cond (ltb s h.file.seq) (refuse keyGoesBack) (ok (record { value = h.value; file = record { queue = Rewrite; seq = s } }))
+    cond (ltb s h.file.seq) (refuse key_goes_back) (ok (record { value = h.value; file = record { queue = Rewrite; seq = s } }))
 
 unfoldable pub rewritten_key : List ℕ → Option ℕ → ℕ → Table → Result Table
 rewritten_key k gate s t =
@@ -165,7 +165,7 @@ span_goes_back none s = false
 span_goes_back (some o) s = ltb s.start o.end
 
 unfoldable pub spanned : Span → Table → Result Table
-spanned s t = cond (span_goes_back t.span s) (refuse filesGoBack) (ok (with_span (some s) t))
+spanned s t = cond (span_goes_back t.span s) (refuse files_go_back) (ok (with_span (some s) t))
 
 -- ---- what an item's content does to its own group
 
@@ -176,16 +176,16 @@ put_held k none (some f) t = t
 put_held k none none t = t
 
 unfoldable pub entries_to : Call → List EntryIndex → Table → Result Table
-entries_to replayAppend es t = appended false es t
-entries_to replayRewrite es t = ok (replayed_rewrite es t)
-entries_to liveAppend es t = appended true es t
+entries_to replay_append es t = appended false es t
+entries_to replay_rewrite es t = ok (replayed_rewrite es t)
+entries_to live_append es t = appended true es t
 entries_to (live_rewrite gate s) es t = rewritten gate es t
 
 -- a Put; a live rewrite moves the key's file instead
 unfoldable pub put_to : Call → List ℕ → Option (List ℕ) → Option FileId → Table → Result Table
-put_to replayAppend k v f t = ok (put_held k v f t)
-put_to replayRewrite k v f t = ok (put_held k v f t)
-put_to liveAppend k v f t = ok (put_held k v f t)
+put_to replay_append k v f t = ok (put_held k v f t)
+put_to replay_rewrite k v f t = ok (put_held k v f t)
+put_to live_append k v f t = ok (put_held k v f t)
 put_to (live_rewrite gate s) k v f t = rewritten_key k gate s t
 
 unfoldable pub change_to : Call → List ℕ → Change → Table → Result Table

@@ -2,7 +2,7 @@
 use Rattle.std.specs.Prelude.{Bool, true, false, cond, not, ◌&&◌, ◌||◌, List, [], ◌∷◌, reverse, map, ℕ, ◌+◌, ◌-◌, min, ltb, leb, eqb, length, take}
 use Rattle.std.proofs.Math.Option.{Option, none, some}
 use Rattle.std.proofs.Math.ListN.{get_elem?}
-use Rattle.rules.specs.Causes.{Result, ok, refuse, badRange, entryCompacted, entryNotFound}
+use Rattle.rules.specs.Causes.{Result, ok, refuse, bad_range, entry_compacted, entry_not_found}
 use Rattle.maps.specs.Lists.{select, front, rest, first, map_option, or_else, least}
 use Rattle.maps.specs.Maps.{Pair, Map, lookup, bytes, bytes_below}
 use Rattle.rules.specs.Items.{LogQueue, Append, Rewrite, EntryIndex, same_queue, file_of, is_rewrite}
@@ -33,10 +33,10 @@ unfoldable pub fetch_entries_to : ℕ → ℕ → Option ℕ → Table → Resul
 fetch_entries_to begin end size t =
     cond (leb end begin)
     (ok [])
-    (or_else (refuse entryNotFound)
+    (or_else (refuse entry_not_found)
     (λ f. cond (ltb begin f)
-    (refuse entryCompacted)
-    (cond (is_above_last end t.entries) (refuse entryNotFound) (ok (sized size (within begin end t.entries)))))
+    (refuse entry_compacted)
+    (cond (is_above_last end t.entries) (refuse entry_not_found) (ok (sized size (within begin end t.entries)))))
     (first_index_of t.entries))
 
 -- the run of a queue's entries: Rewrite ones stand at the front
@@ -58,7 +58,7 @@ fetch_rewritten_entry_indexes t = select is_rewrite t.entries
 -- `has_at_least_some_entries_before`: the entry at count − 1 exists with a sequence number at most the gate's
 unfoldable pub has_at_least_some_entries_before : ℕ → ℕ → Table → Result Bool
 has_at_least_some_entries_before gate count t =
-    cond (eqb count 0) (refuse badRange) (ok (or_else false (λ e. leb (file_of e).seq gate) (get_elem? t.entries (count - 1))))
+    cond (eqb count 0) (refuse bad_range) (ok (or_else false (λ e. leb (file_of e).seq gate) (get_elem? t.entries (count - 1))))
 
 -- ---- keys
 
@@ -87,7 +87,7 @@ in_direction true rows = reverse rows
 unfoldable pub scan : Option (List ℕ) → Option (List ℕ) → Bool → ℕ → Table → Result (List KeyValue)
 scan start end backwards count t =
     cond (start_above_end start end || eqb count 0)
-    (refuse badRange)
+    (refuse bad_range)
     (ok (take count (in_direction backwards (map row_of (select (λ p. in_bounds start end p.key) t.keys)))))
 
 unfoldable pub keys_of : LogQueue → Table → Map (List ℕ) Held

@@ -1,10 +1,10 @@
 -- Waiting parts of Rewrite replay: `accept_new_group`.
 use Rattle.std.specs.Prelude.{cond, not, List, [], ◌∷◌, ◌++◌, map, reverse, ℕ, leb}
 use Rattle.std.proofs.Math.Option.{Option, none, some}
-use Rattle.rules.specs.Causes.{Result, ok, refuse, and_then, in_order, filesGoBack}
+use Rattle.rules.specs.Causes.{Result, ok, refuse, and_then, in_order, files_go_back}
 use Rattle.maps.specs.Lists.{select, or_else}
 use Rattle.maps.specs.Maps.{Pair, Map, lookup, insert, store, numbers}
-use Rattle.rules.specs.Items.{Placed, placed_at, is_mark, Status, begin, middle, end, status_of, replayRewrite}
+use Rattle.rules.specs.Items.{Placed, placed_at, is_mark, Status, begin, middle, end, status_of, replay_rewrite}
 use Rattle.rules.specs.Checks.{Mark}
 use Rattle.rules.specs.Table.{Span, made, spanned}
 use Rattle.rules.specs.Context.{Part, Context, with_groups, with_waiting, Judge, limited, unjudged, run}
@@ -57,11 +57,11 @@ set_span judge p g s c =
 -- both parts' items are replayed; the span is set if there is one
 unfoldable pub finish_group : Judge → Option ℕ → ℕ → Span → List Placed → Context → Result Context
 finish_group judge p g s [] c = ok c
-finish_group judge p g s (x ∷ xs) c = and_then (run judge replayRewrite (x ∷ xs) c) (set_span judge p g s)
+finish_group judge p g s (x ∷ xs) c = and_then (run judge replay_rewrite (x ∷ xs) c) (set_span judge p g s)
 
 unfoldable pub become : Judge → Option ℕ → ℕ → Part → List Placed → Context → Accepted → Result Context
 become judge p g new items c (wait ps) = judge p (set_waiting g ps c)
-become judge p g new items c back = refuse filesGoBack
+become judge p g new items c back = refuse files_go_back
 become judge p g new items c (finish old ps) =
     finish_group judge p g (record { start = old.start; end = new.end }) (placed_at p old.items ++ items) (set_waiting g ps c)
 

@@ -3,7 +3,7 @@
 use Rattle.std.specs.Prelude.{◌≡◌, List, ◌++◌, ℕ}
 use Rattle.std.proofs.Common.{ap, ◌∙◌}
 use Rattle.maps.specs.Maps.{Map}
-use Rattle.rules.specs.Causes.{Cause, Refusal, ok, refused, refuse, filesGoBack}
+use Rattle.rules.specs.Causes.{Cause, Refusal, ok, refused, refuse, files_go_back}
 use Rattle.rules.specs.Items.{LogQueue, Append, Rewrite, same_queue}
 use Rattle.rules.specs.Context.{context, is_context, Part, Context, with_tombstones}
 use Rattle.rules.specs.Calls.{clash, merge_contexts, both, merge, join_contexts, join}
@@ -40,7 +40,7 @@ pub join_by-group : (n : Cause) (newer c : Context) (gs : List ℕ) → Kept new
 join_by-group n newer c gs kn kc a r v = join_is newer c a r ∙ join_contexts_by-group newer c kn kc a n gs v
 
 -- files of waiting parts that go back are 8, whatever the groups are
-pub merged_back : (q : LogQueue) (newer c : Context) (gs : List ℕ) (x : Refusal) → waiting_after newer.waiting c.waiting ≡ refused x → merged_by q newer c gs ≡ refuse filesGoBack
+pub merged_back : (q : LogQueue) (newer c : Context) (gs : List ℕ) (x : Refusal) → waiting_after newer.waiting c.waiting ≡ refused x → merged_by q newer c gs ≡ refuse files_go_back
 unfolding merged_by
 merged_back q newer c gs x e =
     and_then-refused (waiting_after newer.waiting c.waiting) (λ w. answer (clash q) (merged_rest newer w c) (stage_all (merged_at q newer c) gs none_staged)) x e

@@ -13,7 +13,7 @@ use Rattle.maps.specs.BoolLaws.{both, both_left, both_right}
 use Rattle.maps.specs.ListLaws.{every_append, every-head, every-tail, every-cons, every-from, every-selected}
 use Rattle.maps.specs.OrderLaws.{split}
 use Rattle.rules.specs.Causes.{ok, left}
-use Rattle.rules.specs.Items.{LogQueue, Append, Rewrite, FileId, EntryIndex, is_rewrite, Command, clean, compact, Change, put, del, Content, entries, command, kv, LogItem, is_reserved, Call, replayAppend, replayRewrite, liveAppend, live_rewrite, is_live_rewrite}
+use Rattle.rules.specs.Items.{LogQueue, Append, Rewrite, FileId, EntryIndex, is_rewrite, Command, clean, compact, Change, put, del, Content, entries, command, kv, LogItem, is_reserved, Call, replay_append, replay_rewrite, live_append, live_rewrite, is_live_rewrite}
 use Rattle.rules.specs.Table.{Held, Span, Table, empty_table, made, with_entries, with_keys, with_span, span_goes_back, spanned, first_index_of, is_below_first, is_above_last, entries_below, entries_from, over, over_gap, appended, replayed_rewrite, compacted, replaces, replaced, stops_at, meets_rewrite, rewrite_overlap, rewritten, put_key, delete_key, rewrite_file, rewritten_key, put_held, entries_to, put_to, change_to, command_to, change}
 use Rattle.rules.specs.Context.{context, Part}
 use Rattle.rules.specs.Waiting.{Accepted, wait, finish, back, accept}
@@ -45,9 +45,9 @@ key-leaves k gate s t u e =
 
 put_to-leaves : (call : Call) (k : List ℕ) (v : Option (List ℕ)) (f : Option FileId) (t u : Table) → put_to call k v f t ≡ ok u → t.entries ≡ u.entries
 unfolding put_to
-put_to-leaves replayAppend k v f t u e = sym (put-leaves k v f t) ∙ ap (λ (w : Table). w.entries) (ok_inj e)
-put_to-leaves replayRewrite k v f t u e = sym (put-leaves k v f t) ∙ ap (λ (w : Table). w.entries) (ok_inj e)
-put_to-leaves liveAppend k v f t u e = sym (put-leaves k v f t) ∙ ap (λ (w : Table). w.entries) (ok_inj e)
+put_to-leaves replay_append k v f t u e = sym (put-leaves k v f t) ∙ ap (λ (w : Table). w.entries) (ok_inj e)
+put_to-leaves replay_rewrite k v f t u e = sym (put-leaves k v f t) ∙ ap (λ (w : Table). w.entries) (ok_inj e)
+put_to-leaves live_append k v f t u e = sym (put-leaves k v f t) ∙ ap (λ (w : Table). w.entries) (ok_inj e)
 put_to-leaves (live_rewrite gate s) k v f t u e = key-leaves k gate s t u e
 
 change_to-leaves : (call : Call) (k : List ℕ) (c : Change) (t u : Table) → change_to call k c t ≡ ok u → t.entries ≡ u.entries
@@ -128,9 +128,9 @@ module _ (p : EntryIndex → Bool) where
 
   entries-meet : (call : Call) (es : List EntryIndex) (t u : Table) → every p es ≡ true → every p t.entries ≡ true → entries_to call es t ≡ ok u → every p u.entries ≡ true
   unfolding entries_to
-  entries-meet replayAppend es t u k h e = appended-meets false es t u k h e
-  entries-meet replayRewrite es t u k h e = ap (λ (v : Table). every p v.entries) (sym (ok_inj e)) ∙ rewrite-replayed es t k h
-  entries-meet liveAppend es t u k h e = appended-meets true es t u k h e
+  entries-meet replay_append es t u k h e = appended-meets false es t u k h e
+  entries-meet replay_rewrite es t u k h e = ap (λ (v : Table). every p v.entries) (sym (ok_inj e)) ∙ rewrite-replayed es t k h
+  entries-meet live_append es t u k h e = appended-meets true es t u k h e
   entries-meet (live_rewrite gate s) es t u k h e = rewritten-meets gate es t u k h e
 
   -- ---- one item
@@ -172,8 +172,8 @@ module _ (p : EntryIndex → Bool) where
   unfolding replayed_items
   items-meet [] o k h = h
   items-meet (x ∷ xs) o k h =
-      items-meet xs (left o (changed replayRewrite x.content o)) (every-tail (λ (it : LogItem). each_entry p it.content) x xs k)
-      (changed-meets replayRewrite x.content o (left o (changed replayRewrite x.content o)) (every-head (λ (it : LogItem). each_entry p it.content) x xs k) h (replay-changed x.content o))
+      items-meet xs (left o (changed replay_rewrite x.content o)) (every-tail (λ (it : LogItem). each_entry p it.content) x xs k)
+      (changed-meets replay_rewrite x.content o (left o (changed replay_rewrite x.content o)) (every-head (λ (it : LogItem). each_entry p it.content) x xs k) h (replay-changed x.content o))
 
   pub spanned-meets : (s : Span) (t u : Table) → every p t.entries ≡ true → spanned s t ≡ ok u → every p u.entries ≡ true
   unfolding spanned

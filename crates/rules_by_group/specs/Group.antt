@@ -2,10 +2,10 @@
 -- part that finishes is replayed on it and its span set; the newer tombstones of the group follow in order; the newer table is laid over.
 use Rattle.std.specs.Prelude.{cond, List, [], ◌∷◌, ◌++◌, ℕ, eqb}
 use Rattle.std.proofs.Math.Option.{Option, none, some}
-use Rattle.rules.specs.Causes.{Result, ok, refuse, and_then, left, filesGoBack}
+use Rattle.rules.specs.Causes.{Result, ok, refuse, and_then, left, files_go_back}
 use Rattle.maps.specs.Lists.{last, or_else}
 use Rattle.maps.specs.MapLaws.{laid}
-use Rattle.rules.specs.Items.{LogQueue, clean, compact, put, del, Content, entries, command, kv, LogItem, is_reserved, is_clean, is_tombstone, Call, replayRewrite}
+use Rattle.rules.specs.Items.{LogQueue, clean, compact, put, del, Content, entries, command, kv, LogItem, is_reserved, is_clean, is_tombstone, Call, replay_rewrite}
 use Rattle.rules.specs.Table.{Span, Table, made, compacted, delete_key, spanned, change}
 use Rattle.rules.specs.Context.{Part}
 use Rattle.rules.specs.Waiting.{Accepted, wait, finish, back, accept, some_parts}
@@ -56,7 +56,7 @@ parts_of o = or_else [] (λ ps. ps) o
 unfoldable pub waits : Accepted → Result (Option (List Part))
 waits (wait ps) = ok (some_parts ps)
 waits (finish old ps) = ok (some_parts ps)
-waits back = refuse filesGoBack
+waits back = refuse files_go_back
 
 unfoldable pub accept_part : Part → Option (List Part) → Result (Option (List Part))
 accept_part new o = waits (accept (parts_of o) new)
@@ -78,7 +78,7 @@ finished_of newer older = or_else none (λ p. finished_by p (accept (parts_of ol
 -- Rewrite replay refuses no item
 unfoldable pub replayed_items : List LogItem → Option Table → Option Table
 replayed_items [] o = o
-replayed_items (x ∷ xs) o = replayed_items xs (left o (changed replayRewrite x.content o))
+replayed_items (x ∷ xs) o = replayed_items xs (left o (changed replay_rewrite x.content o))
 
 -- the span is set if there is an item; it makes the group
 unfoldable pub finish_with : Span → List LogItem → Option Table → Result (Option Table)

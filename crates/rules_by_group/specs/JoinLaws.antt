@@ -9,7 +9,7 @@ use Rattle.maps.specs.Lists.{any, or_else}
 use Rattle.maps.specs.Maps.{Pair, Map, lookup, merge_with, numbers}
 use Rattle.maps.specs.MapLaws.{laid}
 use Rattle.rules.specs.Causes.{Cause, Refusal, Result, ok, refused, and_then}
-use Rattle.rules.specs.Items.{Append, same_queue, liveAppend, writes, is_live_rewrite}
+use Rattle.rules.specs.Items.{Append, same_queue, live_append, writes, is_live_rewrite}
 use Rattle.rules.specs.Table.{Table}
 use Rattle.rules.specs.Context.{context, index, Context, with_groups, limited}
 use Rattle.rules.specs.Calls.{join_table, index_of, join_contexts}
@@ -41,7 +41,7 @@ joins-laid g none o = refl
 joins-laid g (some t) o = refl
 
 module _ (newer c : Context) (kn : Kept newer) (kc : Kept c) (is : newer.kind ≡ context Append) where
-  cleaned-is : cleans_by liveAppend newer.tombstones ≡ newer.cleaned
+  cleaned-is : cleans_by live_append newer.tombstones ≡ newer.cleaned
   unfolding cleans_by writes same_queue
   cleaned-is = sym (append-cleaned newer kn is)
 
@@ -57,7 +57,7 @@ module _ (newer c : Context) (kn : Kept newer) (kc : Kept c) (is : newer.kind �
   abbrev from_groups : Map ℕ Table → Result Context
   from_groups n = limited none (with_groups n (joined_rest newer c))
 
-  index_is : (m n : Map ℕ Table) → index_of n (replayed_to (cleans_by liveAppend newer.tombstones) c m) ≡ with_groups n (joined_rest newer c)
+  index_is : (m n : Map ℕ Table) → index_of n (replayed_to (cleans_by live_append newer.tombstones) c m) ≡ with_groups n (joined_rest newer c)
   unfolding index_of with_groups joined_rest
   index_is m n = λ i. record { kind = index; groups = n; tombstones = []; cleaned = c.cleaned ++ cleaned-is i; waiting = [] }
 
@@ -65,7 +65,7 @@ module _ (newer c : Context) (kn : Kept newer) (kc : Kept c) (is : newer.kind �
   all_laid m = lay_all (λ o t. false) (record { number = 0; place = none }) join_table newer.groups m kn.groups-ascend ∙ rw (never newer.groups)
 
   -- the tables are laid over what the tombstones left
-  laid_then : (m : Map ℕ Table) → limited none (index_of (merge_with numbers join_table m newer.groups) (replayed_to (cleans_by liveAppend newer.tombstones) c m)) ≡ and_then (do_all (deeds_of joins newer.groups) m) from_groups
+  laid_then : (m : Map ℕ Table) → limited none (index_of (merge_with numbers join_table m newer.groups) (replayed_to (cleans_by live_append newer.tombstones) c m)) ≡ and_then (do_all (deeds_of joins newer.groups) m) from_groups
   laid_then m =
       ap (limited none) (index_is m (merge_with numbers join_table m newer.groups))
       ∙ sym (and_then_of (do_all (deeds_of joins newer.groups) m) from_groups (merge_with numbers join_table m newer.groups) (all_laid m))
@@ -75,8 +75,8 @@ module _ (newer c : Context) (kn : Kept newer) (kc : Kept c) (is : newer.kind �
   joined_deeds =
       let tombs = do_all (map tomb_deed newer.tombstones) c.groups in
       let index-of : Context → Result Context = λ d. limited none (index_of (merge_with numbers join_table d.groups newer.groups) d) in
-      let after-tombs = replayed_to (cleans_by liveAppend newer.tombstones) c in
-      ap (λ r. and_then r index-of) (tombs-replayed liveAppend (unfold is_live_rewrite in refl) newer.tombstones c kc.groups-ascend kn.tombstones-only)
+      let after-tombs = replayed_to (cleans_by live_append newer.tombstones) c in
+      ap (λ r. and_then r index-of) (tombs-replayed live_append (unfold is_live_rewrite in refl) newer.tombstones c kc.groups-ascend kn.tombstones-only)
       ∙ and_then-map tombs after-tombs index-of
       ∙ and_then_same tombs (λ m. index-of (after-tombs m)) (λ m. and_then (do_all (deeds_of joins newer.groups) m) from_groups) laid_then
       ∙ sym (and_then-assoc tombs (do_all (deeds_of joins newer.groups)) from_groups)

@@ -3,7 +3,7 @@ use Rattle.std.specs.Prelude.{Bool, true, false, not, ◌&&◌, List, [], ◌∷
 use Rattle.maps.specs.Lists.{every}
 use Rattle.maps.specs.Maps.{Pair, numbers}
 use Rattle.maps.specs.MapLaws.{Ascending}
-use Rattle.rules.specs.Items.{Append, Rewrite, EntryIndex, same_queue, file_of, Content, entries, command, kv, LogItem, Status, begin, middle, end, is_tombstone, replayRewrite}
+use Rattle.rules.specs.Items.{Append, Rewrite, EntryIndex, same_queue, file_of, Content, entries, command, kv, LogItem, Status, begin, middle, end, is_tombstone, replay_rewrite}
 use Rattle.rules.specs.Checks.{long, is_out_of_range, is_other_queue, meets3, unless_reserved}
 use Rattle.rules.specs.Table.{Table}
 use Rattle.rules.specs.Context.{Kind, context, index, Part, Context}
@@ -45,9 +45,9 @@ each_entry p (kv k c) = true
 unfoldable pub is_passed : LogItem → Bool
 is_passed it =
     not (long it.content)
-    && not (meets3 replayRewrite it.content)
+    && not (meets3 replay_rewrite it.content)
     && not (unless_reserved is_out_of_range 0 it)
-    && not (unless_reserved (is_other_queue replayRewrite) 0 it)
+    && not (unless_reserved (is_other_queue replay_rewrite) 0 it)
 
 -- the items of a group's parts are the group's own, with entries of the Rewrite queue, and have passed the checks
 unfoldable pub is_own : ℕ → LogItem → Bool

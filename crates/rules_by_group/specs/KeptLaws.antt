@@ -14,7 +14,7 @@ use Rattle.maps.specs.ListLaws.{every_all, every-select}
 use Rattle.maps.specs.OrderLaws.{split, numbers_lawful}
 use Rattle.maps.specs.MapLaws.{Ascending, ascending-nil, every_intro}
 use Rattle.rules.specs.Causes.{Result, ok, refused, in_order, left}
-use Rattle.rules.specs.Items.{LogQueue, Append, Rewrite, same_queue, Batch, LogItem, placed_from, is_tombstone, Call, replayAppend, replayRewrite, liveAppend, live_rewrite, writes}
+use Rattle.rules.specs.Items.{LogQueue, Append, Rewrite, same_queue, Batch, LogItem, placed_from, is_tombstone, Call, replay_append, replay_rewrite, live_append, live_rewrite, writes}
 use Rattle.rules.specs.Checks.{Mark, first_mark, checks}
 use Rattle.rules.specs.Table.{Table, made}
 use Rattle.rules.specs.Context.{Kind, context, index, is_context, is_index, Part, Context, fresh, with_groups, with_cleaned}
@@ -73,17 +73,17 @@ run-batch-keeps k call b c d keep o h e =
 replay-append-keeps : (b : Batch) (c d : Context) → KeptAt (context Append) c → replay_batch Append b c ≡ ok d → KeptAt (context Append) d
 unfolding replay_batch
 replay-append-keeps b c d h e =
-    let s = checked_ok replayAppend b (run_batch replayAppend b c) d e in
-    run-batch-keeps (context Append) replayAppend b c d append-keeps (unfold writes in batch-queue replayAppend b.items s.0) h s.1
+    let s = checked_ok replay_append b (run_batch replay_append b c) d e in
+    run-batch-keeps (context Append) replay_append b c d append-keeps (unfold writes in batch-queue replay_append b.items s.0) h s.1
 
 replay-rewrite-keeps : (b : Batch) (c d : Context) → KeptAt (context Rewrite) c → replay_batch Rewrite b c ≡ ok d → KeptAt (context Rewrite) d
 unfolding replay_batch
 replay-rewrite-keeps b c d h e =
-    let marked : Option Mark → Result Context = or_else (run_batch replayRewrite b c) (λ m. replay_marked m b.file.seq (placed_from 0 b.items) c) in
-    let s = checked_ok replayRewrite b (marked (first_mark 0 b.items)) d e in
+    let marked : Option Mark → Result Context = or_else (run_batch replay_rewrite b c) (λ m. replay_marked m b.file.seq (placed_from 0 b.items) c) in
+    let s = checked_ok replay_rewrite b (marked (first_mark 0 b.items)) d e in
     by_option (first_mark 0 b.items)
-    (λ f. run-batch-keeps (context Rewrite) replayRewrite b c d rewrite-keeps (unfold writes in batch-queue replayRewrite b.items s.0) h (none-marked (run_batch replayRewrite b c) _ (first_mark 0 b.items) d f s.1))
-    (λ m f. marked-keeps b.items m b.file.seq c d s.0 f h (some-marked (run_batch replayRewrite b c) _ (first_mark 0 b.items) m d f s.1))
+    (λ f. run-batch-keeps (context Rewrite) replay_rewrite b c d rewrite-keeps (unfold writes in batch-queue replay_rewrite b.items s.0) h (none-marked (run_batch replay_rewrite b c) _ (first_mark 0 b.items) d f s.1))
+    (λ m f. marked-keeps b.items m b.file.seq c d s.0 f h (some-marked (run_batch replay_rewrite b c) _ (first_mark 0 b.items) m d f s.1))
   where
     none-marked : (r : Result Context) (f : Mark → Result Context) (o : Option Mark) (d : Context) → o ≡ none → or_else r f o ≡ ok d → r ≡ ok d
     none-marked r f o d e h = unfold or_else in (rw e at h)
@@ -257,7 +257,7 @@ write_kept q call b c d keep k e =
 
 pub append-kept : (b : Batch) (c d : Context) → Kept c → append b c ≡ ok d → Kept d
 unfolding append
-append-kept b c d k e = write_kept Append liveAppend b c d live-append-keeps k e
+append-kept b c d k e = write_kept Append live_append b c d live-append-keeps k e
 
 pub rewrite-kept : (gate : Option ℕ) (b : Batch) (c d : Context) → Kept c → rewrite gate b c ≡ ok d → Kept d
 unfolding rewrite

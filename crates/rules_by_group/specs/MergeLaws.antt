@@ -9,7 +9,7 @@ use Rattle.maps.specs.Lists.{any, last, or_else}
 use Rattle.maps.specs.Maps.{Map, lookup, numbers}
 use Rattle.maps.specs.OrderLaws.{split}
 use Rattle.maps.specs.MapLaws.{Ascending}
-use Rattle.rules.specs.Causes.{number_of, Refusal, Result, ok, refused, refuse, and_then, filesGoBack}
+use Rattle.rules.specs.Causes.{number_of, Refusal, Result, ok, refused, refuse, and_then, files_go_back}
 use Rattle.rules.specs.Items.{LogQueue, Append, Rewrite, LogItem, is_live_rewrite}
 use Rattle.rules.specs.Table.{Span, Table, made, span_goes_back, spanned}
 use Rattle.rules.specs.Context.{context, Part, Context, with_groups, with_tombstones, limited, replay_tombstones}
@@ -89,14 +89,14 @@ module _ (q : LogQueue) (newer c : Context) (kn : Kept newer) where
 
 -- ---- refusals
 
-spanned-refused : (s : Span) (t : Table) (x : Refusal) → spanned s t ≡ refused x → x ≡ refusal_of filesGoBack
+spanned-refused : (s : Span) (t : Table) (x : Refusal) → spanned s t ≡ refused x → x ≡ refusal_of files_go_back
 unfolding spanned
 spanned-refused s t x e =
     split (span_goes_back t.span s)
-    (λ b. one-refusal (refuse filesGoBack) x (refusal_of filesGoBack) (rw b at e) refl)
+    (λ b. one-refusal (refuse files_go_back) x (refusal_of files_go_back) (rw b at e) refl)
     (λ b. absurd (refused_not_ok (sym (rw b at e))))
 
-with-refused : (s : Span) (xs : List LogItem) (o : Option Table) (x : Refusal) → finish_with s xs o ≡ refused x → x ≡ refusal_of filesGoBack
+with-refused : (s : Span) (xs : List LogItem) (o : Option Table) (x : Refusal) → finish_with s xs o ≡ refused x → x ≡ refusal_of files_go_back
 unfolding finish_with
 with-refused s [] o x e = absurd (refused_not_ok (sym e))
 with-refused s (y ∷ ys) o x e =
@@ -105,7 +105,7 @@ with-refused s (y ∷ ys) o x e =
     (λ z h. spanned-refused s (made (replayed_items (y ∷ ys) o)) x (h ∙ ap (λ w. refused w) (one-refusal (finish_with s (y ∷ ys) o) z x (unfold finish_with in and_then-refused (spanned s (made (replayed_items (y ∷ ys) o))) (λ u. ok (some u)) z h) (unfold finish_with in e))))
 
 -- a span whose files go back is 8
-pub finish-refused : (f : Option Finished) (o : Option Table) (x : Refusal) → finish_table f o ≡ refused x → x ≡ refusal_of filesGoBack
+pub finish-refused : (f : Option Finished) (o : Option Table) (x : Refusal) → finish_table f o ≡ refused x → x ≡ refusal_of files_go_back
 unfolding finish_table
 finish-refused none o x e = absurd (refused_not_ok (sym e))
 finish-refused (some f) o x e = with-refused f.span f.items o x e
@@ -119,7 +119,7 @@ over-refused q (some t) o x e =
     (λ b. absurd (refused_not_ok (sym (rw b at e))))
 
 -- a group of a Rewrite merge meets 8 alone
-rewrite-refused : (g : ℕ) (f : Option Finished) (tombs : List LogItem) (n o : Option Table) (x : Refusal) → merged_group Rewrite g f tombs n o ≡ refused x → x ≡ refusal_of filesGoBack
+rewrite-refused : (g : ℕ) (f : Option Finished) (tombs : List LogItem) (n o : Option Table) (x : Refusal) → merged_group Rewrite g f tombs n o ≡ refused x → x ≡ refusal_of files_go_back
 unfolding merged_group clash
 rewrite-refused g f tombs n o x e =
     let over : Option Table → Result (Option Table) = λ u. lay_over Rewrite n (tombed g tombs u) in

@@ -10,7 +10,7 @@ use Rattle.maps.specs.Lists.{every, or_else}
 use Rattle.maps.specs.BoolLaws.{both, both_left, both_right}
 use Rattle.maps.specs.ListLaws.{every_append, every-head, every-tail, every-cons}
 use Rattle.maps.specs.OrderLaws.{split}
-use Rattle.rules.specs.Causes.{Refusal, ok, refused, refuse, filesGoBack}
+use Rattle.rules.specs.Causes.{Refusal, ok, refused, refuse, files_go_back}
 use Rattle.rules.specs.Items.{LogItem, Status, begin, middle, end}
 use Rattle.rules.specs.Context.{Part}
 use Rattle.rules.specs.Waiting.{Accepted, wait, finish, back, joined, accept_by, accept, some_parts}
@@ -201,14 +201,14 @@ unfolding accept_part
 accept-kept g new o p h k e =
     waits_kept g (accept (parts_of o) new) p (accept-own g (parts_of o) new k.own h) (accept-shaped (parts_of o) new k.shape) e
 
-waits-refused : (a : Accepted) (x : Refusal) → waits a ≡ refused x → x ≡ refusal_of filesGoBack
+waits-refused : (a : Accepted) (x : Refusal) → waits a ≡ refused x → x ≡ refusal_of files_go_back
 unfolding waits
 waits-refused (wait ps) x e = absurd (refused_not_ok (sym e))
 waits-refused (finish old ps) x e = absurd (refused_not_ok (sym e))
-waits-refused back x e = one-refusal (refuse filesGoBack) x (refusal_of filesGoBack) e refl
+waits-refused back x e = one-refusal (refuse files_go_back) x (refusal_of files_go_back) e refl
 
 -- files that go back are 8
-pub accept-refused : (new : Part) (o : Option (List Part)) (x : Refusal) → accept_part new o ≡ refused x → x ≡ refusal_of filesGoBack
+pub accept-refused : (new : Part) (o : Option (List Part)) (x : Refusal) → accept_part new o ≡ refused x → x ≡ refusal_of files_go_back
 unfolding accept_part
 accept-refused new o x e = waits-refused (accept (parts_of o) new) x e
 

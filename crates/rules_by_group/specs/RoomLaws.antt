@@ -16,7 +16,7 @@ use Rattle.maps.specs.OrderLaws.{split, numbers_lawful, bytes_lawful}
 use Rattle.maps.specs.MapLaws.{length-insert-most, length-remove-le, sum-remove-some}
 use Rattle.rules.specs.Limits.{max_entries, max_keys, max_waiting_groups, max_waiting_items, max_waiting_entries}
 use Rattle.rules.specs.Causes.{left, and_then}
-use Rattle.rules.specs.Items.{LogQueue, Append, Rewrite, EntryIndex, FileId, Status, begin, middle, end, clean, compact, put, del, Content, entries, command, kv, LogItem, is_reserved, replayRewrite, is_live_rewrite}
+use Rattle.rules.specs.Items.{LogQueue, Append, Rewrite, EntryIndex, FileId, Status, begin, middle, end, clean, compact, put, del, Content, entries, command, kv, LogItem, is_reserved, replay_rewrite, is_live_rewrite}
 use Rattle.rules.specs.Table.{Held, Table, empty_table, over_keys, made, with_entries, with_keys, with_span, is_above_last, entries_below, entries_from, over, over_gap, compacted, replayed_rewrite, put_key, delete_key, put_held, entries_to, put_to, change_to, command_to, change}
 use Rattle.rules.specs.Context.{Part, table_fits, entries_in, waiting_fits}
 use Rattle.rules.specs.Waiting.{Accepted, wait, finish, back, joined, accept_by, accept}
@@ -111,7 +111,7 @@ tombed-room e k g (x ∷ xs) o w =
 -- ---- items of a finished part: an item adds its entries, and at most one key
 
 module _ (e k : ℕ) (o : Option Table) (w : Within e k o) where
-  change-room : (g : ℕ) (x : Content) → Within (e + entries_in (record { group = g; content = x })) (k + 1) (left o (change replayRewrite x o))
+  change-room : (g : ℕ) (x : Content) → Within (e + entries_in (record { group = g; content = x })) (k + 1) (left o (change replay_rewrite x o))
   unfolding entries_in change command_to change_to entries_to put_to and_then left is_live_rewrite
   change-room g (entries es) = within_more (e + length es) k (e + length es) (k + 1) (some (replayed_rewrite es (made o))) (omega arith) (omega arith) (replay-room e k o w es)
   change-room g (command clean) = made_none (e + 0) (k + 1)
@@ -119,7 +119,7 @@ module _ (e k : ℕ) (o : Option Table) (w : Within e k o) where
   change-room g (kv j (put v f)) = within_more e (k + 1) (e + 0) (k + 1) (some (put_held j v f (made o))) (omega arith) (omega arith) (held-room e k o w j v f)
   change-room g (kv j del) = within_more e k (e + 0) (k + 1) (some (delete_key j (made o))) (omega arith) (omega arith) (delete-room e k o w j)
 
-  pub item_room : (x : LogItem) → Within (e + entries_in x) (k + 1) (left o (changed replayRewrite x.content o))
+  pub item_room : (x : LogItem) → Within (e + entries_in x) (k + 1) (left o (changed replay_rewrite x.content o))
   unfolding changed
   item_room x =
       split (is_reserved x.content)
@@ -130,8 +130,8 @@ pub items-room : (e k : ℕ) (xs : List LogItem) (o : Option Table) → Within e
 unfolding replayed_items sum
 items-room e k [] o w = within_more e k (e + 0) (k + 0) o (omega arith) (omega arith) w
 items-room e k (x ∷ xs) o w =
-    within_more ((e + entries_in x) + sum entries_in xs) ((k + 1) + length xs) (e + (entries_in x + sum entries_in xs)) (k + suc (length xs)) (replayed_items xs (left o (changed replayRewrite x.content o))) (omega arith) (omega arith)
-    (items-room (e + entries_in x) (k + 1) xs (left o (changed replayRewrite x.content o)) (item_room e k o w x))
+    within_more ((e + entries_in x) + sum entries_in xs) ((k + 1) + length xs) (e + (entries_in x + sum entries_in xs)) (k + suc (length xs)) (replayed_items xs (left o (changed replay_rewrite x.content o))) (omega arith) (omega arith)
+    (items-room (e + entries_in x) (k + 1) xs (left o (changed replay_rewrite x.content o)) (item_room e k o w x))
 
 -- ---- what finishes has waited
 

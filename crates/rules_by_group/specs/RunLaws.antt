@@ -15,7 +15,7 @@ use Rattle.maps.specs.OrderLaws.{split, numbers_lawful}
 use Rattle.maps.specs.MapLaws.{Ascending, ascending-store, ascending-insert, every-insert, every-store}
 use Rattle.rules.specs.Limits.{max_items}
 use Rattle.rules.specs.Causes.{Cause, Refusal, ok}
-use Rattle.rules.specs.Items.{LogQueue, Append, Rewrite, EntryIndex, same_queue, has_file, file_of, Content, entries, command, kv, LogItem, Placed, placed_at, placed_from, is_reserved, is_clean, is_tombstone, is_mark, Call, replayAppend, replayRewrite, liveAppend, live_rewrite, writes}
+use Rattle.rules.specs.Items.{LogQueue, Append, Rewrite, EntryIndex, same_queue, has_file, file_of, Content, entries, command, kv, LogItem, Placed, placed_at, placed_from, is_reserved, is_clean, is_tombstone, is_mark, Call, replay_append, replay_rewrite, live_append, live_rewrite, writes}
 use Rattle.rules.specs.Checks.{long, consecutive, is_incomplete, is_out_of_range, is_other_queue, Mark, first_mark, breaks_mark, is_rewrite_replay, meets3, meets7, or_next, unless_reserved, checks}
 use Rattle.rules.specs.Table.{Span, Table, made, spanned}
 use Rattle.rules.specs.Context.{Kind, context, index, Part, Context, with_groups, with_waiting, limited, keeps, step, run}
@@ -77,16 +77,16 @@ tombs-kept call it = split (keeps call) (λ e. rw e (every_tomb it)) (λ e. rw e
 unfoldable pub KindKept : Kind → Call → Type 0
 KindKept k call = (it : LogItem) (t : Option Table) (c : Context) → KeptBy k c → KeptBy k (after call it t c)
 
-pub append-keeps : KindKept (context Append) replayAppend
+pub append-keeps : KindKept (context Append) replay_append
 unfolding KindKept KeptBy after kept_by cleaned_by keeps writes same_queue
 append-keeps it t c h =
     (h.0, ap (λ l. l ++ clean_of it) h.1 ∙ ap (λ l. cleans_of c.tombstones ++ l) (sym (clean_tomb it)) ∙ sym (cleans-append c.tombstones (tomb_of it)))
 
-pub rewrite-keeps : KindKept (context Rewrite) replayRewrite
+pub rewrite-keeps : KindKept (context Rewrite) replay_rewrite
 unfolding KindKept KeptBy after cleaned_by writes same_queue
 rewrite-keeps it t c h = append-nil c.cleaned ∙ h
 
-pub live-append-keeps : KindKept index liveAppend
+pub live-append-keeps : KindKept index live_append
 unfolding KindKept KeptBy after kept_by keeps
 live-append-keeps it t c h = (h.0, append-nil c.tombstones ∙ h.1)
 
@@ -189,8 +189,8 @@ finish-keeps : (p : Option ℕ) (g : ℕ) (s : Span) (xs : List Placed) (c d : C
 unfolding finish_group
 finish-keeps p g s [] c d o h e = rw (← (ok_inj e)) h
 finish-keeps p g s (x ∷ xs) c d o h e =
-    let r = and_then_ok (run limited replayRewrite (x ∷ xs) c) (set_span limited p g s) d e in
-    span-keeps g r.0 (run-keeps (context Rewrite) replayRewrite rewrite-keeps (x ∷ xs) c r.0 o h r.1) p s d r.2
+    let r = and_then_ok (run limited replay_rewrite (x ∷ xs) c) (set_span limited p g s) d e in
+    span-keeps g r.0 (run-keeps (context Rewrite) replay_rewrite rewrite-keeps (x ∷ xs) c r.0 o h r.1) p s d r.2
 
 -- the items of both parts
 both-placed : (p : Option ℕ) (g : ℕ) (items : List LogItem) (xs : List Placed) → own_items g items ≡ true → every placed_rewrite xs ≡ true → every placed_rewrite (placed_at p items ++ xs) ≡ true
@@ -223,7 +223,7 @@ found_none p q f i (x ∷ xs) e =
     (λ s. absurd (some-ne-none i (rw s at e)))
     (λ s. both (f i x s) (found_none p q f (suc i) xs (rw s at e)))
 
-mark-own : (m : Mark) (i : ℕ) (it : LogItem) → meets7 replayRewrite (some m) i it ≡ false → eqb it.group m.group ≡ true
+mark-own : (m : Mark) (i : ℕ) (it : LogItem) → meets7 replay_rewrite (some m) i it ≡ false → eqb it.group m.group ≡ true
 unfolding meets7 is_rewrite_replay or_else breaks_mark
 mark-own m i it e =
     not-false (eqb it.group m.group)
@@ -280,24 +280,24 @@ batch-queue call items e =
     (every_and (λ (it : LogItem). not (meets3 call it.content)) (λ (it : LogItem). not (unless_reserved (is_other_queue call) 0 it)) items three five)
 
 -- each item of a batch that passed the checks meets none of 2 to 5
-batch-passed : (items : List LogItem) → checks replayRewrite items ≡ none → every is_passed items ≡ true
+batch-passed : (items : List LogItem) → checks replay_rewrite items ≡ none → every is_passed items ≡ true
 unfolding is_passed
 batch-passed items e =
-    let p = passed replayRewrite items e in
+    let p = passed replay_rewrite items e in
     let two = found_none (λ i it. eqb i max_items || long it.content) (λ (it : LogItem). not (long it.content)) (λ i it h. rw (neither_right (eqb i max_items) (long it.content) h)) 0 items p.no-2 in
-    let three = found_none (λ i it. meets3 replayRewrite it.content) (λ (it : LogItem). not (meets3 replayRewrite it.content)) (λ i it h. rw h) 0 items p.no-3 in
+    let three = found_none (λ i it. meets3 replay_rewrite it.content) (λ (it : LogItem). not (meets3 replay_rewrite it.content)) (λ i it h. rw h) 0 items p.no-3 in
     let four = found_none (unless_reserved is_out_of_range) (λ (it : LogItem). not (unless_reserved is_out_of_range 0 it)) (λ i it h. unfold unless_reserved in rw h) 0 items p.no-4 in
-    let five = found_none (unless_reserved (is_other_queue replayRewrite)) (λ (it : LogItem). not (unless_reserved (is_other_queue replayRewrite) 0 it)) (λ i it h. unfold unless_reserved in rw h) 0 items p.no-5 in
+    let five = found_none (unless_reserved (is_other_queue replay_rewrite)) (λ (it : LogItem). not (unless_reserved (is_other_queue replay_rewrite) 0 it)) (λ i it h. unfold unless_reserved in rw h) 0 items p.no-5 in
     every_and _ _ items (every_and _ _ items (every_and _ _ items two three) four) five
 
 -- in a marked batch they are of the mark's group
-batch-own : (items : List LogItem) (m : Mark) → checks replayRewrite items ≡ none → first_mark 0 items ≡ some m → own_items m.group items ≡ true
+batch-own : (items : List LogItem) (m : Mark) → checks replay_rewrite items ≡ none → first_mark 0 items ≡ some m → own_items m.group items ≡ true
 unfolding own_items is_own
 batch-own items m e f =
     every_and (λ (it : LogItem). eqb it.group m.group && each_entry (entry_by (context Rewrite)) it.content) is_passed items
     (every_and (λ (it : LogItem). eqb it.group m.group) (λ (it : LogItem). each_entry (entry_by (context Rewrite)) it.content) items
-    (found_none (meets7 replayRewrite (some m)) (λ (it : LogItem). eqb it.group m.group) (mark-own m) 0 items (ap (λ o. find_from (meets7 replayRewrite o) 0 items) (sym f) ∙ (passed replayRewrite items e).no-7))
-    (unfold writes in batch-queue replayRewrite items e))
+    (found_none (meets7 replay_rewrite (some m)) (λ (it : LogItem). eqb it.group m.group) (mark-own m) 0 items (ap (λ o. find_from (meets7 replay_rewrite o) 0 items) (sym f) ∙ (passed replay_rewrite items e).no-7))
+    (unfold writes in batch-queue replay_rewrite items e))
     (batch-passed items e)
 
 pub every-placed : (p : LogItem → Bool) (i : ℕ) (xs : List LogItem) → every p xs ≡ true → every (λ (x : Placed). p x.item) (placed_from i xs) ≡ true
@@ -313,8 +313,8 @@ part-own g byte seq p items h =
     ∙ every-selected (λ (x : Placed). is_own g x.item) p (placed_from 0 items) (every-placed (is_own g) 0 items h)
 
 -- a marked batch that passed the checks
-pub marked-keeps : (items : List LogItem) (m : Mark) (seq : ℕ) (c d : Context) → checks replayRewrite items ≡ none → first_mark 0 items ≡ some m → KeptAt (context Rewrite) c → replay_marked m seq (placed_from 0 items) c ≡ ok d → KeptAt (context Rewrite) d
+pub marked-keeps : (items : List LogItem) (m : Mark) (seq : ℕ) (c d : Context) → checks replay_rewrite items ≡ none → first_mark 0 items ≡ some m → KeptAt (context Rewrite) c → replay_marked m seq (placed_from 0 items) c ≡ ok d → KeptAt (context Rewrite) d
 unfolding replay_marked
 marked-keeps items m seq c d e f h k =
     accept-keeps (some m.at) m.group (part_of m.byte seq (select (λ x. not (is_mark x.item)) (placed_from 0 items))) (select (λ x. not (is_mark x.item)) (placed_from 0 items)) c d (part-own m.group m.byte seq (λ x. not (is_mark x.item)) items (batch-own items m e f))
-    (every-selected placed_rewrite (λ x. not (is_mark x.item)) (placed_from 0 items) (every-placed (λ (it : LogItem). each_entry (entry_by (context Rewrite)) it.content) 0 items (unfold writes in batch-queue replayRewrite items e))) h k
+    (every-selected placed_rewrite (λ x. not (is_mark x.item)) (placed_from 0 items) (every-placed (λ (it : LogItem). each_entry (entry_by (context Rewrite)) it.content) 0 items (unfold writes in batch-queue replay_rewrite items e))) h k

@@ -3,7 +3,7 @@
 use Rattle.std.specs.Prelude.{Bool, true, false, cond, not, ◌&&◌, ◌||◌, List, [], ◌∷◌, ◌++◌, reverse, ◌≡◌, ℕ, leb, ltb, eqb, length}
 use Rattle.std.proofs.Math.Option.{Option, none, some}
 use Rattle.rules.specs.Limits.{max_groups, max_tombstones, max_cleaned}
-use Rattle.rules.specs.Causes.{Cause, Result, ok, refused, refuse, and_then, in_order, limitPassed}
+use Rattle.rules.specs.Causes.{Cause, Result, ok, refused, refuse, and_then, in_order, limit_passed}
 use Rattle.maps.specs.Lists.{select, any, every, or_else}
 use Rattle.maps.specs.Maps.{Pair, Map, lookup, insert, store, numbers}
 use Rattle.rules.specs.Items.{LogQueue, LogItem, is_tombstone}
@@ -51,7 +51,7 @@ unfoldable pub answer : Cause → Context → Staged → Result Context
 answer n rest s =
     cond s.clashed
     (refuse n)
-    (cond (s.passed || not (rest_fits rest)) (refuse limitPassed) (ok (with_groups s.groups rest)))
+    (cond (s.passed || not (rest_fits rest)) (refuse limit_passed) (ok (with_groups s.groups rest)))
 
 -- ---- a merge
 

@@ -14,7 +14,7 @@ use Rattle.maps.specs.ListLaws.{any_append, every-from}
 use Rattle.maps.specs.OrderLaws.{split, numbers_lawful}
 use Rattle.maps.specs.MapLaws.{Ascending, ascending-nil, ascending-insert, lookup-insert_same, lookup-insert-other, ext, length-insert-none, every-insert, every-lookup, length-sub}
 use Rattle.rules.specs.Limits.{max_groups}
-use Rattle.rules.specs.Causes.{Cause, Refusal, Result, ok, refused, refuse, and_then, limitPassed}
+use Rattle.rules.specs.Causes.{Cause, Refusal, Result, ok, refused, refuse, and_then, limit_passed}
 use Rattle.rules.specs.Items.{LogItem}
 use Rattle.rules.specs.Table.{Table}
 use Rattle.rules.specs.Context.{Context, with_groups, table_fits, waiting_fits, fits, limited}
@@ -294,7 +294,7 @@ module _ (at : ℕ → Result (Option Table)) where
       answered n rest =
           split last.passed
           (λ p. rw (fits_split m rest, last-so_far.over p, last-so_far.unclashed, p))
-          (λ p. rw (fits_split m rest, last-so_far.unclashed, p, last-groups p, rw (last-groups p) at last-so_far.own-results.within) (cond-not (rest_fits rest) (ok (with_groups m rest)) (refuse limitPassed)))
+          (λ p. rw (fits_split m rest, last-so_far.unclashed, p, last-groups p, rw (last-groups p) at last-so_far.own-results.within) (cond-not (rest_fits rest) (ok (with_groups m rest)) (refuse limit_passed)))
 
 -- the answer of a map by group is that of its groups, staged over any list that covers, if every refusal of a group is n
 pub staged :
@@ -318,7 +318,7 @@ pub answer-clashed : (n : Cause) (rest : Context) (s : Staged) → s.clashed ≡
 unfolding answer
 answer-clashed n rest s e = rw e
 
-pub answer-passed : (n : Cause) (rest : Context) (s : Staged) → s.clashed ≡ false → (s.passed || not (rest_fits rest)) ≡ true → answer n rest s ≡ refuse limitPassed
+pub answer-passed : (n : Cause) (rest : Context) (s : Staged) → s.clashed ≡ false → (s.passed || not (rest_fits rest)) ≡ true → answer n rest s ≡ refuse limit_passed
 unfolding answer
 answer-passed n rest s e p = rw (e, p)
 

@@ -6,7 +6,7 @@ use Rattle.std.proofs.Math.Path.{ap}
 use Rattle.std.proofs.Math.Option.{Option, none, some}
 use Rattle.maps.specs.Lists.{first, map_option, or_else}
 use Rattle.maps.specs.OrderLaws.{split}
-use Rattle.rules.specs.Causes.{Result, ok, refuse, and_then, aboveLast}
+use Rattle.rules.specs.Causes.{Result, ok, refuse, and_then, above_last}
 use Rattle.rules.specs.Items.{LogQueue, Append, Rewrite, EntryIndex}
 use Rattle.rules.specs.Table.{Span, Table, made, with_entries, with_keys, with_span, first_index_of, over, appended, replayed_rewrite, over_keys, span_goes_back, spanned}
 use Rattle.rules.specs.Calls.{clashes, clash, over_of, merge_table, join_table}
@@ -36,7 +36,7 @@ merged_by_lem Rewrite newer o (some s) e = rw e
 
 -- ---- Append
 
-append-entries : (newer : Table) (o : Option Table) (es : List EntryIndex) → newer.entries ≡ es → cond (clashes Append o newer) (refuse aboveLast) (ok (over_of Append (made o) newer)) ≡ appended false newer.entries (made o)
+append-entries : (newer : Table) (o : Option Table) (es : List EntryIndex) → newer.entries ≡ es → cond (clashes Append o newer) (refuse above_last) (ok (over_of Append (made o) newer)) ≡ appended false newer.entries (made o)
 unfolding clashes over_of first_index_of first map_option or_else appended over with_entries
 append-entries newer o [] e = rw e
 append-entries newer o (h ∷ hs) e = rw e

@@ -14,8 +14,8 @@ use Rattle.maps.specs.ListLaws.{every-head, every-tail}
 use Rattle.maps.specs.BoolLaws.{both_left}
 use Rattle.maps.specs.OrderLaws.{split, numbers_lawful, above-differs}
 use Rattle.maps.specs.MapLaws.{AllBelow, Ascending, ascending-head, ascending-tail, ascending-store, lookup-store, lookup-store_same, lookup-store-other, store-again, store-store, every-lookup}
-use Rattle.rules.specs.Causes.{Refusal, Result, ok, refused, and_then, in_order, left, filesGoBack}
-use Rattle.rules.specs.Items.{Rewrite, same_queue, put, del, Content, entries, command, kv, LogItem, placed_at, is_reserved, is_tombstone, replayRewrite, writes}
+use Rattle.rules.specs.Causes.{Refusal, Result, ok, refused, and_then, in_order, left, files_go_back}
+use Rattle.rules.specs.Items.{Rewrite, same_queue, put, del, Content, entries, command, kv, LogItem, placed_at, is_reserved, is_tombstone, replay_rewrite, writes}
 use Rattle.rules.specs.Table.{Span, Table, made, spanned, entries_to, put_to, change_to, change}
 use Rattle.rules.specs.Context.{context, Part, Context, with_groups, with_waiting, unjudged, keeps, step, run}
 use Rattle.rules.specs.Waiting.{Accepted, wait, finish, back, accept, some_parts, set_waiting, set_span, finish_group, become, accept_new_group, accept_parts, accept_all}
@@ -31,11 +31,11 @@ use Rattle.rules_by_group.specs.MergeLaws.{finishing, finish-refused, accepted_t
 -- ---- items of a finished part
 
 -- Rewrite replay refuses no item
-pub replay-changed : (x : Content) (o : Option Table) → changed replayRewrite x o ≡ ok (left o (changed replayRewrite x o))
+pub replay-changed : (x : Content) (o : Option Table) → changed replay_rewrite x o ≡ ok (left o (changed replay_rewrite x o))
 unfolding changed
 replay-changed x o = split (is_reserved x) (λ e. rw e (unfold left in refl)) (λ e. rw e (each x))
   where
-    each : (y : Content) → change replayRewrite y o ≡ ok (left o (change replayRewrite y o))
+    each : (y : Content) → change replay_rewrite y o ≡ ok (left o (change replay_rewrite y o))
     each (entries es) = unfold change entries_to and_then left in refl
     each (command c) = unfold change left in refl
     each (kv k del) = unfold change change_to and_then left in refl
@@ -64,16 +64,16 @@ module _ (x : LogItem) (xs : List LogItem) (c : Context) (asc : Ascending number
   before = lookup numbers x.group c.groups
 
   abbrev next : Option Table
-  next = left before (changed replayRewrite x.content before)
+  next = left before (changed replay_rewrite x.content before)
 
   abbrev stepped : Context
-  stepped = after replayRewrite x next c
+  stepped = after replay_rewrite x next c
 
-  first_step : run unjudged replayRewrite (placed_at none (x ∷ xs)) c ≡ run unjudged replayRewrite (placed_at none xs) stepped
+  first_step : run unjudged replay_rewrite (placed_at none (x ∷ xs)) c ≡ run unjudged replay_rewrite (placed_at none xs) stepped
   unfolding run in_order placed_at
   first_step =
-      and_then_of (step unjudged replayRewrite (record { item = x; place = none }) c) (in_order (step unjudged replayRewrite) (placed_at none xs)) stepped
-      (step_of unjudged replayRewrite (record { item = x; place = none }) c asc next (replay-changed x.content before) ∙ (unfold unjudged in refl))
+      and_then_of (step unjudged replay_rewrite (record { item = x; place = none }) c) (in_order (step unjudged replay_rewrite) (placed_at none xs)) stepped
+      (step_of unjudged replay_rewrite (record { item = x; place = none }) c asc next (replay-changed x.content before) ∙ (unfold unjudged in refl))
 
   stepped-ascend : Ascending numbers stepped.groups
   unfolding after
@@ -85,11 +85,11 @@ module _ (x : LogItem) (xs : List LogItem) (c : Context) (asc : Ascending number
       ap (λ o. store numbers x.group (replayed_items xs o) (store numbers x.group next c.groups)) (lookup-store_same numbers numbers_lawful x.group next c.groups asc)
       ∙ store-store numbers numbers_lawful x.group (replayed_items xs next) next c.groups asc
 
-  same-tombs : (c.tombstones ++ kept_by replayRewrite x) ++ tombs_of xs ≡ c.tombstones ++ tombs_of (x ∷ xs)
+  same-tombs : (c.tombstones ++ kept_by replay_rewrite x) ++ tombs_of xs ≡ c.tombstones ++ tombs_of (x ∷ xs)
   unfolding kept_by keeps
   same-tombs = append_assoc c.tombstones (tomb_of x) (tombs_of xs) ∙ ap (λ l. c.tombstones ++ l) (tombs-cons x xs)
 
-  same-cleaned : c.cleaned ++ cleaned_by replayRewrite x ≡ c.cleaned
+  same-cleaned : c.cleaned ++ cleaned_by replay_rewrite x ≡ c.cleaned
   unfolding cleaned_by writes same_queue
   same-cleaned = append-nil c.cleaned
 
@@ -111,7 +111,7 @@ own-later : (g : ℕ) (x : LogItem) (xs : List LogItem) → own_items g (x ∷ x
 unfolding own_items
 own-later g x xs h = every-tail (is_own g) x xs h
 
-run-own : (g : ℕ) (xs : List LogItem) (c : Context) → Ascending numbers c.groups → own_items g xs ≡ true → run unjudged replayRewrite (placed_at none xs) c ≡ ok (items_done g xs c)
+run-own : (g : ℕ) (xs : List LogItem) (c : Context) → Ascending numbers c.groups → own_items g xs ≡ true → run unjudged replay_rewrite (placed_at none xs) c ≡ ok (items_done g xs c)
 run-own g [] c asc h = unfold run in_order placed_at replayed_items select in (λ i. ok (record { kind = c.kind; groups = sym (store-again numbers numbers_lawful g (lookup numbers g c.groups) c.groups refl asc) i; tombstones = sym (append-nil c.tombstones) i; cleaned = c.cleaned; waiting = c.waiting }))
 run-own g (x ∷ xs) c asc h =
     let e = own_first g x xs h in
@@ -324,7 +324,7 @@ module _ (x : Pair ℕ (List Part)) (w : Map ℕ (List Part)) where
       rw (s.2, lookup-store numbers numbers_lawful g x.key s.0 w up)
       (split (eqb g x.key) (λ e. rw (e, eqb-true g x.key e) here) (λ e. rw e (k g)))
 
-  after-refused : (y : Refusal) → accept_parts_of x w ≡ refused y → y ≡ refusal_of filesGoBack
+  after-refused : (y : Refusal) → accept_parts_of x w ≡ refused y → y ≡ refusal_of files_go_back
   unfolding accept_parts_of
   after-refused y e =
       let parts = in_order accept_part (reverse x.val) (lookup numbers x.key w) in
@@ -332,11 +332,11 @@ module _ (x : Pair ℕ (List Part)) (w : Map ℕ (List Part)) where
       by_result parts
       (λ o h. absurd (refused_not_ok (sym e ∙ and_then_of parts stored o h)))
       (λ z h. one-refusal (and_then parts stored) y z e (and_then-refused parts stored z h)
-      ∙ in_order-refused accept_part (refusal_of filesGoBack) accept-refused (reverse x.val) (lookup numbers x.key w) z h)
+      ∙ in_order-refused accept_part (refusal_of files_go_back) accept-refused (reverse x.val) (lookup numbers x.key w) z h)
 
-pub waiting-refused : (newer w : Map ℕ (List Part)) (y : Refusal) → waiting_after newer w ≡ refused y → y ≡ refusal_of filesGoBack
+pub waiting-refused : (newer w : Map ℕ (List Part)) (y : Refusal) → waiting_after newer w ≡ refused y → y ≡ refusal_of files_go_back
 unfolding waiting_after
-waiting-refused newer w y e = in_order-refused accept_parts_of (refusal_of filesGoBack) after-refused newer w y e
+waiting-refused newer w y e = in_order-refused accept_parts_of (refusal_of files_go_back) after-refused newer w y e
 
 -- what a lower group's parts become does not show at a later group
 finishing-later : (k : ℕ) (o : Option (List Part)) (w xs : Map ℕ (List Part)) → AllBelow numbers k xs → deeds_of (finishing (store numbers k o w)) xs ≡ deeds_of (finishing w) xs

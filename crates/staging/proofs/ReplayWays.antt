@@ -43,40 +43,40 @@ use Rattle.staging.specs.Replays.{of_rewrite, replayed, Replayable, Replaying}
 
 -- ---- one item
 
-not_incomplete : (x : rules.Content) → rules.isReserved x ≡ false → meets3 rules.replayRewrite x ≡ false → is_incomplete rules.replayRewrite x ≡ false
+not_incomplete : (x : rules.Content) → rules.is_reserved x ≡ false → meets3 rules.replay_rewrite x ≡ false → is_incomplete rules.replay_rewrite x ≡ false
 unfolding meets3
 not_incomplete x r e = rw r at e
 
-not-met : (p : rules.Content → Bool) (it : rules.LogItem) → rules.isReserved it.content ≡ false → unless_reserved p 0 it ≡ false → p it.content ≡ false
+not-met : (p : rules.Content → Bool) (it : rules.LogItem) → rules.is_reserved it.content ≡ false → unless_reserved p 0 it ≡ false → p it.content ≡ false
 unfolding unless_reserved
 not-met p it r e = rw r at e
 
 -- what the checks said of an item that waited
-passed-clear : (it : rules.LogItem) → is_passed it ≡ true → rules.isReserved it.content ≡ false → Clear rules.replayRewrite it.content
+passed-clear : (it : rules.LogItem) → is_passed it ≡ true → rules.is_reserved it.content ≡ false → Clear rules.replay_rewrite it.content
 unfolding is_passed
 passed-clear it p r =
     let x = it.content in
     let a = not (long x) in
-    let b = not (meets3 rules.replayRewrite x) in
+    let b = not (meets3 rules.replay_rewrite x) in
     let d = not (unless_reserved is_out_of_range 0 it) in
-    let e = not (unless_reserved (is_other_queue rules.replayRewrite) 0 it) in
+    let e = not (unless_reserved (is_other_queue rules.replay_rewrite) 0 it) in
     record {
       short = not-true (long x) (both_left a b (both_left (a && b) d (both_left (a && b && d) e p)));
-      complete = not_incomplete x r (not-true (meets3 rules.replayRewrite x) (both_right a b (both_left (a && b) d (both_left (a && b && d) e p))));
+      complete = not_incomplete x r (not-true (meets3 rules.replay_rewrite x) (both_right a b (both_left (a && b) d (both_left (a && b && d) e p))));
       in-range = not-met is_out_of_range it r (not-true (unless_reserved is_out_of_range 0 it) (both_right (a && b) d (both_left (a && b && d) e p)));
-      own-queue = not-met (is_other_queue rules.replayRewrite) it r (not-true (unless_reserved (is_other_queue rules.replayRewrite) 0 it) (both_right (a && b && d) e p));
-      rewritable = unfold is_not_rewritable rules.isLiveRewrite in refl;
+      own-queue = not-met (is_other_queue rules.replay_rewrite) it r (not-true (unless_reserved (is_other_queue rules.replay_rewrite) 0 it) (both_right (a && b && d) e p));
+      rewritable = unfold is_not_rewritable rules.is_live_rewrite in refl;
     }
 
 -- what a deed asks, and gives
 pub record Replays (d : deed.Deed) (rows key value : List ℕ) (x : rules.Content) (o : Option Table) : Type 0 where
   pub ready : ReadyTo d rows key value o
-  pub rule : deed_to d rows key value o ≡ changed rules.replayRewrite x o
+  pub rule : deed_to d rows key value o ≡ changed rules.replay_rewrite x o
 
-says-replays : (d : deed.Deed) (x : rules.Content) (rows key value : List ℕ) (o : Option Table) → DeedSays d rules.replayRewrite x rows key value → every rules.isRewrite (made o).entries ≡ true → Replays d rows key value x o
-unfolding DeedSays deed_to ReadyTo changed rules.isLiveRewrite
+says-replays : (d : deed.Deed) (x : rules.Content) (rows key value : List ℕ) (o : Option Table) → DeedSays d rules.replay_rewrite x rows key value → every rules.is_rewrite (made o).entries ≡ true → Replays d rows key value x o
+unfolding DeedSays deed_to ReadyTo changed rules.is_live_rewrite
 says-replays deed.TheVariants.Skip x rows key value o s h = record { ready = tt; rule = rw s }
-says-replays deed.TheVariants.Clean x rows key value o s h = record { ready = tt; rule = rw s.0 (unfold change command_to rules.isReserved in refl) }
+says-replays deed.TheVariants.Clean x rows key value o s h = record { ready = tt; rule = rw s.0 (unfold change command_to rules.is_reserved in refl) }
 says-replays (deed.TheVariants.Change ch) x rows key value o s h =
     record { ready = s.ready (made o) (λ u. h); rule = sym (rw s.not-reserved (s.rule o)) }
 
@@ -87,12 +87,12 @@ module _ (it : LogItem) (es bs : List ℕ) (o : Option Table) (l : Lent it (leng
   abbrev what : rules.LogItem
   what = item_of it es bs
 
-  clear : rules.isReserved (content_of it.content es bs) ≡ false → Clear (call_of call.TheVariants.ReplayRewrite) (content_of it.content es bs)
+  clear : rules.is_reserved (content_of it.content es bs) ≡ false → Clear (call_of call.TheVariants.ReplayRewrite) (content_of it.content es bs)
   unfolding call_of item_of
   clear n = passed-clear (item_of it es bs) (every-head is_passed (item_of it es bs) [] r.passed) n
 
-  only : every rules.isRewrite (made o).entries ≡ true
-  unfolding entry_by rules.isRewrite
+  only : every rules.is_rewrite (made o).entries ≡ true
+  unfolding entry_by rules.is_rewrite
   only = r.older
 
   says : Replays its (rows_in it.content es) (key_in it.content bs) (value_in it.content bs) (content_of it.content es bs) o
@@ -149,7 +149,7 @@ module _ (x : rules.LogItem) (xs : List rules.LogItem) (o : Option Table) (r : R
       record {
         passed = every-tail is_passed x xs r.passed;
         own = every-tail (λ (it : rules.LogItem). each_entry of_rewrite it.content) x xs r.own;
-        older = changed-meets of_rewrite rules.replayRewrite x.content o _ (every-head (λ (it : rules.LogItem). each_entry of_rewrite it.content) x xs r.own) r.older (replay-changed x.content o);
+        older = changed-meets of_rewrite rules.replay_rewrite x.content o _ (every-head (λ (it : rules.LogItem). each_entry of_rewrite it.content) x xs r.own) r.older (replay-changed x.content o);
         rows = omega (arith, m, a);
         keys = omega (arith, n, b);
       }

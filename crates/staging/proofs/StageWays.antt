@@ -93,7 +93,7 @@ module _ (at : ℕ → Result (Option Table)) (g : ℕ) (f : Flags) (xs bs : Lis
       put-large n = settled-large at g f xs bs r free.absent t (e ∙ ap ok is_some) n
 
       pub put-fits : table_fits t ≡ true → length xs ≡ 17231 → length bs ≡ 38912 → (xs' bs' : List ℕ) → moves.Unloaded k g xs bs xs' bs' → Staging at (g ∷ []) f xs bs f xs' bs'
-      unfolding moves.longIn moves.longBytesIn
+      unfolding moves.long_in moves.long_bytes_in
       put-fits y n m xs' bs' l =
           settled-put at g f xs bs r free.absent t (e ∙ ap ok is_some) k xs' bs' free y (l.cell ∙ rw (long-is 13509 3722 xs n, long-is 28672 10240 bs m)) l.wf l.only
 
@@ -115,7 +115,7 @@ module _ (at : ℕ → Result (Option Table)) (g : ℕ) (f : Flags) (xs bs : Lis
 -- ---- what the work table asks to be put into a spare stretch
 
 work-fitting : (xs bs : List ℕ) → length xs ≡ 17231 → length bs ≡ 38912 → work.Wf (drop 13509 xs) (drop 28672 bs) → is_used (drop 13509 xs) ≡ true → table_fits (made (work_in (drop 13509 xs) (drop 28672 bs))) ≡ true → moves.Fitting xs bs
-unfolding moves.longIn moves.longBytesIn
+unfolding moves.long_in moves.long_bytes_in
 work-fitting xs bs n m w u y =
     let a = long-is 13509 3722 xs n in
     let c = long-is 28672 10240 bs m in

@@ -41,7 +41,7 @@ module _ (g : ℕ) (it : LogItem) (es bs : List ℕ) (o : Option Table) where
   unfolding buried item_of
   buried-own e = rw (eq-eqb it.raft_group_id g e)
 
-  module _ (t : rules.isTombstone (content_of it.content es bs) ≡ true) where
+  module _ (t : rules.is_tombstone (content_of it.content es bs) ≡ true) where
     abbrev its : Deed
     its = deed_of call.TheVariants.ReplayAppend it.content es bs
 
@@ -109,8 +109,8 @@ every_at P [] j z l e = absurd (omega arith)
 every_at P (x ∷ xs) zero z l e = both_left (P x) (every P xs) e
 every_at P (x ∷ xs) (suc j) z l e = every_at P xs j z (omega arith) (both_right (P x) (every P xs) e)
 
-pub tombstone_at : (s : Store) (a : Area) (j : ℕ) (it : LogItem) → ItemAt s a j it → j < length (store_items s a) → all_tombstones (store_items s a) ≡ true → rules.isTombstone (content_of it.content a.entries a.bytes) ≡ true
+pub tombstone_at : (s : Store) (a : Area) (j : ℕ) (it : LogItem) → ItemAt s a j it → j < length (store_items s a) → all_tombstones (store_items s a) ≡ true → rules.is_tombstone (content_of it.content a.entries a.bytes) ≡ true
 unfolding all_tombstones item_of
 tombstone_at s a j it at l e =
     let z = item_of it a.entries a.bytes in
-    ap (λ (x : rules.LogItem). rules.isTombstone x.content) (sym (at.is z)) ∙ every_at (λ (x : rules.LogItem). rules.isTombstone x.content) (store_items s a) j z l e
+    ap (λ (x : rules.LogItem). rules.is_tombstone x.content) (sym (at.is z)) ∙ every_at (λ (x : rules.LogItem). rules.is_tombstone x.content) (store_items s a) j z l e

@@ -94,7 +94,7 @@ pub long-is : (a n : ℕ) (xs : List ℕ) → length xs ≡ a + n → part a n x
 long-is a n xs e = let k : length xs - a ≡ n = omega arith in sym (part_back a xs ∙ rw k)
 
 pub load-loaded : (k : ℕ) (xs bs xs' bs' : List ℕ) → length xs ≡ 17231 → length bs ≡ 38912 → length xs' ≡ length xs → length bs' ≡ length bs → moves.Loaded k xs bs xs' bs' → Loaded (some (table_in (stretch_at k xs) (bytes_at k bs))) xs bs xs' bs'
-unfolding moves.longIn moves.longBytesIn
+unfolding moves.long_in moves.long_bytes_in
 load-loaded k xs bs xs' bs' n m p q l =
     record {
       becomes = rw (long-is 13509 3722 xs' (p ∙ n), long-is 28672 10240 bs' (q ∙ m)) at (becomes (table_in (stretch_at k xs) (bytes_at k bs)) _ _ l.stands);

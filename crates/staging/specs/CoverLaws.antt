@@ -160,8 +160,8 @@ module _ (xs bs ys cs : List ℕ) (w : RoomWf 16 (waiting_numbers ys) (waiting_b
       let e : k + 80 - 80 ≡ k = omega arith in
       rw (le-ltb (k + 80) 8 (omega arith), le-ltb (k + 80) 16 (omega arith), le-ltb (k + 80) 80 (omega arith), e, ne_eqb (get_or room (2 + k * 10) 0) 0 n)
 
-  waiting-there : (k : ℕ) → k < 16 → (count_in (head_at k (part 2 160 room)) ≡ 0 → ⊥) → is_in (waiting.groupIn (head_at k (part 2 160 room))) (gs xs bs ys cs) ≡ true
-  unfolding waiting.groupIn
+  waiting-there : (k : ℕ) → k < 16 → (count_in (head_at k (part 2 160 room)) ≡ 0 → ⊥) → is_in (waiting.group_in (head_at k (part 2 160 room))) (gs xs bs ys cs) ≡ true
+  unfolding waiting.group_in
   waiting-there k l n =
       let g = in_cell room k 1 l (omega arith) in
       in-firsts (number_at xs ys) _ place_count (k + 80) (omega arith)

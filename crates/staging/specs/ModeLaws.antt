@@ -7,7 +7,7 @@ use Rattle.std.proofs.Math.Path.{ap}
 use Rattle.cells.specs.Part.{part}
 use Rattle.cells.specs.PartLaws.{part-drop, part-part}
 use Rattle.maps.specs.Maps.{Map}
-use Rattle.rules.specs.Causes.{Cause, Result, ok, refuse, in_order, limitPassed, filesGoBack}
+use Rattle.rules.specs.Causes.{Cause, Result, ok, refuse, in_order, limit_passed, files_go_back}
 use Rattle.rules.specs.Items.{Append, Rewrite}
 use Rattle.rules.specs.Context.{Part, Context, with_groups}
 use Rattle.rules.specs.Calls.{clash}
@@ -125,7 +125,7 @@ module _ (f : Flags) (xs bs ys cs : List ℕ) (g : Given mode.Rewrite xs bs ys c
   unfolding call_by newer_kind older_kind
   by-group = merge_by-group Rewrite newer older w.numbers g.newer-wf.kept g.wf.kept g.newer-kind g.kind w.cover
 
-  pub waits_back : waiting_after newer.waiting older.waiting ≡ refuse filesGoBack → call_by mode.Rewrite newer older ≡ refuse filesGoBack
+  pub waits_back : waiting_after newer.waiting older.waiting ≡ refuse files_go_back → call_by mode.Rewrite newer older ≡ refuse files_go_back
   waits_back e = by-group ∙ merged_back Rewrite newer older w.numbers _ e
 
   pub waits-answer : (v : Map ℕ (List Part)) → waiting_after newer.waiting older.waiting ≡ ok v → call_by mode.Rewrite newer older ≡ answer (clash_by mode.Rewrite) (merged_rest newer v older) (staged_in f xs bs)
@@ -141,7 +141,7 @@ module _ (n : Cause) (rest : Context) (f : Flags) (xs bs : List ℕ) (r : Result
   answered-clashed e = a ∙ answer-clashed n rest (staged_in f xs bs) e
 
   module _ (e : f.clashed ≡ false) where
-    pub answered-passed : (f.passed || not (rest_fits rest)) ≡ true → r ≡ refuse limitPassed
+    pub answered-passed : (f.passed || not (rest_fits rest)) ≡ true → r ≡ refuse limit_passed
     unfolding staged_in
     answered-passed p = a ∙ answer-passed n rest (staged_in f xs bs) e p
 

@@ -3,7 +3,7 @@ use Rattle.std.specs.Prelude.{Bool, true, List, ◌≡◌, ℕ, ◌+◌, ◌≤�
 use Rattle.std.proofs.Math.Option.{Option}
 use Rattle.maps.specs.Lists.{every, sum}
 use Rattle.rules.specs.Causes.{left}
-use Rattle.rules.specs.Items.{Rewrite, LogItem, replayRewrite}
+use Rattle.rules.specs.Items.{Rewrite, LogItem, replay_rewrite}
 use Rattle.rules.specs.Table.{Table, made}
 use Rattle.rules.specs.Context.{context, entries_in}
 use Rattle.rules_by_group.specs.Group.{changed, replayed_items}
@@ -16,7 +16,7 @@ of_rewrite = entry_by (context Rewrite)
 
 -- what one item makes of its group's table; Rewrite replay refuses none
 unfoldable pub replayed : LogItem → Option Table → Option Table
-replayed x o = left o (changed replayRewrite x.content o)
+replayed x o = left o (changed replay_rewrite x.content o)
 
 -- items that passed the checks, for whose entries and keys there is room
 pub record Replayable (xs : List LogItem) (o : Option Table) : Type 0 where

@@ -32,25 +32,25 @@ pub record Buries (d : deed.Deed) (rows key value : List ℕ) (x : rules.Content
   pub rule : deed_to d rows key value o ≡ ok (effected x o)
 
 command_buries : (m : command.Command) (o : Option Table) → Buries (command_deed call.TheVariants.ReplayAppend m) [] [] [] (rules.command (command_of m)) o
-unfolding command_of deed_to ReadyTo rule_of Ready and_then effected effect rules.isReserved
+unfolding command_of deed_to ReadyTo rule_of Ready and_then effected effect rules.is_reserved
 command_buries command.TheVariants.Clean o = record { ready = tt; rule = refl }
 command_buries (command.TheVariants.Compact i) o = record { ready = tt; rule = refl }
 
 delete_buries : (key value : List ℕ) (o : Option Table) → equal_bytes key reserved_key ≡ false → Buries (deed.TheVariants.Change Rattle.stretch.specs.declared.Change.TheVariants.Delete) [] key value (rules.kv key rules.del) o
-unfolding deed_to ReadyTo rule_of Ready and_then effected effect rules.isReserved
+unfolding deed_to ReadyTo rule_of Ready and_then effected effect rules.is_reserved
 delete_buries key value o r = record { ready = tt; rule = rw r }
 
-skip_buries : (rows key value : List ℕ) (x : rules.Content) (o : Option Table) → rules.isReserved x ≡ true → Buries deed.TheVariants.Skip rows key value x o
+skip_buries : (rows key value : List ℕ) (x : rules.Content) (o : Option Table) → rules.is_reserved x ≡ true → Buries deed.TheVariants.Skip rows key value x o
 unfolding deed_to ReadyTo effected
 skip_buries rows key value x o r = record { ready = tt; rule = rw r }
 
-op_buries : (u : op.OpType) (v : Value) (f : KeyFile) (key value bs : List ℕ) (o : Option Table) → rules.isTombstone (rules.kv key (change_of u v f bs)) ≡ true → equal_bytes key reserved_key ≡ false → Buries (op_deed call.TheVariants.ReplayAppend u f) [] key value (rules.kv key (change_of u v f bs)) o
-unfolding change_of rules.isTombstone
+op_buries : (u : op.OpType) (v : Value) (f : KeyFile) (key value bs : List ℕ) (o : Option Table) → rules.is_tombstone (rules.kv key (change_of u v f bs)) ≡ true → equal_bytes key reserved_key ≡ false → Buries (op_deed call.TheVariants.ReplayAppend u f) [] key value (rules.kv key (change_of u v f bs)) o
+unfolding change_of rules.is_tombstone
 op_buries op.TheVariants.Put v f key value bs o t r = absurd (clash t)
 op_buries op.TheVariants.Del v f key value bs o t r = delete_buries key value o r
 
-pub deed_buries : (x : content.LogItemContent) (es bs : List ℕ) (o : Option Table) → rules.isTombstone (content_of x es bs) ≡ true → Buries (deed_of call.TheVariants.ReplayAppend x es bs) (rows_in x es) (key_in x bs) (value_in x bs) (content_of x es bs) o
-unfolding deed_of content_of key_content key_change rules.isReserved rules.isTombstone
+pub deed_buries : (x : content.LogItemContent) (es bs : List ℕ) (o : Option Table) → rules.is_tombstone (content_of x es bs) ≡ true → Buries (deed_of call.TheVariants.ReplayAppend x es bs) (rows_in x es) (key_in x bs) (value_in x bs) (content_of x es bs) o
+unfolding deed_of content_of key_content key_change rules.is_reserved rules.is_tombstone
 deed_buries (content.TheVariants.EntryIndexes e) es bs o t = absurd (clash t)
 deed_buries (content.TheVariants.Command m) es bs o t = command_buries m o
 deed_buries (content.TheVariants.Kv k) es bs o t =

@@ -4,7 +4,7 @@ use Rattle.maps.specs.Lists.{every}
 use Rattle.maps.specs.Maps.{Map}
 use Rattle.pipe_log.specs.Numbers.{gate_of}
 use Rattle.pipe_log.specs.Rows.{window}
-use Rattle.rules.specs.Causes.{Result, ok, refused, refuse, and_then, limitPassed}
+use Rattle.rules.specs.Causes.{Result, ok, refused, refuse, and_then, limit_passed}
 use Rattle.rules.specs.Items.{is_rewrite}
 use Rattle.rules.specs.Table.{Held, Table, with_keys, over_keys, appended, replayed_rewrite, rewritten, compacted, put_key, delete_key, rewritten_key}
 use Rattle.rules.specs.Context.{table_fits}
@@ -50,7 +50,7 @@ keys_laid newer t = ok (with_keys (over_keys t.keys newer) t)
 
 -- a table that passes a limit is refused by 18
 unfoldable pub limited_table : Result Table → Result Table
-limited_table r = and_then r (λ t. cond (table_fits t) (ok t) (refuse limitPassed))
+limited_table r = and_then r (λ t. cond (table_fits t) (ok t) (refuse limit_passed))
 
 -- the result for each answer: what was accepted, or 01's number
 abbrev pub outcome_as : {A : Type 0} → Outcome → A → Result A
@@ -63,7 +63,7 @@ room_at w p b t = leb (length t.entries) (length (entry_rows_at w p) / 8) && fit
 
 -- a table for which there is no room is refused by 18
 unfoldable pub limited_at : ℕ → List ℕ → List ℕ → Result Table → Result Table
-limited_at w p b r = and_then r (λ t. cond (room_at w p b t) (ok t) (refuse limitPassed))
+limited_at w p b r = and_then r (λ t. cond (room_at w p b t) (ok t) (refuse limit_passed))
 
 -- a stretch p of any width with its bytes b changed by a rule; p' and b' are at exit
 pub record ChangedAt (w : ℕ) (by : Table → Result Table) (p b : List ℕ) (r : Outcome) (p' b' : List ℕ) : Type 0 where

@@ -15,7 +15,7 @@ use Rattle.maps.specs.Maps.{lookup, bytes}
 use Rattle.maps.specs.MapLaws.{pair, ascending-nil}
 use Rattle.pipe_log.specs.Numbers.{gate_of}
 use Rattle.pipe_log.specs.Rows.{window}
-use Rattle.rules.specs.Causes.{Result, ok, refused, refuse, and_then, limitPassed}
+use Rattle.rules.specs.Causes.{Result, ok, refused, refuse, and_then, limit_passed}
 use Rattle.rules.specs.Items.{EntryIndex}
 use Rattle.rules.specs.Context.{table_fits}
 use Rattle.rules.specs.Table.{Held, Table, empty_table, first_index_of, last_index, is_below_first, is_above_last, with_entries, over, appended, rewritten, rewritten_key}
@@ -87,7 +87,7 @@ room-short p b l m t =
 
 limited-short : (p b : List ℕ) → length p ≡ 586 → length b ≡ 1024 → (r : Result Table) → limited_at 522 p b r ≡ limited_table r
 unfolding limited_at limited_table
-limited-short p b l m r = ap (λ (f : Table → Bool). and_then r (λ t. cond (f t) (ok t) (refuse limitPassed))) (λ i t. room-short p b l m t i)
+limited-short p b l m r = ap (λ (f : Table → Bool). and_then r (λ t. cond (f t) (ok t) (refuse limit_passed))) (λ i t. room-short p b l m t i)
 
 pub changed-short : {by : Table → Result Table} {p b : List ℕ} {r : Outcome} {p' b' : List ℕ} → length p ≡ 586 → length b ≡ 1024 → length p' ≡ length p → length b' ≡ length b → ChangedAt 522 by p b r p' b' → Changed by p b r p' b'
 changed-short {by} {p} {b} {r} {p'} {b'} l m k n c =
@@ -341,7 +341,7 @@ module _ (w v : ℕ) (p b q d : List ℕ) (o : WfAt w p b) (f : 10 + (head_part 
   front-table =
       table_of_lem v q (head_part p) (entry_rows_at v q) (key_count p) (key_rows_at v q) (is_counted p) front-holds d
       ∙ entries.table_same (head_part p) (entry_rows_at w p) (entry_rows_at v q) same_entries (keys_in (key_count p) (key_rows_at v q) d) (is_counted p)
-      ∙ rw (keys.keys-same (key_count p) (key_rows_at w p) b (key_rows_at v q) d same_keys)
+      ∙ rw (keys.keys_same (key_count p) (key_rows_at w p) b (key_rows_at v q) d same_keys)
       (sym (table_of_lem w p (head_part p) (entry_rows_at w p) (key_count p) (key_rows_at w p) (is_counted p) (own w p o.numbers.from o.numbers.to) b))
 
   pub front_wf : WfAt v q d
@@ -349,8 +349,8 @@ module _ (w v : ℕ) (p b q d : List ℕ) (o : WfAt w p b) (f : 10 + (head_part 
       let x = length-entries v q (omega arith) (omega arith) in
       let y = any.length-keys v q (omega arith) in
       wf_of v q (head_part p) (entry_rows_at v q) (key_count p) (key_rows_at v q) (is_counted p) front-holds d
-      (entries.wf-same (head_part p) (entry_rows_at w p) (entry_rows_at v q) same_entries (omega arith) o.numbers.entries)
-      (keys.wf-same (key_count p) (key_rows_at w p) b (key_rows_at v q) d same_keys (omega arith) m o.keys)
+      (entries.wf_same (head_part p) (entry_rows_at w p) (entry_rows_at v q) same_entries (omega arith) o.numbers.entries)
+      (keys.wf_same (key_count p) (key_rows_at w p) b (key_rows_at v q) d same_keys (omega arith) m o.keys)
 
   front_two : take 2 q ≡ take 2 p
   front_two =

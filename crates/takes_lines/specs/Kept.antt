@@ -4,7 +4,7 @@ use Rattle.std.proofs.Common.{true≢false, ◌∙◌, arith, length-take, take_
 use Rattle.std.proofs.Math.Option.{Option, none, some}
 use Rattle.maps.specs.Lists.{or_else, find_from}
 use Rattle.maps.specs.OrderLaws.{split}
-use Rattle.rules.specs.Items.{Change, put, del, Content, entries, command, kv, LogItem, Batch, LogQueue, Append, Rewrite, Call, replayAppend, replayRewrite}
+use Rattle.rules.specs.Items.{Change, put, del, Content, entries, command, kv, LogItem, Batch, LogQueue, Append, Rewrite, Call, replay_append, replay_rewrite}
 use Rattle.rules.specs.Limits.{max_items}
 use Rattle.rules.specs.Causes.{Result, refused}
 use Rattle.rules.specs.Context.{Context}
@@ -114,8 +114,8 @@ module _ (b : Batch) (i : ℕ) (met : find_from meets2 0 b.items ≡ some i) whe
 
   replay-long : (q : LogQueue) (c : Context) → replay_batch q b c ≡ refused (record { number = 2; place = some i })
   unfolding replay_batch
-  replay-long Append c = refused-long replayAppend _
-  replay-long Rewrite c = refused-long replayRewrite _
+  replay-long Append c = refused-long replay_append _
+  replay-long Rewrite c = refused-long replay_rewrite _
 
 -- a replay answers the same for what is kept of a batch
 pub replay-kept : (b : Batch) (c : Context) → replay (kept_batch b) c ≡ replay b c

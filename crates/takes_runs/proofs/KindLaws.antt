@@ -5,8 +5,8 @@ use mathlib.Core.Path.{◌≡◌, refl, sym, ap, ◌∙◌}
 use Prim.Native.Nat.{ℕ}
 use lib.ListN.{length}
 use Rattle.maps.specs.Lists.{or_else}
-use Rattle.rules.specs.Causes.{Result, ok, refused, refuse, left, wrongKind}
-use Rattle.rules.specs.Items.{LogQueue, Append, Rewrite, same_queue, LogItem, Batch, placed_from, writes, replayAppend}
+use Rattle.rules.specs.Causes.{Result, ok, refused, refuse, left, wrong_kind}
+use Rattle.rules.specs.Items.{LogQueue, Append, Rewrite, same_queue, LogItem, Batch, placed_from, writes, replay_append}
 use Rattle.rules.specs.Checks.{checks}
 use Rattle.rules.specs.Context.{context, is_context, Context, with_groups, fresh}
 use Rattle.rules.specs.Calls.{checked, run_batch, replay_batch, replay, merge}
@@ -25,21 +25,21 @@ use Rattle.takes_runs.specs.Steps.{AppendArea}
 -- ---- the kind that the rules leave
 
 -- what a batch that passed the checks went on with
-checked_ok : (b : Batch) (next : Result Context) (d : Context) → checked replayAppend b next ≡ ok d → (checks replayAppend b.items ≡ none) × (next ≡ ok d)
+checked_ok : (b : Batch) (next : Result Context) (d : Context) → checked replay_append b next ≡ ok d → (checks replay_append b.items ≡ none) × (next ≡ ok d)
 unfolding checked or_else
 checked_ok b next d e =
-    by_option (checks replayAppend b.items)
+    by_option (checks replay_append b.items)
     (λ h. (h, rw h at e))
     (λ r h. absurd (refused_not_ok (rw h at e)))
 
 batch-kind : (b : Batch) (c d : Context) → Kept c → c.kind ≡ context Append → replay_batch Append b c ≡ ok d → d.kind ≡ context Append
 unfolding replay_batch run_batch writes
 batch-kind b c d k i e =
-    let s = checked_ok b (run_batch replayAppend b c) d e in
-    (run-keeps (context Append) replayAppend append-keeps (placed_from 0 b.items) c d (every-placed (λ (it : LogItem). each_entry (entry_by (context Append)) it.content) 0 b.items (batch-queue replayAppend b.items s.0)) (record { is-kind = i; kept = k }) s.1).is-kind
+    let s = checked_ok b (run_batch replay_append b c) d e in
+    (run-keeps (context Append) replay_append append-keeps (placed_from 0 b.items) c d (every-placed (λ (it : LogItem). each_entry (entry_by (context Append)) it.content) 0 b.items (batch-queue replay_append b.items s.0)) (record { is-kind = i; kept = k }) s.1).is-kind
 
 -- a batch of the other queue is refused
-other-queue : (b : Batch) (c : Context) → c.kind ≡ context Append → b.file.queue ≡ Rewrite → replay b c ≡ refuse wrongKind
+other-queue : (b : Batch) (c : Context) → c.kind ≡ context Append → b.file.queue ≡ Rewrite → replay b c ≡ refuse wrong_kind
 unfolding replay is_context same_queue
 other-queue b c i q = rw (q, i)
 

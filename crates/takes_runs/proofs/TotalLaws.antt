@@ -42,18 +42,18 @@ option_or-0 o number.TheVariants.GroupAbsent e = absurd (refused_not_ok e)
 option_or-0 o number.TheVariants.Absent e = rw (← (ok_inj e)) refl
 option_or-0 o (number.TheVariants.At n) e = rw (← (ok_inj e)) refl
 
-number-absent : (x : Result (Option ℕ)) (r : number.FoundNumber) → refuse Rattle.rules.specs.Causes.groupAbsent ≡ x → number_as r ≡ x → number_or0 r ≡ 0
+number-absent : (x : Result (Option ℕ)) (r : number.FoundNumber) → refuse Rattle.rules.specs.Causes.group_absent ≡ x → number_as r ≡ x → number_or0 r ≡ 0
 number-absent x number.TheVariants.GroupAbsent a e = refl
 number-absent x number.TheVariants.Absent a e = refl
 number-absent x (number.TheVariants.At n) a e = absurd (refused_not_ok (a ∙ sym e))
 
 module _ (f : Table → Option ℕ) (r : number.FoundNumber) where
-  found_or-0 : (o : Option Table) → number_as r ≡ or_else (refuse Rattle.rules.specs.Causes.groupAbsent) (λ t. ok (f t)) o → number_or0 r ≡ or_else 0 (λ t. or_else 0 (λ (i : ℕ). i) (f t)) o
+  found_or-0 : (o : Option Table) → number_as r ≡ or_else (refuse Rattle.rules.specs.Causes.group_absent) (λ t. ok (f t)) o → number_or0 r ≡ or_else 0 (λ t. or_else 0 (λ (i : ℕ). i) (f t)) o
   unfolding or_else
   found_or-0 none e = number-absent _ r refl e
   found_or-0 (some t) e = option_or-0 (f t) r e
 
-count-absent : (r : count.Counted) → count_as r ≡ refuse Rattle.rules.specs.Causes.groupAbsent → count_or0 r ≡ 0
+count-absent : (r : count.Counted) → count_as r ≡ refuse Rattle.rules.specs.Causes.group_absent → count_or0 r ≡ 0
 count-absent count.TheVariants.GroupAbsent e = refl
 count-absent (count.TheVariants.Is n) e = absurd (refused_not_ok (sym e))
 
@@ -62,7 +62,7 @@ count_held n count.TheVariants.GroupAbsent e = absurd (refused_not_ok e)
 count_held n (count.TheVariants.Is m) e = ok_inj e
 
 module _ (f : Table → ℕ) (r : count.Counted) where
-  counted_or-0 : (o : Option Table) → count_as r ≡ or_else (refuse Rattle.rules.specs.Causes.groupAbsent) (λ t. ok (f t)) o → count_or0 r ≡ or_else 0 f o
+  counted_or-0 : (o : Option Table) → count_as r ≡ or_else (refuse Rattle.rules.specs.Causes.group_absent) (λ t. ok (f t)) o → count_or0 r ≡ or_else 0 f o
   unfolding or_else
   counted_or-0 none e = count-absent r e
   counted_or-0 (some t) e = count_held (f t) r e

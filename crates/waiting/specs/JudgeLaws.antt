@@ -244,8 +244,8 @@ module _ (s : Store) (r : Room) (w : Wf s r) (g : ℕ) (new : Part) where
 
 -- ---- every cell is in use
 
-cell-used : (h : List ℕ) (xs : List Tagged) → is_free_cell h ≡ false → places.isFree (cell_of h xs) ≡ false
-unfolding is_free_cell cell_of places.isFree
+cell-used : (h : List ℕ) (xs : List Tagged) → is_free_cell h ≡ false → places.is_free_cell (cell_of h xs) ≡ false
+unfolding is_free_cell cell_of places.is_free_cell
 cell-used h xs e = rw e
 
 pub all-used : (s : Store) (r : Room) → Wf s r → ((j : ℕ) → j < cell_count r.heads → is_free_cell (head_at j r.heads) ≡ false) → length (waiting_in s r) ≡ cell_count r.heads

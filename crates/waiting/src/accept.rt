@@ -2,7 +2,7 @@
 ghost use Rattle.std.proofs.Math.Option.{none};
 ghost use Rattle.std.specs.Prelude.{◌≡◌, ◌+◌, ◌*◌, ◌<◌, get_or};
 ghost use Rattle.cells.specs.Part.{part};
-ghost use Rattle.rules.specs.Items.{replayRewrite};
+ghost use Rattle.rules.specs.Items.{replay_rewrite};
 ghost use Rattle.rules.specs.Checks.{checks};
 ghost use Rattle.log_batch.specs.Lent.{items_of};
 ghost use Rattle.room.specs.Layout.{context_cells, ContextRoom};
@@ -33,7 +33,7 @@ fn accept_form(
 ) -> Accepted
     requires context_room { ContextRoom ws.old vs.old }
     requires form_at { FormAt form group context_cells (part 2 (context_cells * 10) ws.old) k status seq }
-    requires bytes_value { checks replayRewrite (items_of items.now entries.now bytes.now) ≡ none }
+    requires bytes_value { checks replay_rewrite (items_of items.now entries.now bytes.now) ≡ none }
     ensures { AcceptedAs group (part_for status seq (unmarked (items_of items.now entries.now bytes.now))) ws.old vs.old result ws.new vs.new }
 {
     let groups = groups_with(ws, CELLS, form);
@@ -62,7 +62,7 @@ fn accept_at(
 ) -> Accepted
     requires context_room { ContextRoom ws.old vs.old }
     requires at_cell { AtCell group context_cells (part 2 (context_cells * 10) ws.old) k }
-    requires bytes_value { checks replayRewrite (items_of items.now entries.now bytes.now) ≡ none }
+    requires bytes_value { checks replay_rewrite (items_of items.now entries.now bytes.now) ≡ none }
     ensures { AcceptedAs group (part_for status seq (unmarked (items_of items.now entries.now bytes.now))) ws.old vs.old result ws.new vs.new }
 {
     let step = step_at(ws, CELLS, k, status, seq);
@@ -127,7 +127,7 @@ pub fn accept_batch(
     bytes: &[u8],
 ) -> Accepted
     requires context_room { ContextRoom ws.old vs.old }
-    requires bytes_value { checks replayRewrite (items_of items.now entries.now bytes.now) ≡ none }
+    requires bytes_value { checks replay_rewrite (items_of items.now entries.now bytes.now) ≡ none }
     ensures { AcceptedAs group (part_for status seq (unmarked (items_of items.now entries.now bytes.now))) ws.old vs.old result ws.new vs.new }
 {
     let place = find(ws, CELLS, group);

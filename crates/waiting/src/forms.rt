@@ -2,7 +2,7 @@
 ghost use Rattle.std.specs.Prelude.{List, ◌≡◌, ℕ, ◌+◌, ◌*◌, ◌≤◌, ◌<◌, length, get_or};
 ghost use Rattle.std.proofs.Math.Option.{none, some};
 ghost use Rattle.cells.specs.Part.{part};
-ghost use Rattle.rules.specs.Items.{replayRewrite};
+ghost use Rattle.rules.specs.Items.{replay_rewrite};
 ghost use Rattle.rules.specs.Checks.{checks};
 ghost use Rattle.log_batch.specs.Lent.{items_of};
 ghost use Rattle.room.specs.Rooms.{head_at, newest_tag, waiting_in, waiting_items, waiting_entries, other_tag};
@@ -164,7 +164,7 @@ pub fn write_form(
 )
     requires room_wf { RoomWf cells ws.old vs.old }
     requires form_at { FormAt form group cells (part 2 (cells * 10) ws.old) k status seq }
-    requires bytes_value { checks replayRewrite (items_of items.now entries.now bytes.now) ≡ none }
+    requires bytes_value { checks replay_rewrite (items_of items.now entries.now bytes.now) ≡ none }
     requires vs_bound { (waiting_items (with_part form group (part_for status seq (unmarked (items_of items.now entries.now bytes.now))) (waiting_in (store_of ws.old) (room_of cells ws.old vs.old))) ≤ cells * 8) × (waiting_entries (with_part form group (part_for status seq (unmarked (items_of items.now entries.now bytes.now))) (waiting_in (store_of ws.old) (room_of cells ws.old vs.old))) ≤ cells * 16) }
     ensures { Became group (some (form_parts form (parts_at group (waiting_in (store_of ws.old) (room_of cells ws.old vs.old))) (part_for status seq (unmarked (items_of items.now entries.now bytes.now))))) (store_of ws.old) (room_of cells ws.old vs.old) (store_of ws.new) (room_of cells ws.new vs.new) }
 {

@@ -7,7 +7,7 @@ use native.Mathlib.Omega.{arith}
 use lib.ListN.{length, get_or, take, drop}
 use borrow.Author.Rules.{part_to_end}
 use Rattle.rules.specs.Causes.{Refusal, Result, ok, refused, left}
-use Rattle.rules.specs.Items.{FileId, Append, Rewrite, same_queue, Batch, Call, liveAppend, live_rewrite}
+use Rattle.rules.specs.Items.{FileId, Append, Rewrite, same_queue, Batch, Call, live_append, live_rewrite}
 use Rattle.rules.specs.Context.{Context, Kind, is_index, with_groups, with_waiting}
 use Rattle.rules.specs.Calls.{checked, run_batch, write, append, rewrite}
 use Rattle.rules_by_group.specs.Kept.{Kept}
@@ -62,10 +62,10 @@ module _ (xs bs : List ℕ) (k : Kind) (e : k ≡ kind_of (get_or (take (length 
     append_wrong w f =
         refused-called (append (batch_of file items es ds)) xs bs (answer.Refused 1 position.None) _ w (rw (kind-is, f)) refl
 
-    pub append_right : (r : Answer) (ys fs : List ℕ) → Wf xs bs → (is_index k && same_queue file.queue Append) ≡ true → Answered (writes_it liveAppend file items es ds xs bs) xs bs r ys fs → Called (append (batch_of file items es ds)) xs bs r ys fs
+    pub append_right : (r : Answer) (ys fs : List ℕ) → Wf xs bs → (is_index k && same_queue file.queue Append) ≡ true → Answered (writes_it live_append file items es ds xs bs) xs bs r ys fs → Called (append (batch_of file items es ds)) xs bs r ys fs
     unfolding append write batch_of
     append_right r ys fs w y c =
-        same-called _ (writes_it liveAppend file items es ds xs bs) xs bs r ys fs w (λ d e. append-kept (batch_of file items es ds) (context_of xs bs) d w.kept e) (rw (kind-is, y)) c
+        same-called _ (writes_it live_append file items es ds xs bs) xs bs r ys fs w (λ d e. append-kept (batch_of file items es ds) (context_of xs bs) d w.kept e) (rw (kind-is, y)) c
 
     module _ (gate : _) where
       pub rewrite_wrong : Wf xs bs → (is_index k && same_queue file.queue Rewrite) ≡ false → Called (rewrite gate (batch_of file items es ds)) xs bs (answer.Refused 1 position.None) xs bs

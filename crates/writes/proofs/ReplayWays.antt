@@ -4,7 +4,7 @@ use mathlib.Core.List.{List}
 use mathlib.Core.Path.{◌≡◌, refl, ◌∙◌}
 use Prim.Native.Nat.{ℕ, ◌-◌}
 use lib.ListN.{length, get_or, take, drop}
-use Rattle.rules.specs.Items.{LogQueue, FileId, Append, Rewrite, Batch, replayAppend}
+use Rattle.rules.specs.Items.{LogQueue, FileId, Append, Rewrite, Batch, replay_append}
 use Rattle.rules.specs.Context.{Kind, context, is_context}
 use Rattle.rules.specs.Calls.{replay_batch, replay}
 use Rattle.rules_by_group.specs.RunLaws.{KeptAt}
@@ -41,7 +41,7 @@ module _ (xs bs : List ℕ) (k : Kind) (e : k ≡ kind_of (get_or (take (length 
     replay-queue r ys fs c =
         same-called _ (replay_batch file.queue (batch_of file items es ds)) xs bs r ys fs w (λ d q. replay-kept (batch_of file items es ds) (context_of xs bs) d w.kept q) (rw (kind-is xs bs k e, y)) c
 
-    pub replay-append-queue : file.queue ≡ Append → (r : Answer) (ys fs : List ℕ) → Answered (writes_it replayAppend file items es ds xs bs) xs bs r ys fs → Called (replay (batch_of file items es ds)) xs bs r ys fs
+    pub replay-append-queue : file.queue ≡ Append → (r : Answer) (ys fs : List ℕ) → Answered (writes_it replay_append file items es ds xs bs) xs bs r ys fs → Called (replay (batch_of file items es ds)) xs bs r ys fs
     unfolding replay_batch
     replay-append-queue q r ys fs c = replay-queue r ys fs (by-queue file.queue Append q (batch_of file items es ds) xs bs r ys fs c)
 

@@ -6,7 +6,7 @@ use mathlib.Core.Option.{none, some, some-ne-none}
 use mathlib.Core.Path.{◌≡◌, refl, sym}
 use Prim.Native.Nat.{ℕ}
 use Rattle.maps.specs.Lists.{or_else}
-use Rattle.rules.specs.Items.{FileId, Rewrite, LogItem, placed_from, Call, replayAppend, replayRewrite, liveAppend, live_rewrite}
+use Rattle.rules.specs.Items.{FileId, Rewrite, LogItem, placed_from, Call, replay_append, replay_rewrite, live_append, live_rewrite}
 use Rattle.rules.specs.Checks.{Mark, is_rewrite_replay, checks}
 use Rattle.rules.specs.Context.{context, Context, limited, run}
 use Rattle.rules.specs.Waiting.{replay_marked}
@@ -46,18 +46,18 @@ list_written c seq items es ds xs bs r ys fs s a =
 
 -- a call that looks at a mark is a Rewrite replay
 module _ (items : List LogItem) (m : Mark) where
-  pub marked-checks : (c : Call) → some m ≡ mark_for c items → checks c items ≡ none → checks replayRewrite items ≡ none
+  pub marked-checks : (c : Call) → some m ≡ mark_for c items → checks c items ≡ none → checks replay_rewrite items ≡ none
   unfolding mark_for is_rewrite_replay
-  marked-checks replayAppend f e = absurd (some-ne-none m f)
-  marked-checks replayRewrite f e = e
-  marked-checks liveAppend f e = absurd (some-ne-none m f)
+  marked-checks replay_append f e = absurd (some-ne-none m f)
+  marked-checks replay_rewrite f e = e
+  marked-checks live_append f e = absurd (some-ne-none m f)
   marked-checks (live_rewrite g s) f e = absurd (some-ne-none m f)
 
   pub marked-kept : (c : Call) (x : Context) → some m ≡ mark_for c items → Keeping c x → KeptAt (context Rewrite) x
   unfolding mark_for is_rewrite_replay
-  marked-kept replayAppend x f k = absurd (some-ne-none m f)
-  marked-kept replayRewrite x f k = k.own refl
-  marked-kept liveAppend x f k = absurd (some-ne-none m f)
+  marked-kept replay_append x f k = absurd (some-ne-none m f)
+  marked-kept replay_rewrite x f k = k.own refl
+  marked-kept live_append x f k = absurd (some-ne-none m f)
   marked-kept (live_rewrite g s) x f k = absurd (some-ne-none m f)
 
 -- ---- by the call
@@ -68,6 +68,6 @@ module _ (file : FileId) (items es ds xs bs : List ℕ) (r : Answer) (ys fs : Li
   plain-written c seq f a =
       same-answered (writes_it c file items es ds xs bs) (written c seq (items_of items es ds)) xs bs r ys fs (rw f) a
 
-  pub replay-written : Answered (written replayRewrite file.seq (items_of items es ds)) xs bs r ys fs → Answered (replay_batch Rewrite (batch_of file items es ds)) xs bs r ys fs
+  pub replay-written : Answered (written replay_rewrite file.seq (items_of items es ds)) xs bs r ys fs → Answered (replay_batch Rewrite (batch_of file items es ds)) xs bs r ys fs
   unfolding written replay_batch checked run_batch batch_of mark_for is_rewrite_replay
-  replay-written a = same-answered (replay_batch Rewrite (batch_of file items es ds)) (written replayRewrite file.seq (items_of items es ds)) xs bs r ys fs refl a
+  replay-written a = same-answered (replay_batch Rewrite (batch_of file items es ds)) (written replay_rewrite file.seq (items_of items es ds)) xs bs r ys fs refl a

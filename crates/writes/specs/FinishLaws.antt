@@ -8,7 +8,7 @@ use Rattle.std.proofs.lemmas.List.{length-map}
 use Rattle.maps.specs.OrderLaws.{split}
 use Rattle.maps.specs.Lists.{select}
 use Rattle.rules.specs.Causes.{Result, ok, and_then, left}
-use Rattle.rules.specs.Items.{LogItem, Placed, placed_at, placed_from, is_mark, replayRewrite}
+use Rattle.rules.specs.Items.{LogItem, Placed, placed_at, placed_from, is_mark, replay_rewrite}
 use Rattle.rules.specs.Table.{Span}
 use Rattle.rules.specs.Context.{Context, fits, limited, run}
 use Rattle.rules.specs.Waiting.{set_span, finish_group}
@@ -89,20 +89,20 @@ module _ (at tag : ℕ) (its : List LogItem) (xs bs : List ℕ) where
 
 -- ---- both runs and the span
 
-finish_any : (p : Option ℕ) (g : ℕ) (s : Span) (l : List Placed) (c : Context) → (l ≡ [] → ⊥) → finish_group limited p g s l c ≡ and_then (run limited replayRewrite l c) (set_span limited p g s)
+finish_any : (p : Option ℕ) (g : ℕ) (s : Span) (l : List Placed) (c : Context) → (l ≡ [] → ⊥) → finish_group limited p g s l c ≡ and_then (run limited replay_rewrite l c) (set_span limited p g s)
 unfolding finish_group
 finish_any p g s [] c n = absurd (n refl)
 finish_any p g s (x ∷ l) c n = refl
 
 module _ (at tag g : ℕ) (s : Span) (its : List LogItem) (xs bs : List ℕ) where
   abbrev owns : Context → Result Context
-  owns = run limited replayRewrite (placed_from 0 its)
+  owns = run limited replay_rewrite (placed_from 0 its)
 
-  both_runs : (c : Context) → fits c ≡ true → run limited replayRewrite (both_items at tag its xs bs) c ≡ and_then (run_stored tag 0 xs bs (some at) c) owns
+  both_runs : (c : Context) → fits c ≡ true → run limited replay_rewrite (both_items at tag its xs bs) c ≡ and_then (run_stored tag 0 xs bs (some at) c) owns
   unfolding run run_stored
   both_runs c h =
       in_order-append _ (placed_at (some at) (stored_from tag 0 xs bs)) (plain (placed_from 0 its)) c
-      ∙ and_then_same_at (run_stored tag 0 xs bs (some at) c) _ _ (λ d e. run-plain replayRewrite (placed_from 0 its) d (run_fits replayRewrite (placed_at (some at) (stored_from tag 0 xs bs)) c d h e))
+      ∙ and_then_same_at (run_stored tag 0 xs bs (some at) c) _ _ (λ d e. run-plain replay_rewrite (placed_from 0 its) d (run_fits replay_rewrite (placed_at (some at) (stored_from tag 0 xs bs)) c d h e))
 
   pub finish-runs : (c : Context) → fits c ≡ true → HasAny true (both_items at tag its xs bs) → finish_stored at tag g s its xs bs c ≡ both_run at tag g s its xs bs c
   unfolding finish_stored both_run

@@ -4,7 +4,7 @@ use Rattle.std.proofs.Math.Option.{Option, some}
 use Rattle.maps.specs.Lists.{every}
 use Rattle.maps.specs.Maps.{store, numbers}
 use Rattle.rules.specs.Causes.{Result, and_then}
-use Rattle.rules.specs.Items.{LogItem, Placed, placed_at, placed_from, replayRewrite}
+use Rattle.rules.specs.Items.{LogItem, Placed, placed_at, placed_from, replay_rewrite}
 use Rattle.rules.specs.Table.{Span, spanned}
 use Rattle.rules.specs.Context.{Part, Context, with_waiting, limited, run}
 use Rattle.rules.specs.Waiting.{some_parts, set_span, finish_group}
@@ -38,21 +38,21 @@ stored_from tag j xs bs = items_with tag (drop j (tagged (waiting_numbers xs) (w
 
 -- they are carried out, a refusal at place p
 unfoldable pub run_stored : ℕ → ℕ → List ℕ → List ℕ → Option ℕ → Context → Result Context
-run_stored tag j xs bs p = run limited replayRewrite (placed_at p (stored_from tag j xs bs))
+run_stored tag j xs bs p = run limited replay_rewrite (placed_at p (stored_from tag j xs bs))
 
 -- item j, if it has the tag, and then those behind it
 pub record TurnedFrom (tag j : ℕ) (xs bs : List ℕ) (r : Outcome) (xs' bs' : List ℕ) : Type 0 where
   pub rule : (p : Option ℕ) → run_stored tag j xs bs p (context_of xs bs) ≡ and_then (outcome_at p r (context_of xs' bs')) (run_stored tag (suc j) xs bs p)
   pub passed : every is_passed (stored_from tag (suc j) xs bs) ≡ true
   pub back : BackKept xs bs xs' bs'
-  pub own : r ≡ Done → Keeping replayRewrite (context_of xs' bs')
+  pub own : r ≡ Done → Keeping replay_rewrite (context_of xs' bs')
   pub formed : Formed xs' bs'
 
 -- items in order, after which a batch can go back
 pub record Ran (to : Context → Result Context) (xs bs : List ℕ) (r : Answer) (xs' bs' : List ℕ) : Type 0 where
   pub answers : answer_as r (context_of xs' bs') ≡ to (context_of xs bs)
   pub back : BackKept xs bs xs' bs'
-  pub own : r ≡ answer.Accepted → Keeping replayRewrite (context_of xs' bs')
+  pub own : r ≡ answer.Accepted → Keeping replay_rewrite (context_of xs' bs')
   pub formed : Formed xs' bs'
 
 -- whether a list has an element
@@ -89,7 +89,7 @@ finish_stored at tag group s items xs bs = finish_group limited (some at) group 
 -- the same where there is an item: the items that waited, the batch's own, and the span
 unfoldable pub both_run : ℕ → ℕ → ℕ → Span → List LogItem → List ℕ → List ℕ → Context → Result Context
 both_run at tag group s items xs bs c =
-    and_then (and_then (run_stored tag 0 xs bs (some at) c) (run limited replayRewrite (placed_from 0 items))) (set_span limited (some at) group s)
+    and_then (and_then (run_stored tag 0 xs bs (some at) c) (run limited replay_rewrite (placed_from 0 items))) (set_span limited (some at) group s)
 
 -- the room of an area is written with numbers ws and bytes vs
 pub record RoomWritten (ws vs xs bs xs' bs' : List ℕ) : Type 0 where

@@ -11,7 +11,7 @@ use Rattle.maps.specs.Lists.{or_else}
 use Rattle.maps.specs.Maps.{Map, lookup, insert, numbers}
 use Rattle.maps.specs.MapLaws.{Ascending, lookup-insert_same, insert-again, insert-insert, length-insert-none, length-insert-some}
 use Rattle.rules.specs.Limits.{max_groups}
-use Rattle.rules.specs.Causes.{Refusal, Result, ok, refused, refuse_at, and_then, limitPassed}
+use Rattle.rules.specs.Causes.{Refusal, Result, ok, refused, refuse_at, and_then, limit_passed}
 use Rattle.rules.specs.Table.{Span, Table, empty_table, made, spanned, span_goes_back, with_span}
 use Rattle.rules.specs.Context.{Context, with_groups, table_fits, fits, limited}
 use Rattle.rules.specs.Waiting.{set_span}
@@ -71,7 +71,7 @@ module _ (g : ℕ) (s : Span) (p : Option ℕ) (c : Context) (h : fits c ≡ tru
       (λ t e. absurd (clash (sym (rw e at f) ∙ held_fits t e)))
 
   -- the span is set, and the limits judge
-  spans_to : span_goes_back was.span s ≡ false → set_span limited p g s c ≡ cond (with-fits was) (ok (with_groups (insert numbers g (with_span (some s) was) m) c)) (refuse_at limitPassed p)
+  spans_to : span_goes_back was.span s ≡ false → set_span limited p g s c ≡ cond (with-fits was) (ok (with_groups (insert numbers g (with_span (some s) was) m) c)) (refuse_at limit_passed p)
   unfolding set_span spanned and_then
   spans_to b =
       rw b

@@ -10,7 +10,7 @@ use Rattle.maps.specs.BoolLaws.{both_left, both_right}
 use Rattle.maps.specs.Lists.{every}
 use Rattle.maps.specs.ListLaws.{every-head, every-tail}
 use Rattle.rules.specs.Causes.{Result, ok, and_then, in_order}
-use Rattle.rules.specs.Items.{entries, LogItem, placed_at, placed_from, is_reserved, replayRewrite, is_live_rewrite}
+use Rattle.rules.specs.Items.{entries, LogItem, placed_at, placed_from, is_reserved, replay_rewrite, is_live_rewrite}
 use Rattle.rules.specs.Checks.{long, is_out_of_range, is_other_queue, is_not_rewritable, meets3, unless_reserved, checks}
 use Rattle.rules.specs.Context.{Context, limited, run}
 use Rattle.rules_by_group.specs.Kept.{is_passed}
@@ -53,20 +53,20 @@ back-then xs bs ys ds zs es a b =
 
 -- ---- an item that passed the checks
 
-pub passed-clear : (it : LogItem) → is_passed it ≡ true → is_reserved it.content ≡ false → Clear replayRewrite it.content
+pub passed-clear : (it : LogItem) → is_passed it ≡ true → is_reserved it.content ≡ false → Clear replay_rewrite it.content
 unfolding is_passed meets3 unless_reserved is_not_rewritable is_live_rewrite
 passed-clear it p r =
     let a = not (long it.content) in
-    let b = not (meets3 replayRewrite it.content) in
+    let b = not (meets3 replay_rewrite it.content) in
     let c = not (unless_reserved is_out_of_range 0 it) in
-    let d = not (unless_reserved (is_other_queue replayRewrite) 0 it) in
+    let d = not (unless_reserved (is_other_queue replay_rewrite) 0 it) in
     let abc = both_left (a && b && c) d p in
     let ab = both_left (a && b) c abc in
     record {
       short = not-true (long it.content) (both_left a b ab);
-      complete = rw r at (not-true (meets3 replayRewrite it.content) (both_right a b ab));
+      complete = rw r at (not-true (meets3 replay_rewrite it.content) (both_right a b ab));
       in-range = rw r at (not-true (unless_reserved is_out_of_range 0 it) (both_right (a && b) c abc));
-      own-queue = rw r at (not-true (unless_reserved (is_other_queue replayRewrite) 0 it) (both_right (a && b && c) d p));
+      own-queue = rw r at (not-true (unless_reserved (is_other_queue replay_rewrite) 0 it) (both_right (a && b && c) d p));
       rewritable = refl;
     }
 
@@ -101,11 +101,11 @@ module _ (tag j : ℕ) (xs bs : List ℕ) (w : Formed xs bs) (h : j < waiting_co
     unfolding stored_from
     stored_past = with-past tag all j nothing inside n
 
-    pub turned-past : Undoable xs bs → Keeping replayRewrite (context_of xs bs) → every is_passed (stored_from tag j xs bs) ≡ true → TurnedFrom tag j xs bs Done xs bs
+    pub turned-past : Undoable xs bs → Keeping replay_rewrite (context_of xs bs) → every is_passed (stored_from tag j xs bs) ≡ true → TurnedFrom tag j xs bs Done xs bs
     unfolding run_stored and_then
     turned-past u k p =
         record {
-          rule = λ q. ap (λ (l : List LogItem). run limited replayRewrite (placed_at q l) (context_of xs bs)) stored_past;
+          rule = λ q. ap (λ (l : List LogItem). run limited replay_rewrite (placed_at q l) (context_of xs bs)) stored_past;
           passed = rw stored_past at p;
           back = back_all xs bs u;
           own = λ e. k;
@@ -125,19 +125,19 @@ module _ (tag j : ℕ) (xs bs : List ℕ) (w : Formed xs bs) (h : j < waiting_co
       item-passed : is_passed (item_of it es ds) ≡ true
       item-passed = every-head is_passed (item_of it es ds) (stored_from tag (suc j) xs bs) (rw item-is at p)
 
-      pub copied-ready : ItemReady replayRewrite it es ds
+      pub copied-ready : ItemReady replay_rewrite it es ds
       copied-ready = record { lent_is = c.lent; bare = c.bare; clear = passed-clear (item_of it es ds) item-passed }
 
-      turned-rule : (r : Outcome) (ys fs : List ℕ) → Stepped replayRewrite (item_of it es ds) false xs bs r ys fs → (q : Option ℕ) → run_stored tag j xs bs q (context_of xs bs) ≡ and_then (outcome_at q r (context_of ys fs)) (run_stored tag (suc j) xs bs q)
+      turned-rule : (r : Outcome) (ys fs : List ℕ) → Stepped replay_rewrite (item_of it es ds) false xs bs r ys fs → (q : Option ℕ) → run_stored tag j xs bs q (context_of xs bs) ≡ and_then (outcome_at q r (context_of ys fs)) (run_stored tag (suc j) xs bs q)
       unfolding run_stored run in_order placed_at
       turned-rule r ys fs s q = rw (item-is, s.rule q)
 
-      turned-own : (r : Outcome) (ys fs : List ℕ) → Keeping replayRewrite (context_of xs bs) → Stepped replayRewrite (item_of it es ds) false xs bs r ys fs → r ≡ Done → Keeping replayRewrite (context_of ys fs)
+      turned-own : (r : Outcome) (ys fs : List ℕ) → Keeping replay_rewrite (context_of xs bs) → Stepped replay_rewrite (item_of it es ds) false xs bs r ys fs → r ≡ Done → Keeping replay_rewrite (context_of ys fs)
       turned-own r ys fs k s d =
           let f = rw d at s in
-          keeping_step replayRewrite (record { item = item_of it es ds; place = none }) (context_of xs bs) (context_of ys fs) (λ y. passed-clear (item_of it es ds) item-passed) k (sym (f.rule none))
+          keeping_step replay_rewrite (record { item = item_of it es ds; place = none }) (context_of xs bs) (context_of ys fs) (λ y. passed-clear (item_of it es ds) item-passed) k (sym (f.rule none))
 
-      pub turned_here : (r : Outcome) (ys fs : List ℕ) → Keeping replayRewrite (context_of xs bs) → Stepped replayRewrite (item_of it es ds) false xs bs r ys fs → TurnedFrom tag j xs bs r ys fs
+      pub turned_here : (r : Outcome) (ys fs : List ℕ) → Keeping replay_rewrite (context_of xs bs) → Stepped replay_rewrite (item_of it es ds) false xs bs r ys fs → TurnedFrom tag j xs bs r ys fs
       turned_here r ys fs k s =
           record {
             rule = turned-rule r ys fs s;
@@ -167,11 +167,11 @@ pub record StoredUnder (tag : ℕ) (xs bs : List ℕ) (j : ℕ) (ys ds : List �
   pub rest : (p : Option ℕ) → run_stored tag j xs bs p (context_of ys ds) ≡ run_stored tag 0 xs bs p (context_of xs bs)
   pub passed : every is_passed (stored_from tag j xs bs) ≡ true
   pub back : BackKept xs bs ys ds
-  pub own : Keeping replayRewrite (context_of ys ds)
+  pub own : Keeping replay_rewrite (context_of ys ds)
   pub formed : Formed ys ds
 
 module _ (tag : ℕ) (xs bs : List ℕ) where
-  pub stored-start : Formed xs bs → Undoable xs bs → Keeping replayRewrite (context_of xs bs) → every is_passed (stored_from tag 0 xs bs) ≡ true → StoredUnder tag xs bs 0 xs bs
+  pub stored-start : Formed xs bs → Undoable xs bs → Keeping replay_rewrite (context_of xs bs) → every is_passed (stored_from tag 0 xs bs) ≡ true → StoredUnder tag xs bs 0 xs bs
   stored-start w u k p = record { rest = λ q. refl; passed = p; back = back_all xs bs u; own = k; formed = w }
 
   module _ (j : ℕ) (ys ds : List ℕ) (s : StoredUnder tag xs bs j ys ds) where
@@ -238,35 +238,35 @@ module _ (tag : ℕ) (xs bs : List ℕ) (w : Formed xs bs) (j : ℕ) (s : stored
 -- ---- the loop over the batch's own items, from (ys, ds)
 
 pub record OwnUnder (items es bs : List ℕ) (n : ℕ) (ys ds : List ℕ) (i : ℕ) (xs fs : List ℕ) : Type 0 where
-  pub rest : run_from replayRewrite items es bs n i (context_of xs fs) ≡ run_from replayRewrite items es bs n 0 (context_of ys ds)
+  pub rest : run_from replay_rewrite items es bs n i (context_of xs fs) ≡ run_from replay_rewrite items es bs n 0 (context_of ys ds)
   pub back : BackKept ys ds xs fs
-  pub own : Keeping replayRewrite (context_of xs fs)
+  pub own : Keeping replay_rewrite (context_of xs fs)
   pub formed : Formed xs fs
 
 module _ (items es bs : List ℕ) (n : ℕ) (q : n ≡ row_count_of items) (ys ds : List ℕ) where
-  pub own-start : Formed ys ds → Undoable ys ds → Keeping replayRewrite (context_of ys ds) → OwnUnder items es bs n ys ds 0 ys ds
+  pub own-start : Formed ys ds → Undoable ys ds → Keeping replay_rewrite (context_of ys ds) → OwnUnder items es bs n ys ds 0 ys ds
   own-start w u k = record { rest = refl; back = back_all ys ds u; own = k; formed = w }
 
   abbrev runs : Context → Result Context
-  runs = run limited replayRewrite (placed_from 0 (items_of items es bs))
+  runs = run limited replay_rewrite (placed_from 0 (items_of items es bs))
 
   module _ (i : ℕ) (xs fs : List ℕ) (u : OwnUnder items es bs n ys ds i xs fs) where
     abbrev here : LogItem
     here = item_at es bs (drop (i * 9) items)
 
-    pub own-more : i < n → checks replayRewrite (items_of items es bs) ≡ none → (zs gs : List ℕ) → Stepped replayRewrite here false xs fs Done zs gs → OwnUnder items es bs n ys ds (i + 1) zs gs
+    pub own-more : i < n → checks replay_rewrite (items_of items es bs) ≡ none → (zs gs : List ℕ) → Stepped replay_rewrite here false xs fs Done zs gs → OwnUnder items es bs n ys ds (i + 1) zs gs
     own-more l p zs gs s =
         record {
-          rest = sym (run-done replayRewrite items es bs n i (context_of xs fs) (context_of zs gs) l (sym (s.rule (some i)))) ∙ u.rest;
+          rest = sym (run-done replay_rewrite items es bs n i (context_of xs fs) (context_of zs gs) l (sym (s.rule (some i)))) ∙ u.rest;
           back = back-then ys ds xs fs zs gs u.back (s.kept refl);
-          own = keeping_step replayRewrite (record { item = here; place = some i }) (context_of xs fs) (context_of zs gs) (item-clear replayRewrite items es bs i p (rw q at l)) u.own (sym (s.rule (some i)));
+          own = keeping_step replay_rewrite (record { item = here; place = some i }) (context_of xs fs) (context_of zs gs) (item-clear replay_rewrite items es bs i p (rw q at l)) u.own (sym (s.rule (some i)));
           formed = s.formed;
         }
 
-    pub own-refused : i < n → (k : ℕ) (zs gs : List ℕ) → Stepped replayRewrite here false xs fs (Refused k) zs gs → Ran runs ys ds (answer.Refused k (position.At i)) zs gs
+    pub own-refused : i < n → (k : ℕ) (zs gs : List ℕ) → Stepped replay_rewrite here false xs fs (Refused k) zs gs → Ran runs ys ds (answer.Refused k (position.At i)) zs gs
     own-refused l k zs gs s =
         record {
-          answers = unfold answer_as position_of in (sym (run-refused replayRewrite items es bs n i (context_of xs fs) _ l (sym (s.rule (some i)))) ∙ u.rest ∙ run-start replayRewrite items es bs n (context_of ys ds) q);
+          answers = unfold answer_as position_of in (sym (run-refused replay_rewrite items es bs n i (context_of xs fs) _ l (sym (s.rule (some i)))) ∙ u.rest ∙ run-start replay_rewrite items es bs n (context_of ys ds) q);
           back = back-then ys ds xs fs zs gs u.back (s.kept refl);
           own = λ a. absurd (accepted-not a);
           formed = s.formed;
@@ -279,7 +279,7 @@ module _ (items es bs : List ℕ) (n : ℕ) (q : n ≡ row_count_of items) (ys d
     unfolding answer_as
     own_all l =
         record {
-          answers = sym (run_end replayRewrite items es bs n i (context_of xs fs) l) ∙ u.rest ∙ run-start replayRewrite items es bs n (context_of ys ds) q;
+          answers = sym (run_end replay_rewrite items es bs n i (context_of xs fs) l) ∙ u.rest ∙ run-start replay_rewrite items es bs n (context_of ys ds) q;
           back = u.back;
           own = λ a. u.own;
           formed = u.formed;

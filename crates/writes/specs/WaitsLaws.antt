@@ -11,7 +11,7 @@ use Rattle.maps.specs.Lists.{select, every, or_else}
 use Rattle.maps.specs.Maps.{Pair, Map, lookup, insert, store, numbers, equal_bytes}
 use Rattle.rules.specs.Limits.{max_groups, max_tombstones, max_cleaned, reserved_key}
 use Rattle.rules.specs.Causes.{Refusal, Result, ok, refused, and_then, in_order, placed}
-use Rattle.rules.specs.Items.{Append, same_queue, Content, entries, command, kv, del, put, LogItem, Placed, is_reserved, is_clean, is_tombstone, is_mark, mark_byte, writes, Call, replayRewrite}
+use Rattle.rules.specs.Items.{Append, same_queue, Content, entries, command, kv, del, put, LogItem, Placed, is_reserved, is_clean, is_tombstone, is_mark, mark_byte, writes, Call, replay_rewrite}
 use Rattle.rules.specs.Table.{Span, Table, made, change, spanned}
 use Rattle.rules.specs.Context.{Part, Context, with_groups, with_cleaned, with_tombstones, with_waiting, table_fits, waiting_fits, fits, limited, keeps, add_cleaned, add_tombstone, act, step, run}
 use Rattle.rules.specs.Waiting.{set_span, finish_group}
@@ -137,9 +137,9 @@ module _ (w : Map ℕ (List Part)) (f : waiting_fits w ≡ true) where
   unfolding finish_group
   finish_with_lem p g s [] c h = unfold waiting_with and_then in refl
   finish_with_lem p g s (x ∷ xs) c h =
-      by_result (run limited replayRewrite (x ∷ xs) c)
-      (λ d e. rw (run_with replayRewrite (x ∷ xs) c h ∙ with_ok w f (run limited replayRewrite (x ∷ xs) c) d e, e) (unfold and_then in span_with p g s d (run_fits replayRewrite (x ∷ xs) c d h e)))
-      (λ r e. rw (run_with replayRewrite (x ∷ xs) c h ∙ with-refused w f (run limited replayRewrite (x ∷ xs) c) r e, e) (unfold and_then waiting_with in refl))
+      by_result (run limited replay_rewrite (x ∷ xs) c)
+      (λ d e. rw (run_with replay_rewrite (x ∷ xs) c h ∙ with_ok w f (run limited replay_rewrite (x ∷ xs) c) d e, e) (unfold and_then in span_with p g s d (run_fits replay_rewrite (x ∷ xs) c d h e)))
+      (λ r e. rw (run_with replay_rewrite (x ∷ xs) c h ∙ with-refused w f (run limited replay_rewrite (x ∷ xs) c) r e, e) (unfold and_then waiting_with in refl))
 
 -- ---- marks
 

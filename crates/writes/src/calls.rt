@@ -17,7 +17,7 @@ use pipe_log::{FileId, Gate, LogQueue};
 
 // Whether an area is the index.
 fn is_index(kind: Kind) -> bool
-    ensures { result ≡ rules.isIndex (kind_as kind) }
+    ensures { result ≡ rules.is_index (kind_as kind) }
 {
     match kind {
         Kind::Context(queue) => false,
@@ -37,7 +37,7 @@ pub fn wrong_kind() -> Answer
 
 // Whether an area is the index and a batch's file is of the queue that the call writes.
 fn takes(kind: Kind, file: LogQueue, writes: LogQueue) -> bool
-    ensures { result ≡ rules.isIndex (kind_as kind) && same_queue file writes }
+    ensures { result ≡ rules.is_index (kind_as kind) && same_queue file writes }
 {
     if !is_index(kind) {
         return false;

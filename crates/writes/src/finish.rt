@@ -4,7 +4,7 @@ ghost use Rattle.std.specs.Prelude.{true, List, ◌∷◌, ◌≡◌, ℕ, ◌+�
 ghost use Rattle.std.proofs.Math.Option.{none, some};
 ghost use Rattle.maps.specs.Lists.{every};
 ghost use Rattle.maps.specs.MapLaws.{pair};
-ghost use Rattle.rules.specs.Items.{Rewrite, placed_from, replayRewrite};
+ghost use Rattle.rules.specs.Items.{Rewrite, placed_from, replay_rewrite};
 ghost use Rattle.rules.specs.Checks.{checks};
 ghost use Rattle.rules.specs.Context.{Part, context};
 ghost use Rattle.rules.specs.Waiting.{replay_marked};
@@ -36,7 +36,7 @@ const START: usize = NEWEST_AT + 2;
 // Whether a finished group has an item, one that waited with the tag or one of the batch's own.
 fn has_items(xs: &[u64], tag: u64, items: &[u64], entries: &[u64], bytes: &[u8]) -> bool
     requires xs_len { (length xs.now ≡ 17231) × (waiting_count xs.now ≤ 128) }
-    requires bytes_value { checks replayRewrite (items_of items.now entries.now bytes.now) ≡ none }
+    requires bytes_value { checks replay_rewrite (items_of items.now entries.now bytes.now) ≡ none }
     ensures { (at : ℕ) (bs : List ℕ) → Formed xs.now bs → HasAny result (both_items at tag (items_of items.now entries.now bytes.now) xs.now bs) }
 {
     if holds_any(xs, tag) {
@@ -64,9 +64,9 @@ fn run_both(
 ) -> Answer
     requires formed { Formed xs.old bs.old }
     requires undoable { Undoable xs.old bs.old }
-    requires bytes_value { checks replayRewrite (items_of items.now entries.now bytes.now) ≡ none }
+    requires bytes_value { checks replay_rewrite (items_of items.now entries.now bytes.now) ≡ none }
     requires bs_value { every is_passed (stored_from tag 0 xs.old bs.old) ≡ true }
-    requires keeping { Keeping replayRewrite (context_of xs.old bs.old) }
+    requires keeping { Keeping replay_rewrite (context_of xs.old bs.old) }
     ensures { Ended (both_run mark.at tag mark.raft_group_id (record { start = start; end = seq }) (items_of items.now entries.now bytes.now) xs.old bs.old) xs.old bs.old result xs.new bs.new }
 {
     let at = mark.at;
@@ -94,9 +94,9 @@ fn finish_items(
     bytes: &[u8],
 ) -> Answer
     requires formed { Formed xs.old bs.old }
-    requires bytes_value { checks replayRewrite (items_of items.now entries.now bytes.now) ≡ none }
+    requires bytes_value { checks replay_rewrite (items_of items.now entries.now bytes.now) ≡ none }
     requires bs_value { every is_passed (stored_from tag 0 xs.old bs.old) ≡ true }
-    requires keeping { Keeping replayRewrite (context_of xs.old bs.old) }
+    requires keeping { Keeping replay_rewrite (context_of xs.old bs.old) }
     ensures { AnsweredKept (finish_stored mark.at tag mark.raft_group_id (record { start = start; end = seq }) (items_of items.now entries.now bytes.now) xs.old bs.old) xs.old bs.old result xs.new bs.new }
 {
     if !has_items(xs, tag, items, entries, bytes) {
@@ -148,7 +148,7 @@ pub fn finish(
 ) -> Answer
     requires formed { Formed xs.old bs.old }
     requires kept_at { KeptAt (context Rewrite) (context_of xs.old bs.old) }
-    requires bytes_value { checks replayRewrite (items_of items.now entries.now bytes.now) ≡ none }
+    requires bytes_value { checks replay_rewrite (items_of items.now entries.now bytes.now) ≡ none }
     requires finishing { Finishing mark.raft_group_id (part_for mark.byte seq (unmarked (items_of items.now entries.now bytes.now))) k (waiting_numbers xs.old) (waiting_bytes bs.old) }
     ensures { Answered (replay_marked (record { at = mark.at; group = mark.raft_group_id; byte = mark.byte }) seq (placed_from 0 (items_of items.now entries.now bytes.now))) xs.old bs.old result xs.new bs.new }
 {

@@ -1,7 +1,7 @@
 // Replay of a marked batch of the Rewrite queue: it waits, or finishes what waited.
 ghost use Rattle.std.proofs.Math.Option.{none};
 ghost use Rattle.std.specs.Prelude.{◌≡◌, length};
-ghost use Rattle.rules.specs.Items.{Rewrite, placed_from, replayRewrite};
+ghost use Rattle.rules.specs.Items.{Rewrite, placed_from, replay_rewrite};
 ghost use Rattle.rules.specs.Checks.{checks};
 ghost use Rattle.rules.specs.Context.{context};
 ghost use Rattle.rules.specs.Waiting.{replay_marked};
@@ -30,7 +30,7 @@ fn accept(
 ) -> Accepted
     requires xs_len { (length xs.old ≡ 17231) × (length bs.old ≡ 38912) }
     requires formed { Formed xs.old bs.old }
-    requires bytes_value { checks replayRewrite (items_of items.now entries.now bytes.now) ≡ none }
+    requires bytes_value { checks replay_rewrite (items_of items.now entries.now bytes.now) ≡ none }
     ensures { AcceptedIn mark.raft_group_id (part_for mark.byte seq (unmarked (items_of items.now entries.now bytes.now))) xs.old bs.old result xs.new bs.new }
 {
     let a = WAITING_FROM;
@@ -63,7 +63,7 @@ pub fn replay_marked(
 ) -> Answer
     requires formed { Formed xs.old bs.old }
     requires kept_at { KeptAt (context Rewrite) (context_of xs.old bs.old) }
-    requires bytes_value { checks replayRewrite (items_of items.now entries.now bytes.now) ≡ none }
+    requires bytes_value { checks replay_rewrite (items_of items.now entries.now bytes.now) ≡ none }
     ensures { Answered (replay_marked (record { at = mark.at; group = mark.raft_group_id; byte = mark.byte }) seq (placed_from 0 (items_of items.now entries.now bytes.now))) xs.old bs.old result xs.new bs.new }
 {
     let at = mark.at;

@@ -15,7 +15,7 @@ use pipe_log::{FileId, LogQueue};
 
 // Whether an area is a context of a queue.
 fn is_context(kind: Kind, queue: LogQueue) -> bool
-    ensures { result ≡ rules.isContext queue (kind_as kind) }
+    ensures { result ≡ rules.is_context queue (kind_as kind) }
 {
     match kind {
         Kind::Context(own) => same_queue(queue, own),

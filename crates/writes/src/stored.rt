@@ -2,7 +2,7 @@
 ghost use Rattle.std.specs.Prelude.{true, List, ◌≡◌, ℕ, ◌≤◌, ◌<◌, length};
 ghost use Rattle.std.proofs.Math.Option.{none, some};
 ghost use Rattle.maps.specs.Lists.{every};
-ghost use Rattle.rules.specs.Items.{placed_from, replayRewrite};
+ghost use Rattle.rules.specs.Items.{placed_from, replay_rewrite};
 ghost use Rattle.rules.specs.Checks.{checks};
 ghost use Rattle.rules.specs.Context.{limited, run};
 ghost use Rattle.rules_by_group.specs.Kept.{is_passed};
@@ -64,7 +64,7 @@ fn stored_turn(
     requires undoable { Undoable xs.old bs.old }
     requires j_bound { j < waiting_count xs.old }
     requires bs_value { every is_passed (stored_from tag j xs.old bs.old) ≡ true }
-    requires keeping { Keeping replayRewrite (context_of xs.old bs.old) }
+    requires keeping { Keeping replay_rewrite (context_of xs.old bs.old) }
     requires rows_len { (length rows.old ≡ 1024) × (length text.old ≡ 64) }
     ensures { TurnedFrom tag j xs.old bs.old result xs.new bs.new }
 {
@@ -95,7 +95,7 @@ fn run_stored_in(
     requires formed { Formed xs.old bs.old }
     requires undoable { Undoable xs.old bs.old }
     requires bs_value { every is_passed (stored_from tag 0 xs.old bs.old) ≡ true }
-    requires keeping { Keeping replayRewrite (context_of xs.old bs.old) }
+    requires keeping { Keeping replay_rewrite (context_of xs.old bs.old) }
     requires rows_len { (length rows.old ≡ 1024) × (length text.old ≡ 64) }
     ensures { Ran (run_stored tag 0 xs.old bs.old (some at)) xs.old bs.old result xs.new bs.new }
 {
@@ -119,7 +119,7 @@ pub fn run_stored(xs: &mut [u64], bs: &mut [u8], tag: u64, at: usize) -> Answer
     requires formed { Formed xs.old bs.old }
     requires undoable { Undoable xs.old bs.old }
     requires bs_value { every is_passed (stored_from tag 0 xs.old bs.old) ≡ true }
-    requires keeping { Keeping replayRewrite (context_of xs.old bs.old) }
+    requires keeping { Keeping replay_rewrite (context_of xs.old bs.old) }
     ensures { Ran (run_stored tag 0 xs.old bs.old (some at)) xs.old bs.old result xs.new bs.new }
 {
     let mut rows = [0u64; ROW_NUMBERS];
@@ -153,9 +153,9 @@ pub fn run_own(
 ) -> Answer
     requires formed { Formed xs.old bs.old }
     requires undoable { Undoable xs.old bs.old }
-    requires bytes_value { checks replayRewrite (items_of items.now entries.now bytes.now) ≡ none }
-    requires keeping { Keeping replayRewrite (context_of xs.old bs.old) }
-    ensures { Ran (run limited replayRewrite (placed_from 0 (items_of items.now entries.now bytes.now))) xs.old bs.old result xs.new bs.new }
+    requires bytes_value { checks replay_rewrite (items_of items.now entries.now bytes.now) ≡ none }
+    requires keeping { Keeping replay_rewrite (context_of xs.old bs.old) }
+    ensures { Ran (run limited replay_rewrite (placed_from 0 (items_of items.now entries.now bytes.now))) xs.old bs.old result xs.new bs.new }
 {
     let n = row_count(items);
     let mut i = 0;

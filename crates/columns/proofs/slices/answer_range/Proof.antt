@@ -1,6 +1,6 @@
 -- `columns::slices::answer_range` meets its contract. Assumes nothing.
 use mathlib.Core.Path.{refl}
-use Rattle.rules.specs.Causes.{entryCompacted, entryNotFound}
+use Rattle.rules.specs.Causes.{entry_compacted, entry_not_found}
 use Rattle.queries.specs.declared.Fetched.{TheVariants.EntryCompacted, TheVariants.EntryNotFound}
 use Rattle.columns.proofs.SliceWays.{range_fetched, refused_fetched}
 use Rattle.columns.proofs.slices.answer_range.Statement.{statement}
@@ -72,13 +72,13 @@ returns-2 : tie.Need-returns-2
 returns-2 c =
     let start = c.before.before.before.before.before.before.before.before.before.before.before in
     let enum_told = c.enum_told in
-    range_fetched start.args.head start.args.rows.now enum_told.given.1 (refused_fetched entryCompacted _ EntryCompacted refl)
+    range_fetched start.args.head start.args.rows.now enum_told.given.1 (refused_fetched entry_compacted _ EntryCompacted refl)
 
 returns-3 : tie.Need-returns-3
 returns-3 c =
     let start = c.before.before.before.before.before.before.before.before.before.before.before in
     let enum-told2 = c.enum-told2 in
-    range_fetched start.args.head start.args.rows.now enum-told2.given.1 (refused_fetched entryNotFound _ EntryNotFound refl)
+    range_fetched start.args.head start.args.rows.now enum-told2.given.1 (refused_fetched entry_not_found _ EntryNotFound refl)
 
 pub answer-range-spec : {M : Type 1} → statement M
 answer-range-spec =

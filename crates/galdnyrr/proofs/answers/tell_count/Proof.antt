@@ -1,5 +1,5 @@
 -- `galdnyrr::answers::tell_count` meets its contract. Assumes nothing.
-use Rattle.rules.specs.Causes.{groupAbsent}
+use Rattle.rules.specs.Causes.{group_absent}
 use Rattle.galdnyrr.proofs.AskedLaws.{value-refused, value-some}
 use borrow.Author.Rules.{rules}
 use Rattle.galdnyrr.proofs.answers.tell_count.Statement.{statement}
@@ -12,7 +12,7 @@ enum-known-counted : tie.Need-enum-known-counted
 enum-known-counted c = search rules
 
 returns : tie.Need-returns
-returns c = rw c.enum_told.given.1 (value-refused _ groupAbsent)
+returns c = rw c.enum_told.given.1 (value-refused _ group_absent)
 
 returns-2 : tie.Need-returns-2
 returns-2 c =

@@ -1,5 +1,5 @@
 -- `galdnyrr::answers::tell_entry` meets its contract. Assumes nothing.
-use Rattle.rules.specs.Causes.{groupAbsent}
+use Rattle.rules.specs.Causes.{group_absent}
 use Rattle.galdnyrr.proofs.AskedLaws.{entry-refused, entry-none, entry-short, entry-some}
 use borrow.Author.Rules.{rules}
 use Rattle.galdnyrr.proofs.answers.tell_entry.Statement.{statement}
@@ -23,7 +23,7 @@ lay-requires : tie.Need-lay-requires
 lay-requires c κs = search rules
 
 returns-2 : tie.Need-returns-2
-returns-2 c = rw c.enum_told.given.1 (entry-refused _ groupAbsent)
+returns-2 c = rw c.enum_told.given.1 (entry-refused _ group_absent)
 
 returns-3 : tie.Need-returns-3
 returns-3 c = rw c.enum-told2.given.1 (entry-none _)

@@ -1,5 +1,5 @@
 -- `galdnyrr::answers::tell_fetched` meets its contract. Assumes nothing.
-use Rattle.rules.specs.Causes.{groupAbsent, badRange, entryCompacted, entryNotFound, listTooShort}
+use Rattle.rules.specs.Causes.{group_absent, bad_range, entry_compacted, entry_not_found, list_too_short}
 use Rattle.galdnyrr.proofs.AskedLaws.{value-refused, value-some}
 use borrow.Author.Rules.{rules}
 use Rattle.galdnyrr.proofs.answers.tell_fetched.Statement.{statement}
@@ -29,19 +29,19 @@ returns c =
     rw fetched.given.1 (value-some _ _)
 
 returns-2 : tie.Need-returns-2
-returns-2 c = rw c.enum_told.given.1 (value-refused _ groupAbsent)
+returns-2 c = rw c.enum_told.given.1 (value-refused _ group_absent)
 
 returns-3 : tie.Need-returns-3
-returns-3 c = rw c.enum-told2.given.1 (value-refused _ badRange)
+returns-3 c = rw c.enum-told2.given.1 (value-refused _ bad_range)
 
 returns-4 : tie.Need-returns-4
-returns-4 c = rw c.enum-told3.given.1 (value-refused _ entryCompacted)
+returns-4 c = rw c.enum-told3.given.1 (value-refused _ entry_compacted)
 
 returns-5 : tie.Need-returns-5
-returns-5 c = rw c.enum-told4.given.1 (value-refused _ entryNotFound)
+returns-5 c = rw c.enum-told4.given.1 (value-refused _ entry_not_found)
 
 returns-6 : tie.Need-returns-6
-returns-6 c = rw c.enum-told5.given.1 (value-refused _ listTooShort)
+returns-6 c = rw c.enum-told5.given.1 (value-refused _ list_too_short)
 
 pub tell-fetched-spec : {M : Type 1} → statement M
 tell-fetched-spec =

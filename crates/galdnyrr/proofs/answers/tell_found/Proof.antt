@@ -1,5 +1,5 @@
 -- `galdnyrr::answers::tell_found` meets its contract. Assumes nothing.
-use Rattle.rules.specs.Causes.{groupAbsent}
+use Rattle.rules.specs.Causes.{group_absent}
 use Rattle.galdnyrr.proofs.AskedLaws.{found-refused, found_none, found_some}
 use borrow.Author.Rules.{rules}
 use Rattle.galdnyrr.proofs.answers.tell_found.Statement.{statement}
@@ -15,7 +15,7 @@ enum-known-found : tie.Need-enum-known-found
 enum-known-found c = search rules
 
 returns : tie.Need-returns
-returns c = rw c.enum_told.given.1 (found-refused _ groupAbsent)
+returns c = rw c.enum_told.given.1 (found-refused _ group_absent)
 
 returns-2 : tie.Need-returns-2
 returns-2 c = rw c.enum-told2.given.1 (found_none _)

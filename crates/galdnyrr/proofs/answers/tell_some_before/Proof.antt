@@ -1,5 +1,5 @@
 -- `galdnyrr::answers::tell_some_before` meets its contract. Assumes nothing.
-use Rattle.rules.specs.Causes.{groupAbsent, badRange}
+use Rattle.rules.specs.Causes.{group_absent, bad_range}
 use Rattle.galdnyrr.proofs.AskedLaws.{flag-refused, flag-some}
 use borrow.Author.Rules.{rules}
 use Rattle.galdnyrr.proofs.answers.tell_some_before.Statement.{statement}
@@ -18,10 +18,10 @@ flag-of-requires : tie.Need-flag-of-requires
 flag-of-requires c κs = search rules
 
 returns : tie.Need-returns
-returns c = rw c.enum_told.given.1 (flag-refused _ groupAbsent)
+returns c = rw c.enum_told.given.1 (flag-refused _ group_absent)
 
 returns-2 : tie.Need-returns-2
-returns-2 c = rw c.enum-told2.given.1 (flag-refused _ badRange)
+returns-2 c = rw c.enum-told2.given.1 (flag-refused _ bad_range)
 
 returns-3 : tie.Need-returns-3
 returns-3 c =

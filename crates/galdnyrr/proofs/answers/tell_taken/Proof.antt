@@ -1,5 +1,5 @@
 -- `galdnyrr::answers::tell_taken` meets its contract. Assumes nothing.
-use Rattle.rules.specs.Causes.{wrongKind, listTooShort}
+use Rattle.rules.specs.Causes.{wrong_kind, list_too_short}
 use Rattle.galdnyrr.proofs.AskedLaws.{value-refused, value-some}
 use borrow.Author.Rules.{rules}
 use Rattle.galdnyrr.proofs.answers.tell_taken.Statement.{statement}
@@ -20,10 +20,10 @@ returns c =
     rw taken.given.1 (value-some _ _)
 
 returns-2 : tie.Need-returns-2
-returns-2 c = rw c.enum_told.given.1 (value-refused _ wrongKind)
+returns-2 c = rw c.enum_told.given.1 (value-refused _ wrong_kind)
 
 returns-3 : tie.Need-returns-3
-returns-3 c = rw c.enum-told2.given.1 (value-refused _ listTooShort)
+returns-3 c = rw c.enum-told2.given.1 (value-refused _ list_too_short)
 
 pub tell-taken-spec : {M : Type 1} → statement M
 tell-taken-spec =

@@ -1,7 +1,7 @@
 -- `merging::waits::finish_waiting` meets its contract. Assumes nothing.
 use mathlib.Core.Path.{refl}
 use borrow.Author.Tests.{not-true, not-false}
-use Rattle.rules.specs.Causes.{filesGoBack}
+use Rattle.rules.specs.Causes.{files_go_back}
 use Rattle.staging.specs.ModeLaws.{waits_back}
 use Rattle.merging.proofs.FinishWays.{refused_with}
 use Rattle.merging.proofs.WaitWays.{parts_back, parts-wait}
@@ -33,7 +33,7 @@ returns c =
     let accept-waiting = c.before.before.before.before.accept-waiting in
     let if1 = c.before.if1 in
     let refuse = c.refuse in
-    rw refuse.ensures (refused_with _ filesGoBack 8 _ _ start.requires.0.wf refl (waits_back _ _ _ _ _ start.requires.0 start.requires.1.1 (parts_back _ _ _ accept-waiting.result (not-true accept-waiting.result if1.true) accept-waiting.ensures)))
+    rw refuse.ensures (refused_with _ files_go_back 8 _ _ start.requires.0.wf refl (waits_back _ _ _ _ _ start.requires.0 start.requires.1.1 (parts_back _ _ _ accept-waiting.result (not-true accept-waiting.result if1.true) accept-waiting.ensures)))
 
 slice-aggregate-end-waiting : tie.Need-slice-aggregate-end-waiting
 slice-aggregate-end-waiting c = search rules
