@@ -12,8 +12,8 @@ use Rattle.rules.specs.Checks.{consecutive, is_incomplete, is_other_queue, is_re
 use Rattle.rules.specs.Table.{made}
 use Rattle.rules.specs.Context.{context, Context, with_groups, limited, step}
 use Rattle.rules_by_group.specs.Kept.{entry_by, each_entry}
-use Rattle.rules_by_group.specs.KindLaws.{rewrite-made}
-use Rattle.rules_by_group.specs.RunLaws.{KeptAt, rewrite-keeps, step_keeps, queue-files}
+use Rattle.rules_by_group.proofs.KindLaws.{rewrite-made}
+use Rattle.rules_by_group.proofs.RunLaws.{KeptAt, rewrite-keeps, step_keeps, queue-files}
 use Rattle.log_batch.specs.Lent.{row_count_of, item_at, items_of, item_of}
 use Rattle.log_batch.specs.OpenLaws.{item-opened}
 use Rattle.log_batch.specs.PassedLaws.{passed-opens}

@@ -15,7 +15,7 @@ use Rattle.rules.specs.Items.{LogQueue}
 use Rattle.rules.specs.Table.{Table}
 use Rattle.rules.specs.Context.{Part, with_groups, with_waiting}
 use Rattle.rules.specs.Context as rules
-use Rattle.rules_by_group.specs.KeptLaws.{fresh_kept}
+use Rattle.rules_by_group.proofs.KeptLaws.{fresh_kept}
 use Rattle.groups.specs.Area.{groups_of}
 use Rattle.groups.specs.AreaLaws.{front_fits}
 use Rattle.groups.specs.Laws.{fresh}

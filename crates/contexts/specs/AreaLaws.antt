@@ -10,7 +10,7 @@ use Rattle.maps.specs.Lists.{sum}
 use Rattle.rules.specs.Causes.{Result, ok}
 use Rattle.rules.specs.Context.{Context, with_groups, with_waiting, waiting_fits, fits}
 use Rattle.rules_by_group.specs.Kept.{Kept}
-use Rattle.rules_by_group.specs.KeptLaws.{left-kept}
+use Rattle.rules_by_group.proofs.KeptLaws.{left-kept}
 use Rattle.groups.specs.Laws.{groups-fit}
 use Rattle.lists.specs.Rest.{tombstones_in, cleaned_in, rest_of}
 use Rattle.lists.specs.Calls.{Behind}

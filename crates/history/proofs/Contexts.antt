@@ -23,9 +23,9 @@ use Rattle.rules.specs.Calls.{merge_table}
 use Rattle.maps.specs.BoolLaws.{both_left, both_right, both}
 use Rattle.rules_by_group.specs.Group.{changed, effect, effected, tombed, tomb_of, clean_of, cleans_of}
 use Rattle.rules_by_group.specs.Kept.{all_tombstones}
-use Rattle.rules_by_group.specs.ItemLaws.{cleaned_by, kept_by, after, step_of, limited-fits, step-taken}
-use Rattle.rules_by_group.specs.RunLaws.{cleans-append, clean_tomb, tombs-append, tombs-nil, every_tomb}
-use Rattle.rules_by_group.specs.ResultLaws.{ok_inj}
+use Rattle.rules_by_group.proofs.ItemLaws.{cleaned_by, kept_by, after, step_of, limited-fits, step-taken}
+use Rattle.rules_by_group.proofs.RunLaws.{cleans-append, clean_tomb, tombs-append, tombs-nil, every_tomb}
+use Rattle.rules_by_group.proofs.ResultLaws.{ok_inj}
 use Rattle.history.proofs.Basics.{some-not-none, cond_same}
 use Rattle.history.proofs.Windows.{length_over}
 use Rattle.history.proofs.Group.{Good, GoodIf, Fit, Leaves, lay, lay-made, merged-entries, merged-keys, Simulated, simulate, good-change, good-effect}

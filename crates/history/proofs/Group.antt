@@ -19,7 +19,7 @@ use Rattle.rules.specs.Table.{Held, Table, empty_table, made, with_entries, with
 use Rattle.rules.specs.Calls.{over_of, merge_table}
 use Rattle.maps.specs.BoolLaws.{both}
 use Rattle.rules_by_group.specs.Group.{effect}
-use Rattle.rules_by_group.specs.ResultLaws.{ok_inj, refused_not_ok, and_then_ok, and_then_of}
+use Rattle.rules_by_group.proofs.ResultLaws.{ok_inj, refused_not_ok, and_then_ok, and_then_of}
 use Rattle.history.proofs.Windows.{over-nil, over-assoc, from-over, premise-over, above-over, consecutive-over, consecutive-from, over-cons}
 
 -- ---- tables

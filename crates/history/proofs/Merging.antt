@@ -18,10 +18,10 @@ use Rattle.rules.specs.Calls.{clashes, merge_table, merge}
 use Rattle.rules_by_group.specs.Group.{tombed, lay_over}
 use Rattle.rules_by_group.specs.Stage.{waiting_after, finished_tombs, merged_rest, merged_at}
 use Rattle.rules_by_group.specs.Kept.{entry_by, KeptBy, Kept}
-use Rattle.rules_by_group.specs.KindLaws.{kept_by_lem}
-use Rattle.rules_by_group.specs.ItemLaws.{limited-fits}
-use Rattle.rules_by_group.specs.MergeLaws.{unfinished, merge_of-groups}
-use Rattle.rules_by_group.specs.ByGroupLaws.{kept-accepts, merge-is}
+use Rattle.rules_by_group.proofs.KindLaws.{kept_by_lem}
+use Rattle.rules_by_group.proofs.ItemLaws.{limited-fits}
+use Rattle.rules_by_group.proofs.MergeLaws.{unfinished, merge_of-groups}
+use Rattle.rules_by_group.proofs.ByGroupLaws.{kept-accepts, merge-is}
 use Rattle.history.proofs.Windows.{no_gap}
 use Rattle.history.proofs.Group.{Good, GoodIf, lay, lay-made, merged-entries}
 use Rattle.history.proofs.Contexts.{GoodContext, Related}

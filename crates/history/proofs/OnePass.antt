@@ -17,7 +17,7 @@ use Rattle.rules.specs.Calls.{checked, run_batch, replay_batch, replay}
 use Rattle.history.specs.Held.{entries_held, appended_to, list_of, LeavesOrFindsNone}
 use Rattle.history.specs.Demand3.{entries_in}
 use Rattle.history.specs.Recovery.{one_pass, keep_if, history, items_of}
-use Rattle.rules_by_group.specs.ResultLaws.{ok_inj, refused_not_ok, and_then_ok}
+use Rattle.rules_by_group.proofs.ResultLaws.{ok_inj, refused_not_ok, and_then_ok}
 use Rattle.history.proofs.Group.{Leaves}
 use Rattle.history.proofs.Contexts.{GoodContext, good_step, LeavesAt}
 use Rattle.history.proofs.Passes.{AllFit, checks-fit, Steps, Pass, steps-good}

@@ -17,8 +17,8 @@ use Rattle.rules.specs.Checks.{consecutive, long, is_incomplete, is_out_of_range
 use Rattle.rules.specs.Context.{context, is_context, Context, fresh, limited, step, run}
 use Rattle.rules.specs.Calls.{checked, run_batch, replay_batch, replay, merge}
 use Rattle.maps.specs.BoolLaws.{neither_left, neither_right}
-use Rattle.rules_by_group.specs.ResultLaws.{ok_inj, and_then_of}
-use Rattle.rules_by_group.specs.RunLaws.{queue-files}
+use Rattle.rules_by_group.proofs.ResultLaws.{ok_inj, and_then_of}
+use Rattle.rules_by_group.proofs.RunLaws.{queue-files}
 use Rattle.history.proofs.Basics.{some-not-none}
 use Rattle.history.proofs.Group.{Fit, FitPut}
 use Rattle.history.proofs.Contexts.{FitIf, GoodContext, good_step, LeavesAt, Related, related-start, related_step}

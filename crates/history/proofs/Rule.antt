@@ -21,8 +21,8 @@ use Rattle.rules.specs.Context.{Context, fresh, limited, step}
 use Rattle.history.specs.Held.{ends_entry, entry_stays, list_of, appended_to, entries_held, ends_key, key_stays, held_of, put_of, put_to, key_held}
 use Rattle.history.specs.Demand3.{entries_in, key_in}
 use Rattle.rules_by_group.specs.Group.{changed}
-use Rattle.rules_by_group.specs.ItemLaws.{after, step-taken}
-use Rattle.rules_by_group.specs.ResultLaws.{ok_inj, and_then_ok}
+use Rattle.rules_by_group.proofs.ItemLaws.{after, step-taken}
+use Rattle.rules_by_group.proofs.ResultLaws.{ok_inj, and_then_ok}
 use Rattle.history.proofs.Windows.{either, over-nil, over-cons}
 use Rattle.history.proofs.Group.{GoodIf, good-made, Fit, FitPut, appended-is, change-entries, change-clean, change-compact, change-put, change-del}
 use Rattle.history.proofs.Contexts.{FitIf, GoodContext}

@@ -11,7 +11,7 @@ use Rattle.rules.specs.Queries.{take_cleaned, after_taking}
 use Rattle.history.specs.Held.{Premise}
 use Rattle.history.specs.Recovery.{one_pass, history, items_of, Runs, run, merged, batches_of, Made}
 use Rattle.history.specs.Demand3.{Last, Demand3, Claim, Reached}
-use Rattle.rules_by_group.specs.ResultLaws.{ok_inj}
+use Rattle.rules_by_group.proofs.ResultLaws.{ok_inj}
 use Rattle.history.proofs.Contexts.{GoodContext, good-fresh}
 use Rattle.history.proofs.Passes.{Pass, pass-good, pass_split, pass-unique, batch-replay, run-merges}
 use Rattle.history.proofs.Rule.{held-fresh}

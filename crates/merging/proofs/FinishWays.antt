@@ -13,8 +13,8 @@ use Rattle.rules.specs.Context.{Kind, context, index, is_context, Context, with_
 use Rattle.rules.specs.Calls.{merge, join, both}
 use Rattle.rules_by_group.specs.Stage.{rest_fits, merged_rest, joined_rest}
 use Rattle.rules_by_group.specs.Stage as staging
-use Rattle.rules_by_group.specs.KindLaws.{append-waits}
-use Rattle.rules_by_group.specs.ResultLaws.{refused_not_ok}
+use Rattle.rules_by_group.proofs.KindLaws.{append-waits}
+use Rattle.rules_by_group.proofs.ResultLaws.{refused_not_ok}
 use Rattle.groups.specs.Area.{slots, numbers_in_use, bytes_in_use, groups_of}
 use Rattle.groups.specs.Area as groups
 use Rattle.groups.specs.Laws.{front-groups, front_wf}

@@ -24,7 +24,7 @@ use Rattle.rules.specs.Context.{Part}
 use Rattle.rules.specs.Waiting.{Accepted, accept}
 use Rattle.rules_by_group.specs.Group.{Finished, finished_by, finished_of}
 use Rattle.rules_by_group.specs.Group as group
-use Rattle.rules_by_group.specs.ResultLaws.{by_option}
+use Rattle.rules_by_group.proofs.ResultLaws.{by_option}
 use Rattle.stores.specs.Tags.{Tagged, items_with}
 use Rattle.stores.specs.TagLaws.{with_here, with-past, with-end}
 use Rattle.room.specs.Rooms.{head_at, count_in, group_in, newest_tag, older_tag, newest, older, parts_of, cell_of, cells_of, items_in, area_in, waiting_in}

@@ -16,7 +16,7 @@ use Rattle.rules.specs.Context.{Part}
 use Rattle.rules.specs.Waiting.{Accepted, wait, finish, back, accept, some_parts}
 use Rattle.rules_by_group.specs.Group.{parts_of, waits, accept_part}
 use Rattle.rules_by_group.specs.Stage.{accept_parts_of, waiting_after}
-use Rattle.rules_by_group.specs.ResultLaws.{refusal_of, and_then_of, and_then-refused}
+use Rattle.rules_by_group.proofs.ResultLaws.{refusal_of, and_then_of, and_then-refused}
 use Rattle.stores.specs.Tags.{Tagged, items_with}
 use Rattle.room.specs.Rooms.{head_at, group_in, newest_tag, older_tag, newest, older}
 use Rattle.room.specs.Rooms as rooms

@@ -17,8 +17,8 @@ use Rattle.rules.specs.Context.{Part, entries_in}
 use Rattle.rules.specs.Waiting.{Accepted, wait, finish, back, joined, accept_by, accept, some_parts}
 use Rattle.rules_by_group.specs.Group.{parts_of, waits, accept_part}
 use Rattle.rules_by_group.specs.Stage.{accept_parts_of}
-use Rattle.rules_by_group.specs.ResultLaws.{ok_inj, refused_not_ok, and_then_ok, and_then_of, and_then-refused, and_then_same, and_then-unit}
-use Rattle.rules_by_group.specs.WaitingLaws.{after_is}
+use Rattle.rules_by_group.proofs.ResultLaws.{ok_inj, refused_not_ok, and_then_ok, and_then_of, and_then-refused, and_then_same, and_then-unit}
+use Rattle.rules_by_group.proofs.WaitingLaws.{after_is}
 use Rattle.room.specs.Rooms.{item_count, entry_count, waiting_items, waiting_entries}
 use Rattle.room.specs.Batches.{counts_for}
 use Rattle.room.specs.Layout.{waiting_of}

@@ -15,7 +15,7 @@ use Rattle.rules.specs.Causes.{Refusal, ok, refused, refuse, and_then, wrong_kin
 use Rattle.rules.specs.Items.{LogQueue}
 use Rattle.rules.specs.Context.{Context, is_index, with_groups, with_waiting, with_cleaned}
 use Rattle.rules.specs.Queries.{answered, lent_after, take_cleaned, after_taking}
-use Rattle.rules_by_group.specs.KeptLaws.{taking-kept}
+use Rattle.rules_by_group.proofs.KeptLaws.{taking-kept}
 use Rattle.groups.specs.Laws.{front-groups, front_wf}
 use Rattle.lists.specs.declared.Kind.{Kind}
 use Rattle.lists.specs.declared.Kind.TheVariants as kind

@@ -7,7 +7,7 @@ use Rattle.rules.specs.Causes.{Refusal, Result, ok, refused, left}
 use Rattle.rules.specs.Items.{Append, Batch}
 use Rattle.rules.specs.Context.{Context, fresh}
 use Rattle.rules.specs.Calls.{replay, merge, join, append, rewrite}
-use Rattle.rules_by_group.specs.ResultLaws.{refused_not_ok}
+use Rattle.rules_by_group.proofs.ResultLaws.{refused_not_ok}
 use Rattle.contexts.specs.declared.Answer.{Answer}
 use Rattle.contexts.specs.declared.Answer.TheVariants.{Accepted, Refused}
 use Rattle.contexts.specs.declared.Position.{Position}

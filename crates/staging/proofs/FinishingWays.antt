@@ -23,12 +23,12 @@ use Rattle.rules.specs.Context.{context, Part, Context, entries_in, waiting_fits
 use Rattle.rules.specs.Waiting.{Accepted, wait, finish, back, accept}
 use Rattle.rules_by_group.specs.Group.{Finished, parts_of, finished_by, finished_of, replayed_items, finish_with, finish_table}
 use Rattle.rules_by_group.specs.Kept.{entry_by, each_entry, is_passed, own_items, own_parts, Kept}
-use Rattle.rules_by_group.specs.PartLaws.{own-items-append, OwnAccepted, own_old, accept-own}
-use Rattle.rules_by_group.specs.EntryLaws.{items-meet, spanned-meets, own-each, own-passed}
-use Rattle.rules_by_group.specs.KindLaws.{own-made}
-use Rattle.rules_by_group.specs.ResultLaws.{by_option, ok_inj, refused_not_ok, and_then_ok}
-use Rattle.rules_by_group.specs.RoomLaws.{Within, within_more, finished-items, finished-entries, items-room}
-use Rattle.rules_by_group.specs.WaitingLaws.{all-kept, kept_of}
+use Rattle.rules_by_group.proofs.PartLaws.{own-items-append, OwnAccepted, own_old, accept-own}
+use Rattle.rules_by_group.proofs.EntryLaws.{items-meet, spanned-meets, own-each, own-passed}
+use Rattle.rules_by_group.proofs.KindLaws.{own-made}
+use Rattle.rules_by_group.proofs.ResultLaws.{by_option, ok_inj, refused_not_ok, and_then_ok}
+use Rattle.rules_by_group.proofs.RoomLaws.{Within, within_more, finished-items, finished-entries, items-room}
+use Rattle.rules_by_group.proofs.WaitingLaws.{all-kept, kept_of}
 use Rattle.stores.specs.declared.Store.{Store}
 use Rattle.stores.specs.Stores.{Area, area, Stored}
 use Rattle.stores.specs.Tags.{store_tagged, items_with}

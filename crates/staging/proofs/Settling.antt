@@ -22,7 +22,7 @@ use Rattle.rules.specs.Causes.{Result, ok, refused, Refusal}
 use Rattle.rules.specs.Table.{Table}
 use Rattle.rules.specs.Context.{table_fits}
 use Rattle.rules_by_group.specs.Stage.{Staged, stage_one, stage_all}
-use Rattle.rules_by_group.specs.StageLaws.{stage-again, stage-new, stage-none, stage-refused, stage-fits, stage-passes}
+use Rattle.rules_by_group.proofs.StageLaws.{stage-again, stage-new, stage-none, stage-refused, stage-fits, stage-passes}
 use Rattle.stretch.specs.Layout.{stretch_width, bytes_width}
 use Rattle.stretch.specs.Stretch.{table_in}
 use Rattle.stretch.specs.Stretch as stretch

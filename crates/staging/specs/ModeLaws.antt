@@ -13,9 +13,9 @@ use Rattle.rules.specs.Context.{Part, Context, with_groups}
 use Rattle.rules.specs.Calls.{clash}
 use Rattle.rules_by_group.specs.Kept.{Kept}
 use Rattle.rules_by_group.specs.Stage.{none_staged, stage_all, rest_fits, answer, waiting_after, merged_rest, merged_by, joined_by, Covers}
-use Rattle.rules_by_group.specs.StageLaws.{answer-clashed, answer-passed, answer_ok}
-use Rattle.rules_by_group.specs.ByGroupLaws.{merge_by-group, merged-waiting, merged_back, join_by-group}
-use Rattle.rules_by_group.specs.KeptLaws.{merge-kept, join_kept}
+use Rattle.rules_by_group.proofs.StageLaws.{answer-clashed, answer-passed, answer_ok}
+use Rattle.rules_by_group.proofs.ByGroupLaws.{merge_by-group, merged-waiting, merged_back, join_by-group}
+use Rattle.rules_by_group.proofs.KeptLaws.{merge-kept, join_kept}
 use Rattle.groups.specs.Area.{slots, numbers_in_use, bytes_in_use, stretch_at, groups_of}
 use Rattle.groups.specs.AreaLaws.{Same, same-groups, same_wf, same-stretch, same_bytes}
 use Rattle.groups.specs.Undo.{live_numbers, live_bytes}

@@ -11,7 +11,7 @@ use Rattle.maps.specs.OrderLaws.{split}
 use Rattle.rules.specs.Causes.{Result}
 use Rattle.rules.specs.Table.{Table}
 use Rattle.rules_by_group.specs.Stage.{Staged, none_staged, stage_all}
-use Rattle.rules_by_group.specs.StageLaws.{stage-append}
+use Rattle.rules_by_group.proofs.StageLaws.{stage-append}
 use Rattle.stretch.specs.Layout.{stretch_width, bytes_width, entries_at, entry_numbers}
 use Rattle.stretch.specs.Stretch.{is_used, head_part, entry_rows}
 use Rattle.stretch.specs.Stretch as stretch

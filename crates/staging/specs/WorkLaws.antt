@@ -16,10 +16,10 @@ use Rattle.rules.specs.Context.{context, Part, Context, table_fits}
 use Rattle.rules_by_group.specs.Group.{Finished, parts_of, finished_of, finish_table, lay_over, merged_group, joined_group, tombed}
 use Rattle.rules_by_group.specs.Stage.{merged_at, joined_at}
 use Rattle.rules_by_group.specs.Kept.{entry_by, Kept}
-use Rattle.rules_by_group.specs.KindLaws.{append-waits, own-made, queue-table}
-use Rattle.rules_by_group.specs.EntryLaws.{tombed-meets}
-use Rattle.rules_by_group.specs.ResultLaws.{by_option}
-use Rattle.rules_by_group.specs.RoomLaws.{Within, within_more, table-room, tombed-room}
+use Rattle.rules_by_group.proofs.KindLaws.{append-waits, own-made, queue-table}
+use Rattle.rules_by_group.proofs.EntryLaws.{tombed-meets}
+use Rattle.rules_by_group.proofs.ResultLaws.{by_option}
+use Rattle.rules_by_group.proofs.RoomLaws.{Within, within_more, table-room, tombed-room}
 use Rattle.worktable.specs.declared.Mode.{Mode}
 use Rattle.worktable.specs.declared.Mode.TheVariants as mode
 use Rattle.worktable.specs.Calls.{laid_over, newer_queue, AllOf, OlderFor, Layable}

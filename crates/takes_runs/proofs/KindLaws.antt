@@ -10,13 +10,13 @@ use Rattle.rules.specs.Items.{LogQueue, Append, Rewrite, same_queue, LogItem, Ba
 use Rattle.rules.specs.Checks.{checks}
 use Rattle.rules.specs.Context.{context, is_context, Context, with_groups, fresh}
 use Rattle.rules.specs.Calls.{checked, run_batch, replay_batch, replay, merge}
-use Rattle.rules_by_group.specs.ResultLaws.{by_option, refused_not_ok, and_then_ok}
+use Rattle.rules_by_group.proofs.ResultLaws.{by_option, refused_not_ok, and_then_ok}
 use Rattle.rules_by_group.specs.Kept.{Kept, entry_by, each_entry}
 use Rattle.rules_by_group.specs.Stage.{merged_rest}
-use Rattle.rules_by_group.specs.RunLaws.{append-keeps, run-keeps, batch-queue, every-placed}
-use Rattle.rules_by_group.specs.MergeLaws.{merged_deeds}
-use Rattle.rules_by_group.specs.ItemLaws.{limited_ok}
-use Rattle.rules_by_group.specs.ByGroupLaws.{kept-accepts, merge-is}
+use Rattle.rules_by_group.proofs.RunLaws.{append-keeps, run-keeps, batch-queue, every-placed}
+use Rattle.rules_by_group.proofs.MergeLaws.{merged_deeds}
+use Rattle.rules_by_group.proofs.ItemLaws.{limited_ok}
+use Rattle.rules_by_group.proofs.ByGroupLaws.{kept-accepts, merge-is}
 use Rattle.contexts.specs.declared.Answer.{Answer}
 use Rattle.contexts.specs.Contexts.{context_of, Called, FreshArea}
 use Rattle.contexts.specs.AreaLaws.{formed_of, area-length, area-bytes}

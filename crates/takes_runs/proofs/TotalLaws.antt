@@ -20,7 +20,7 @@ use Rattle.rules.specs.Items.{Append, Rewrite}
 use Rattle.rules.specs.Table.{Table, made, first_index_of}
 use Rattle.rules.specs.Context.{Context, with_groups}
 use Rattle.rules.specs.Queries.{in_group, answered, lent_after, group_numbers, live_entries}
-use Rattle.rules_by_group.specs.ResultLaws.{ok_inj, refused_not_ok}
+use Rattle.rules_by_group.proofs.ResultLaws.{ok_inj, refused_not_ok}
 use Rattle.groups.specs.Laws.{groups-fit}
 use Rattle.contexts.specs.Contexts.{context_of, Wf}
 use Rattle.queries.specs.Answers.{number_as, count_as, fetched_as}

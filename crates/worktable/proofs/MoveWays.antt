@@ -10,7 +10,7 @@ use Rattle.cells.specs.Part.{part, put}
 use Rattle.cells.specs.PartLaws.{length_part, length-put, get_or-part, get_or-put-in, get_or-put-before, get_or-put-after, part-part, part-put-before, part-put-after, part-put-around, put-in-part, put-put, set-put}
 use Rattle.rules.specs.Table.{Table, made}
 use Rattle.rules.specs.Context.{table_fits}
-use Rattle.rules_by_group.specs.RoomLaws.{table-room}
+use Rattle.rules_by_group.proofs.RoomLaws.{table-room}
 use Rattle.memtable.specs.Views.{table_of}
 use Rattle.memtable.specs.WindowLaws.{length-window}
 use Rattle.kvs.specs.RowLaws.{length-keys}

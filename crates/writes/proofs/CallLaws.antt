@@ -11,8 +11,8 @@ use Rattle.rules.specs.Items.{FileId, Append, Rewrite, same_queue, Batch, Call, 
 use Rattle.rules.specs.Context.{Context, Kind, is_index, with_groups, with_waiting}
 use Rattle.rules.specs.Calls.{checked, run_batch, write, append, rewrite}
 use Rattle.rules_by_group.specs.Kept.{Kept}
-use Rattle.rules_by_group.specs.ResultLaws.{refused_not_ok}
-use Rattle.rules_by_group.specs.KeptLaws.{append-kept, rewrite-kept}
+use Rattle.rules_by_group.proofs.ResultLaws.{refused_not_ok}
+use Rattle.rules_by_group.proofs.KeptLaws.{append-kept, rewrite-kept}
 use Rattle.log_batch.specs.Lent.{batch_of}
 use Rattle.lists.specs.Rest.{kind_of}
 use Rattle.lists.specs.Laws.{rest-kind}

@@ -12,7 +12,7 @@ use Rattle.rules.specs.Items.{LogItem, Placed, placed_at, placed_from, is_mark, 
 use Rattle.rules.specs.Table.{Span}
 use Rattle.rules.specs.Context.{Context, fits, limited, run}
 use Rattle.rules.specs.Waiting.{set_span, finish_group}
-use Rattle.rules_by_group.specs.ResultLaws.{and_then_of, and_then_same_at, in_order-append}
+use Rattle.rules_by_group.proofs.ResultLaws.{and_then_of, and_then_same_at, in_order-append}
 use Rattle.room.specs.Batches.{unmarked, counts_for}
 use Rattle.contexts.specs.declared.Answer.{Answer}
 use Rattle.contexts.specs.declared.Answer.TheVariants as answer

@@ -22,7 +22,7 @@ use Rattle.rules.specs.Table.{Span, Table}
 use Rattle.rules.specs.Context.{Part, Context, with_groups, with_waiting, waiting_fits, limited}
 use Rattle.rules.specs.Waiting.{Accepted, finish, accept, some_parts, set_waiting, finish_group, become, accept_new_group, part_of, replay_marked}
 use Rattle.rules_by_group.specs.Kept.{is_passed, own_items, own_parts, Kept}
-use Rattle.rules_by_group.specs.EntryLaws.{own-passed}
+use Rattle.rules_by_group.proofs.EntryLaws.{own-passed}
 use Rattle.groups.specs.Area.{numbers_in_use, bytes_in_use, groups_of}
 use Rattle.groups.specs.Laws.{front-groups, front_wf}
 use Rattle.lists.specs.Rest.{rest_of}

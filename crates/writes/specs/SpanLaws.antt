@@ -15,7 +15,7 @@ use Rattle.rules.specs.Causes.{Refusal, Result, ok, refused, refuse_at, and_then
 use Rattle.rules.specs.Table.{Span, Table, empty_table, made, spanned, span_goes_back, with_span}
 use Rattle.rules.specs.Context.{Context, with_groups, table_fits, fits, limited}
 use Rattle.rules.specs.Waiting.{set_span}
-use Rattle.rules_by_group.specs.ResultLaws.{ok_inj, refused_not_ok, by_option}
+use Rattle.rules_by_group.proofs.ResultLaws.{ok_inj, refused_not_ok, by_option}
 use Rattle.stretch.specs.declared.Outcome.TheVariants.{Done, Refused}
 use Rattle.groups.specs.Area.{groups_of}
 use Rattle.groups.specs.Area as groups

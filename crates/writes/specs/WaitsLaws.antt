@@ -15,8 +15,8 @@ use Rattle.rules.specs.Items.{Append, same_queue, Content, entries, command, kv,
 use Rattle.rules.specs.Table.{Span, Table, made, change, spanned}
 use Rattle.rules.specs.Context.{Part, Context, with_groups, with_cleaned, with_tombstones, with_waiting, table_fits, waiting_fits, fits, limited, keeps, add_cleaned, add_tombstone, act, step, run}
 use Rattle.rules.specs.Waiting.{set_span, finish_group}
-use Rattle.rules_by_group.specs.ResultLaws.{ok_inj, by_result, and_then_ok}
-use Rattle.rules_by_group.specs.ItemLaws.{limited-fits, limited_ok}
+use Rattle.rules_by_group.proofs.ResultLaws.{ok_inj, by_result, and_then_ok}
+use Rattle.rules_by_group.proofs.ItemLaws.{limited-fits, limited_ok}
 
 -- ---- other parts wait
 

@@ -15,8 +15,8 @@ use Rattle.rules.specs.Context.{Kind, context, index, Context}
 use Rattle.rules.specs.Calls.{replay_call}
 use Rattle.rules_by_group.specs.Group.{cleans_of}
 use Rattle.rules_by_group.specs.Kept.{entry_by, each_entry, KeptBy, Kept}
-use Rattle.rules_by_group.specs.ItemLaws.{cleans_by}
-use Rattle.rules_by_group.specs.ResultLaws.{by_option}
+use Rattle.rules_by_group.proofs.ItemLaws.{cleans_by}
+use Rattle.rules_by_group.proofs.ResultLaws.{by_option}
 
 at-kind : (c : Context) (k l : Kind) → k ≡ l → KeptBy k c → KeptBy l c
 at-kind c k l e h = rw e at h

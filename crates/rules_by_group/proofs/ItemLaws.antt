@@ -17,8 +17,8 @@ use Rattle.rules.specs.Table.{Table, change, change_to, command_to}
 use Rattle.rules.specs.Context.{Context, with_groups, with_tombstones, with_cleaned, fits, Judge, limited, add_cleaned, act, keeps, add_tombstone, step, replay_tombstones}
 use Rattle.rules_by_group.specs.Group.{changed, effect, effected, tombed, tomb_of, clean_of, cleans_of}
 use Rattle.rules_by_group.specs.Kept.{all_tombstones}
-use Rattle.rules_by_group.specs.ResultLaws.{ok_inj, by_result, refused_not_ok, and_then_of, and_then_same}
-use Rattle.rules_by_group.specs.DeedLaws.{Deed, do_all, deed_ok, own}
+use Rattle.rules_by_group.proofs.ResultLaws.{ok_inj, by_result, refused_not_ok, and_then_of, and_then_same}
+use Rattle.rules_by_group.proofs.DeedLaws.{Deed, do_all, deed_ok, own}
 
 -- ---- the lists
 

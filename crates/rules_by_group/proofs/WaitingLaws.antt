@@ -22,11 +22,11 @@ use Rattle.rules.specs.Waiting.{Accepted, wait, finish, back, accept, some_parts
 use Rattle.rules_by_group.specs.Group.{changed, tomb_of, parts_of, waits, accept_part, Finished, finished_by, finished_of, replayed_items, finish_with, finish_table}
 use Rattle.rules_by_group.specs.Stage.{accept_parts_of, waiting_after, tombs_in, finished_tombs}
 use Rattle.rules_by_group.specs.Kept.{is_begin, is_end, behind, shaped, entry_by, each_entry, is_passed, is_own, own_items, own_parts}
-use Rattle.rules_by_group.specs.ResultLaws.{by_result, one-refusal, refusal_of, ok_inj, refused_not_ok, in_order-kept, in_order-refused, and_then_ok, and_then_of, and_then-refused, and_then_same, and_then-unit, and_then-assoc, and_then-map}
-use Rattle.rules_by_group.specs.DeedLaws.{do_deed, do_all, deeds_of, deed_ok, deed-refused, own, own-map, ByGroup, by_group-ext, deeds_by-group}
-use Rattle.rules_by_group.specs.ItemLaws.{cleaned_by, kept_by, after, step_of}
-use Rattle.rules_by_group.specs.PartLaws.{own-items-append, own-head, own-tail, OwnAccepted, own_old, accept-own, begin-waits, PartsKept, kept_if, accept-kept, accept-refused, own-reverse}
-use Rattle.rules_by_group.specs.MergeLaws.{finishing, finish-refused, accepted_to, Accepts}
+use Rattle.rules_by_group.proofs.ResultLaws.{by_result, one-refusal, refusal_of, ok_inj, refused_not_ok, in_order-kept, in_order-refused, and_then_ok, and_then_of, and_then-refused, and_then_same, and_then-unit, and_then-assoc, and_then-map}
+use Rattle.rules_by_group.proofs.DeedLaws.{do_deed, do_all, deeds_of, deed_ok, deed-refused, own, own-map, ByGroup, by_group-ext, deeds_by-group}
+use Rattle.rules_by_group.proofs.ItemLaws.{cleaned_by, kept_by, after, step_of}
+use Rattle.rules_by_group.proofs.PartLaws.{own-items-append, own-head, own-tail, OwnAccepted, own_old, accept-own, begin-waits, PartsKept, kept_if, accept-kept, accept-refused, own-reverse}
+use Rattle.rules_by_group.proofs.MergeLaws.{finishing, finish-refused, accepted_to, Accepts}
 
 -- ---- items of a finished part
 

@@ -9,10 +9,10 @@ use Rattle.rules.specs.Context.{context, is_context, Part, Context, with_tombsto
 use Rattle.rules.specs.Calls.{clash, merge_contexts, both, merge, join_contexts, join}
 use Rattle.rules_by_group.specs.Stage.{stage_all, none_staged, answer, waiting_after, merged_rest, merged_at, merged_by, joined_by, Covers}
 use Rattle.rules_by_group.specs.Kept.{Kept}
-use Rattle.rules_by_group.specs.MergeLaws.{Accepts, merge_by-accepts}
-use Rattle.rules_by_group.specs.WaitingLaws.{all-kept, accepts_all, waiting-refused}
-use Rattle.rules_by_group.specs.ResultLaws.{and_then_of, and_then-refused}
-use Rattle.rules_by_group.specs.JoinLaws.{join_contexts_by-group}
+use Rattle.rules_by_group.proofs.MergeLaws.{Accepts, merge_by-accepts}
+use Rattle.rules_by_group.proofs.WaitingLaws.{all-kept, accepts_all, waiting-refused}
+use Rattle.rules_by_group.proofs.ResultLaws.{and_then_of, and_then-refused}
+use Rattle.rules_by_group.proofs.JoinLaws.{join_contexts_by-group}
 
 -- the newer waiting parts of a context, accepted by another
 pub kept-accepts : (newer c : Context) → Kept newer → Kept c → Accepts newer.waiting (with_tombstones (c.tombstones ++ newer.tombstones) c)

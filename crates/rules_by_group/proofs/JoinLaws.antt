@@ -16,12 +16,12 @@ use Rattle.rules.specs.Calls.{join_table, index_of, join_contexts}
 use Rattle.rules_by_group.specs.Group.{tombed, joined_group}
 use Rattle.rules_by_group.specs.Stage.{joined_rest, joined_at, joined_by, is_in, Covers}
 use Rattle.rules_by_group.specs.Kept.{Kept}
-use Rattle.rules_by_group.specs.KindLaws.{append-cleaned}
-use Rattle.rules_by_group.specs.ResultLaws.{refused_not_ok, and_then_of, and_then_same, and_then-assoc, and_then-map}
-use Rattle.rules_by_group.specs.DeedLaws.{Deed, do_all, do-append, deeds_of, own, own-append, own-map, ByGroup, by_group-ext, deeds_by-group}
-use Rattle.rules_by_group.specs.ItemLaws.{tomb_deed, own-tombs, cleans_by, replayed_to, tombs-replayed, tombed-other}
-use Rattle.rules_by_group.specs.LayLaws.{lay_by, lay_all, lookup_uncovered}
-use Rattle.rules_by_group.specs.StageLaws.{staged}
+use Rattle.rules_by_group.proofs.KindLaws.{append-cleaned}
+use Rattle.rules_by_group.proofs.ResultLaws.{refused_not_ok, and_then_of, and_then_same, and_then-assoc, and_then-map}
+use Rattle.rules_by_group.proofs.DeedLaws.{Deed, do_all, do-append, deeds_of, own, own-append, own-map, ByGroup, by_group-ext, deeds_by-group}
+use Rattle.rules_by_group.proofs.ItemLaws.{tomb_deed, own-tombs, cleans_by, replayed_to, tombs-replayed, tombed-other}
+use Rattle.rules_by_group.proofs.LayLaws.{lay_by, lay_all, lookup_uncovered}
+use Rattle.rules_by_group.proofs.StageLaws.{staged}
 
 -- an Append table is laid over or adopted, never refused
 abbrev joins : ℕ → Table → Option Table → Result (Option Table)

@@ -24,17 +24,17 @@ use Rattle.rules.specs.Queries.{take_cleaned, after_taking}
 use Rattle.rules_by_group.specs.Group.{cleans_of, parts_of, Finished, finished_of}
 use Rattle.rules_by_group.specs.Stage.{accept_parts_of, waiting_after, tombs_in, finished_tombs, merged_rest, merged_at, joined_rest}
 use Rattle.rules_by_group.specs.Kept.{shaped, entry_by, each_entry, own_parts, all_tombstones, KeptBy, Kept}
-use Rattle.rules_by_group.specs.ResultLaws.{ok_inj, refused_not_ok, by_result, by_option, and_then_ok, in_order-kept}
-use Rattle.rules_by_group.specs.DeedLaws.{do-ascends, by-group_at}
-use Rattle.rules_by_group.specs.ItemLaws.{limited_ok}
-use Rattle.rules_by_group.specs.KindLaws.{kept_by_lem, append-cleaned, append-waits, rewrite-cleaned, index_empty, own-made, index-entries, index-content}
-use Rattle.rules_by_group.specs.PartLaws.{kept-own, kept-shaped}
-use Rattle.rules_by_group.specs.MergeLaws.{merged_deeds, merged_by-group}
-use Rattle.rules_by_group.specs.WaitingLaws.{AllKept, all-kept, kept_of, after-ascends, after_kept}
-use Rattle.rules_by_group.specs.EntryLaws.{finished_meets, merged-meets, finished-meets}
-use Rattle.rules_by_group.specs.JoinLaws.{joined_deeds}
-use Rattle.rules_by_group.specs.ByGroupLaws.{kept-accepts}
-use Rattle.rules_by_group.specs.RunLaws.{cleans-append, tombs-append, tombs-nil, KindKept, KeptAt, append-keeps, rewrite-keeps, live-append-keeps, live-rewrite-keeps, run-keeps, batch-queue, every-placed, marked-keeps}
+use Rattle.rules_by_group.proofs.ResultLaws.{ok_inj, refused_not_ok, by_result, by_option, and_then_ok, in_order-kept}
+use Rattle.rules_by_group.proofs.DeedLaws.{do-ascends, by-group_at}
+use Rattle.rules_by_group.proofs.ItemLaws.{limited_ok}
+use Rattle.rules_by_group.proofs.KindLaws.{kept_by_lem, append-cleaned, append-waits, rewrite-cleaned, index_empty, own-made, index-entries, index-content}
+use Rattle.rules_by_group.proofs.PartLaws.{kept-own, kept-shaped}
+use Rattle.rules_by_group.proofs.MergeLaws.{merged_deeds, merged_by-group}
+use Rattle.rules_by_group.proofs.WaitingLaws.{AllKept, all-kept, kept_of, after-ascends, after_kept}
+use Rattle.rules_by_group.proofs.EntryLaws.{finished_meets, merged-meets, finished-meets}
+use Rattle.rules_by_group.proofs.JoinLaws.{joined_deeds}
+use Rattle.rules_by_group.proofs.ByGroupLaws.{kept-accepts}
+use Rattle.rules_by_group.proofs.RunLaws.{cleans-append, tombs-append, tombs-nil, KindKept, KeptAt, append-keeps, rewrite-keeps, live-append-keeps, live-rewrite-keeps, run-keeps, batch-queue, every-placed, marked-keeps}
 
 -- ---- fresh
 

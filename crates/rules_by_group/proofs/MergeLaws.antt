@@ -18,12 +18,12 @@ use Rattle.rules.specs.Calls.{clashes, clash, merge_table, merge_tables, replay_
 use Rattle.rules_by_group.specs.Group.{tombed, Finished, parts_of, finished_of, replayed_items, finish_with, finish_table, lay_over, merged_group}
 use Rattle.rules_by_group.specs.Stage.{stage_all, none_staged, answer, waiting_after, finished_tombs, merged_rest, merged_at, merged_by, is_in, Covers}
 use Rattle.rules_by_group.specs.Kept.{Kept}
-use Rattle.rules_by_group.specs.KindLaws.{append-waits, cleaned-again}
-use Rattle.rules_by_group.specs.ResultLaws.{by_result, one-refusal, refusal_of, refused_not_ok, and_then_of, and_then-refused, and_then_same, and_then_same_at, and_then-assoc, and_then-map}
-use Rattle.rules_by_group.specs.DeedLaws.{Deed, do_all, do-append, do-ascends, deeds_of, own, own-append, own-map, ByGroup, by_group-ext, by-group-is, deeds_by-group}
-use Rattle.rules_by_group.specs.ItemLaws.{tomb_deed, own-tombs, cleans_by, replayed_to, tombs-replayed, tombed-other}
-use Rattle.rules_by_group.specs.LayLaws.{lay_by, lay_all, lookup_uncovered}
-use Rattle.rules_by_group.specs.StageLaws.{staged}
+use Rattle.rules_by_group.proofs.KindLaws.{append-waits, cleaned-again}
+use Rattle.rules_by_group.proofs.ResultLaws.{by_result, one-refusal, refusal_of, refused_not_ok, and_then_of, and_then-refused, and_then_same, and_then_same_at, and_then-assoc, and_then-map}
+use Rattle.rules_by_group.proofs.DeedLaws.{Deed, do_all, do-append, do-ascends, deeds_of, own, own-append, own-map, ByGroup, by_group-ext, by-group-is, deeds_by-group}
+use Rattle.rules_by_group.proofs.ItemLaws.{tomb_deed, own-tombs, cleans_by, replayed_to, tombs-replayed, tombed-other}
+use Rattle.rules_by_group.proofs.LayLaws.{lay_by, lay_all, lookup_uncovered}
+use Rattle.rules_by_group.proofs.StageLaws.{staged}
 
 -- ---- the deeds of a merge: what finishes, the tombstones, the tables
 

@@ -10,7 +10,7 @@ use Rattle.maps.specs.Maps.{Pair, Map, lookup, store, numbers}
 use Rattle.maps.specs.OrderLaws.{split, numbers_lawful}
 use Rattle.maps.specs.MapLaws.{AllBelow, Ascending, ascending-head, ascending-tail, ascending-store, lookup_below, lookup-store_same, lookup-store-other, ext}
 use Rattle.rules.specs.Causes.{Refusal, Result, ok, refused, and_then, in_order}
-use Rattle.rules_by_group.specs.ResultLaws.{ok_inj, refused_not_ok, by_result, and_then_same, and_then-unit, and_then-assoc, and_then_of, and_then-refused, in_order-append, eqb_comm}
+use Rattle.rules_by_group.proofs.ResultLaws.{ok_inj, refused_not_ok, by_result, and_then_same, and_then-unit, and_then-assoc, and_then_of, and_then-refused, in_order-append, eqb_comm}
 
 pub record Deed (A : Type 0) : Type 0 where
   pub group : ℕ

@@ -16,7 +16,7 @@ use Rattle.rules.specs.Context.{Part}
 use Rattle.rules.specs.Waiting.{Accepted, wait, finish, back, joined, accept_by, accept, some_parts}
 use Rattle.rules_by_group.specs.Group.{parts_of, waits, accept_part}
 use Rattle.rules_by_group.specs.Kept.{is_begin, is_end, behind, shaped, is_own, own_items, own_parts}
-use Rattle.rules_by_group.specs.ResultLaws.{ok_inj, one-refusal, refusal_of, refused_not_ok}
+use Rattle.rules_by_group.proofs.ResultLaws.{ok_inj, one-refusal, refusal_of, refused_not_ok}
 
 -- ---- the items are the group's own
 

@@ -19,8 +19,8 @@ use Rattle.rules.specs.Items.{LogItem}
 use Rattle.rules.specs.Table.{Table}
 use Rattle.rules.specs.Context.{Context, with_groups, table_fits, waiting_fits, fits, limited}
 use Rattle.rules_by_group.specs.Stage.{Staged, none_staged, stage_result, stage_one, stage_all, rest_fits, answer, is_in, Covers}
-use Rattle.rules_by_group.specs.ResultLaws.{ok_inj, refusal_of, refused_not_ok, by_option, by_result}
-use Rattle.rules_by_group.specs.DeedLaws.{ByGroup}
+use Rattle.rules_by_group.proofs.ResultLaws.{ok_inj, refusal_of, refused_not_ok, by_option, by_result}
+use Rattle.rules_by_group.proofs.DeedLaws.{ByGroup}
 
 -- the limits of the groups
 unfoldable pub groups_fit : Map ℕ Table → Bool

@@ -20,9 +20,9 @@ use Rattle.rules.specs.Waiting.{Accepted, wait, finish, back, accept}
 use Rattle.rules.specs.Calls.{clashes, over_of, merge_table}
 use Rattle.rules_by_group.specs.Group.{changed, effect, effected, tombed, parts_of, Finished, finished_by, finished_of, replayed_items, finish_with, finish_table, lay_over, merged_group}
 use Rattle.rules_by_group.specs.Kept.{entry_by, each_entry, is_passed, is_own, own_items, own_parts}
-use Rattle.rules_by_group.specs.ResultLaws.{ok_inj, refused_not_ok, by_option, and_then_ok}
-use Rattle.rules_by_group.specs.PartLaws.{own-items-append, OwnAccepted, own_old, accept-own}
-use Rattle.rules_by_group.specs.WaitingLaws.{replay-changed}
+use Rattle.rules_by_group.proofs.ResultLaws.{ok_inj, refused_not_ok, by_option, and_then_ok}
+use Rattle.rules_by_group.proofs.PartLaws.{own-items-append, OwnAccepted, own_old, accept-own}
+use Rattle.rules_by_group.proofs.WaitingLaws.{replay-changed}
 
 -- ---- what leaves the entries
 

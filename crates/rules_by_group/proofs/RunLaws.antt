@@ -22,12 +22,12 @@ use Rattle.rules.specs.Context.{Kind, context, index, Part, Context, with_groups
 use Rattle.rules.specs.Waiting.{Accepted, wait, finish, back, accept, some_parts, set_waiting, set_span, finish_group, become, accept_new_group, part_of, replay_marked}
 use Rattle.rules_by_group.specs.Group.{tomb_of, clean_of, cleans_of, parts_of, waits}
 use Rattle.rules_by_group.specs.Kept.{shaped, entry_by, each_entry, is_passed, is_own, own_items, own_parts, all_tombstones, KeptBy, Kept}
-use Rattle.rules_by_group.specs.ResultLaws.{ok_inj, refused_not_ok, and_then_ok, in_order-kept}
-use Rattle.rules_by_group.specs.KindLaws.{kept_at, kept_by_lem, rewrite-cleaned, own-made}
-use Rattle.rules_by_group.specs.ItemLaws.{cleaned_by, kept_by, after, limited_ok, step-taken}
-use Rattle.rules_by_group.specs.PartLaws.{OwnAccepted, own_old, accept-own, ShapedAccepted, accept-shaped, PartsKept, waits_kept, kept-own, kept-shaped}
-use Rattle.rules_by_group.specs.WaitingLaws.{all-kept, kept_of}
-use Rattle.rules_by_group.specs.EntryLaws.{changed-meets, spanned-meets, own-each}
+use Rattle.rules_by_group.proofs.ResultLaws.{ok_inj, refused_not_ok, and_then_ok, in_order-kept}
+use Rattle.rules_by_group.proofs.KindLaws.{kept_at, kept_by_lem, rewrite-cleaned, own-made}
+use Rattle.rules_by_group.proofs.ItemLaws.{cleaned_by, kept_by, after, limited_ok, step-taken}
+use Rattle.rules_by_group.proofs.PartLaws.{OwnAccepted, own_old, accept-own, ShapedAccepted, accept-shaped, PartsKept, waits_kept, kept-own, kept-shaped}
+use Rattle.rules_by_group.proofs.WaitingLaws.{all-kept, kept_of}
+use Rattle.rules_by_group.proofs.EntryLaws.{changed-meets, spanned-meets, own-each}
 
 -- ---- lists of tombstones and their Cleans
 

@@ -12,8 +12,8 @@ use Rattle.maps.specs.MapLaws.{AllBelow, Ascending, ascending-head, ascending-ta
 use Rattle.rules.specs.Causes.{Refusal, Result, ok, refused, in_order}
 use Rattle.rules.specs.Table.{Table}
 use Rattle.rules_by_group.specs.Stage.{is_in}
-use Rattle.rules_by_group.specs.ResultLaws.{by_option}
-use Rattle.rules_by_group.specs.DeedLaws.{do_all, deeds_of, deed_ok, deed-refused}
+use Rattle.rules_by_group.proofs.ResultLaws.{by_option}
+use Rattle.rules_by_group.proofs.DeedLaws.{do_all, deeds_of, deed_ok, deed-refused}
 
 -- each newer table is laid over by f, or refused where it is bad
 module _ (bad : Option Table → Table → Bool) (x : Refusal) (f : Option Table → Table → Table) where
