@@ -13,7 +13,8 @@ use Rattle.rules.specs.Table.{made}
 use Rattle.rules.specs.Context.{context, Context, with_groups, limited, step}
 use Rattle.rules_by_group.specs.Kept.{entry_by, each_entry}
 use Rattle.rules_by_group.proofs.KindLaws.{rewrite-made}
-use Rattle.rules_by_group.proofs.RunLaws.{KeptAt, rewrite-keeps, step_keeps, queue-files}
+use Rattle.rules_by_group.proofs.RunLaws.{rewrite-keeps, step_keeps, queue-files}
+use Rattle.rules_by_group.specs.Kept.{KeptAt}
 use Rattle.log_batch.specs.Lent.{row_count_of, item_at, items_of, item_of}
 use Rattle.log_batch.specs.OpenLaws.{item-opened}
 use Rattle.log_batch.specs.PassedLaws.{passed-opens}

@@ -6,7 +6,7 @@ use Rattle.rules.specs.Causes.{Result, ok, refused}
 use Rattle.rules.specs.Items.{Rewrite, LogItem, Call, is_reserved}
 use Rattle.rules.specs.Checks.{is_rewrite_replay}
 use Rattle.rules.specs.Context.{context, Context, with_groups, with_waiting, limited, step}
-use Rattle.rules_by_group.proofs.RunLaws.{KeptAt}
+use Rattle.rules_by_group.specs.Kept.{KeptAt}
 use Rattle.log_batch.specs.declared.item.LogItem as lent
 use Rattle.log_batch.specs.Lent.{item_of}
 use Rattle.log_batch.specs.OpenLaws.{Bare}

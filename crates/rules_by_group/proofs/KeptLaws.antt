@@ -34,7 +34,8 @@ use Rattle.rules_by_group.proofs.WaitingLaws.{AllKept, all-kept, kept_of, after-
 use Rattle.rules_by_group.proofs.EntryLaws.{finished_meets, merged-meets, finished-meets}
 use Rattle.rules_by_group.proofs.JoinLaws.{joined_deeds}
 use Rattle.rules_by_group.proofs.ByGroupLaws.{kept-accepts}
-use Rattle.rules_by_group.proofs.RunLaws.{cleans-append, tombs-append, tombs-nil, KindKept, KeptAt, append-keeps, rewrite-keeps, live-append-keeps, live-rewrite-keeps, run-keeps, batch-queue, every-placed, marked-keeps}
+use Rattle.rules_by_group.proofs.RunLaws.{cleans-append, tombs-append, tombs-nil, KindKept, append-keeps, rewrite-keeps, live-append-keeps, live-rewrite-keeps, run-keeps, batch-queue, every-placed, marked-keeps}
+use Rattle.rules_by_group.specs.Kept.{KeptAt}
 
 -- ---- fresh
 

@@ -22,12 +22,8 @@ use Rattle.rules.specs.Context.{Part, table_fits, entries_in, waiting_fits}
 use Rattle.rules.specs.Waiting.{Accepted, wait, finish, back, joined, accept_by, accept}
 use Rattle.rules.specs.Calls.{over_of, merge_table}
 use Rattle.rules_by_group.specs.Group.{changed, effect, effected, tombed, parts_of, Finished, finished_by, finished_of, replayed_items}
+use Rattle.rules_by_group.specs.Kept.{Within}
 use Rattle.rules_by_group.proofs.ResultLaws.{by_option}
-
--- a table that may be absent has at most e entries and k keys
-pub record Within (e k : ℕ) (o : Option Table) : Type 0 where
-  pub few-entries : length (made o).entries ≤ e
-  pub few-keys : length (made o).keys ≤ k
 
 -- ---- tables
 

@@ -1,11 +1,11 @@
 -- What every context keeps through every call, and the merge and the join rest on.
-use Rattle.std.specs.Prelude.{Bool, true, false, not, ◌&&◌, List, [], ◌∷◌, ◌≡◌, ℕ, eqb}
+use Rattle.std.specs.Prelude.{◌≤◌, length, Option, Bool, true, false, not, ◌&&◌, List, [], ◌∷◌, ◌≡◌, ℕ, eqb}
 use Rattle.maps.specs.Lists.{every}
 use Rattle.maps.specs.Maps.{Pair, numbers}
 use Rattle.maps.specs.MapLaws.{Ascending}
 use Rattle.rules.specs.Items.{Append, Rewrite, EntryIndex, same_queue, file_of, Content, entries, command, kv, LogItem, Status, begin, middle, end, is_tombstone, replay_rewrite}
 use Rattle.rules.specs.Checks.{long, is_out_of_range, is_other_queue, meets3, unless_reserved}
-use Rattle.rules.specs.Table.{Table}
+use Rattle.rules.specs.Table.{Table, made}
 use Rattle.rules.specs.Context.{Kind, context, index, Part, Context}
 use Rattle.rules_by_group.specs.Group.{cleans_of}
 
@@ -77,3 +77,13 @@ pub record Kept (c : Context) : Type 0 where
   pub own-entries : every (λ (x : Pair ℕ Table). every (entry_by c.kind) x.val.entries) c.groups ≡ true
   pub tombstones-only : all_tombstones c.tombstones ≡ true
   pub by_kind : KeptBy c.kind c
+
+-- what is kept, of a kind
+pub record KeptAt (k : Kind) (c : Context) : Type 0 where
+  pub is-kind : c.kind ≡ k
+  pub kept : Kept c
+
+-- a table that may be absent has at most e entries and k keys
+pub record Within (e k : ℕ) (o : Option Table) : Type 0 where
+  pub few-entries : length (made o).entries ≤ e
+  pub few-keys : length (made o).keys ≤ k

@@ -27,7 +27,8 @@ use Rattle.rules_by_group.proofs.PartLaws.{own-items-append, OwnAccepted, own_ol
 use Rattle.rules_by_group.proofs.EntryLaws.{items-meet, spanned-meets, own-each, own-passed}
 use Rattle.rules_by_group.proofs.KindLaws.{own-made}
 use Rattle.rules_by_group.proofs.ResultLaws.{by_option, ok_inj, refused_not_ok, and_then_ok}
-use Rattle.rules_by_group.proofs.RoomLaws.{Within, within_more, finished-items, finished-entries, items-room}
+use Rattle.rules_by_group.proofs.RoomLaws.{within_more, finished-items, finished-entries, items-room}
+use Rattle.rules_by_group.specs.Kept.{Within}
 use Rattle.rules_by_group.proofs.WaitingLaws.{all-kept, kept_of}
 use Rattle.stores.specs.declared.Store.{Store}
 use Rattle.stores.specs.Stores.{Area, area, Stored}

@@ -14,7 +14,7 @@ use Rattle.rules.specs.Context.{context, Context}
 use Rattle.rules.specs.Items.{Rewrite}
 use Rattle.rules_by_group.specs.Group.{Finished, finish_table, tombed}
 use Rattle.rules_by_group.proofs.ResultLaws.{and_then_of, and_then-refused}
-use Rattle.rules_by_group.proofs.RoomLaws.{Within}
+use Rattle.rules_by_group.specs.Kept.{Within}
 use Rattle.stretch.specs.declared.Outcome.{Outcome}
 use Rattle.stretch.specs.declared.Outcome.TheVariants.{Done, Refused}
 use Rattle.groups.specs.Area.{groups_of}

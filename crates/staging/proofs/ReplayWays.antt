@@ -20,7 +20,8 @@ use Rattle.rules.specs.Context.{entries_in}
 use Rattle.rules_by_group.specs.Group.{changed, replayed_items}
 use Rattle.rules_by_group.specs.Kept.{each_entry, entry_by, is_passed}
 use Rattle.rules_by_group.proofs.EntryLaws.{changed-meets}
-use Rattle.rules_by_group.proofs.RoomLaws.{Within, within_more, item_room}
+use Rattle.rules_by_group.proofs.RoomLaws.{within_more, item_room}
+use Rattle.rules_by_group.specs.Kept.{Within}
 use Rattle.rules_by_group.proofs.WaitingLaws.{replay-changed}
 use Rattle.log_batch.specs.declared.causes.Call as call
 use Rattle.log_batch.specs.declared.item.LogItem.{LogItem}

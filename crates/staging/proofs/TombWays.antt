@@ -16,7 +16,8 @@ use Rattle.rules.specs.Items as rules
 use Rattle.rules.specs.Table.{Table}
 use Rattle.rules_by_group.specs.Group.{effected, tombed}
 use Rattle.rules_by_group.specs.Kept.{all_tombstones}
-use Rattle.rules_by_group.proofs.RoomLaws.{Within, within_more, tomb-room, tombed-room}
+use Rattle.rules_by_group.proofs.RoomLaws.{within_more, tomb-room, tombed-room}
+use Rattle.rules_by_group.specs.Kept.{Within}
 use Rattle.log_batch.specs.declared.causes.Call as call
 use Rattle.log_batch.specs.declared.item.LogItem.{LogItem}
 use Rattle.log_batch.specs.Lent.{item_of, content_of, item_at}

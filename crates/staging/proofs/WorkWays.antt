@@ -17,7 +17,8 @@ use Rattle.rules.specs.Table.{Table}
 use Rattle.rules.specs.Context.{Context, with_groups, with_waiting}
 use Rattle.rules_by_group.specs.Group.{tombed}
 use Rattle.rules_by_group.specs.Kept.{all_tombstones}
-use Rattle.rules_by_group.proofs.RoomLaws.{Within, within_more, tombed-room}
+use Rattle.rules_by_group.proofs.RoomLaws.{within_more, tombed-room}
+use Rattle.rules_by_group.specs.Kept.{Within}
 use Rattle.stores.specs.declared.Store.{Store}
 use Rattle.stores.specs.Stores.{Area, area, store_items, Stored}
 use Rattle.stretch.specs.declared.Outcome.{Outcome}

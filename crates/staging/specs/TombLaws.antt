@@ -11,7 +11,8 @@ use Rattle.rules.specs.Causes.{Result, ok, and_then, left}
 use Rattle.rules.specs.Items as rules
 use Rattle.rules.specs.Table.{Table, made}
 use Rattle.rules_by_group.specs.Group.{effect, effected, tombed}
-use Rattle.rules_by_group.proofs.RoomLaws.{Within, tomb-room}
+use Rattle.rules_by_group.proofs.RoomLaws.{tomb-room}
+use Rattle.rules_by_group.specs.Kept.{Within}
 use Rattle.log_batch.specs.declared.causes.Call as call
 use Rattle.log_batch.specs.declared.item.Command as command
 use Rattle.log_batch.specs.declared.item.OpType as op

@@ -19,7 +19,8 @@ use Rattle.rules_by_group.specs.Kept.{entry_by, Kept}
 use Rattle.rules_by_group.proofs.KindLaws.{append-waits, own-made, queue-table}
 use Rattle.rules_by_group.proofs.EntryLaws.{tombed-meets}
 use Rattle.rules_by_group.proofs.ResultLaws.{by_option}
-use Rattle.rules_by_group.proofs.RoomLaws.{Within, within_more, table-room, tombed-room}
+use Rattle.rules_by_group.proofs.RoomLaws.{within_more, table-room, tombed-room}
+use Rattle.rules_by_group.specs.Kept.{Within}
 use Rattle.worktable.specs.declared.Mode.{Mode}
 use Rattle.worktable.specs.declared.Mode.TheVariants as mode
 use Rattle.worktable.specs.Calls.{laid_over, newer_queue, AllOf, OlderFor, Layable}

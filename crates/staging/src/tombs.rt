@@ -3,7 +3,7 @@ ghost use Rattle.std.specs.Prelude.{true, List, [], ◌≡◌, ◌≤◌, ◌<�
 ghost use Rattle.rules.specs.Items.{is_tombstone};
 ghost use Rattle.rules_by_group.specs.Group.{tombed};
 ghost use Rattle.rules_by_group.specs.Kept.{all_tombstones};
-ghost use Rattle.rules_by_group.proofs.RoomLaws.{Within};
+ghost use Rattle.rules_by_group.specs.Kept.{Within};
 ghost use Rattle.log_batch.specs.Lent.{item_of, content_of};
 ghost use Rattle.stores.specs.Stores.{area, store_items, Stored};
 ghost use Rattle.stores.specs.Written.{Lent};

@@ -4,7 +4,7 @@ ghost use Rattle.std.specs.Prelude.{true, ◌≡◌, ◌≤◌, ◌<◌, length}
 ghost use Rattle.std.proofs.Math.Option.{none};
 ghost use Rattle.maps.specs.Maps.{lookup, numbers};
 ghost use Rattle.rules_by_group.specs.Group.{tombed};
-ghost use Rattle.rules_by_group.proofs.RoomLaws.{Within};
+ghost use Rattle.rules_by_group.specs.Kept.{Within};
 ghost use Rattle.stretch.specs.Stretch.{is_used, table_in};
 ghost use Rattle.stretch.specs.Stretch as held;
 ghost use Rattle.groups.specs.Area.{stretch_at, bytes_at, groups_of};

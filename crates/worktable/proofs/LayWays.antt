@@ -10,7 +10,8 @@ use Rattle.cells.specs.Part.{part, put}
 use Rattle.cells.specs.PartLaws.{length_part, length-put, set-put}
 use Rattle.rules.specs.Causes.{ok, refused, and_then}
 use Rattle.rules.specs.Table.{Table, uncounted}
-use Rattle.rules_by_group.proofs.RoomLaws.{Within, table-room}
+use Rattle.rules_by_group.proofs.RoomLaws.{table-room}
+use Rattle.rules_by_group.specs.Kept.{Within}
 use Rattle.rules_by_group.proofs.TableLaws.{keys_over, span_over, spanned_by}
 use Rattle.memtable.specs.Views.{table_of}
 use Rattle.stretch.specs.declared.Outcome.{Outcome}

@@ -9,7 +9,7 @@ use Rattle.rules.specs.Items.{LogQueue, Append, Rewrite, EntryIndex, file_of, sa
 use Rattle.rules.specs.Table.{Span, Table, made, appended, replayed_rewrite}
 use Rattle.rules.specs.Calls.{join_table}
 use Rattle.rules_by_group.specs.Group.{lay_over}
-use Rattle.rules_by_group.proofs.RoomLaws.{Within}
+use Rattle.rules_by_group.specs.Kept.{Within}
 use Rattle.rules_by_group.proofs.TableLaws.{keys_over, span_over, spanned_by}
 use Rattle.stretch.specs.declared.Outcome.{Outcome}
 use Rattle.memtable.specs.declared.Head.{Head}

@@ -21,7 +21,8 @@ use Rattle.rules.specs.Causes.{Result, ok, refused, and_then}
 use Rattle.rules.specs.Items.{LogQueue, Append, Rewrite, EntryIndex, file_of, same_queue, is_rewrite}
 use Rattle.rules.specs.Table.{Held, Span, Table, made, with_entries, with_keys, with_span, uncounted, is_above_last, over, over_gap, over_keys, appended, replayed_rewrite, span_goes_back, spanned}
 use Rattle.rules.specs.Calls.{over_of, merge_table, join_table}
-use Rattle.rules_by_group.proofs.RoomLaws.{Within, laid-room}
+use Rattle.rules_by_group.proofs.RoomLaws.{laid-room}
+use Rattle.rules_by_group.specs.Kept.{Within}
 use Rattle.rules_by_group.proofs.TableLaws.{keys_over, span_over, spanned_by, lay-append, lay-rewrite, join-over}
 use Rattle.memtable.specs.declared.Head.{Head}
 use Rattle.memtable.specs.Appends.{Lent}

@@ -7,7 +7,7 @@ use Rattle.maps.specs.BoolLaws.{clash}
 use Rattle.maps.specs.Lists.{or_else}
 use Rattle.rules.specs.Causes.{Refusal, Result, ok, refused, and_then, left}
 use Rattle.rules.specs.Table.{Table, empty_table, made}
-use Rattle.rules_by_group.proofs.RoomLaws.{Within}
+use Rattle.rules_by_group.specs.Kept.{Within}
 use Rattle.kvs.specs.Rows.{fits}
 use Rattle.stretch.specs.declared.Change.{Change}
 use Rattle.stretch.specs.declared.Outcome.{Outcome}

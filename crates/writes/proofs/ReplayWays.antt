@@ -7,7 +7,7 @@ use lib.ListN.{length, get_or, take, drop}
 use Rattle.rules.specs.Items.{LogQueue, FileId, Append, Rewrite, Batch, replay_append}
 use Rattle.rules.specs.Context.{Kind, context, is_context}
 use Rattle.rules.specs.Calls.{replay_batch, replay}
-use Rattle.rules_by_group.proofs.RunLaws.{KeptAt}
+use Rattle.rules_by_group.specs.Kept.{KeptAt}
 use Rattle.rules_by_group.proofs.KeptLaws.{replay-kept}
 use Rattle.log_batch.specs.Lent.{batch_of}
 use Rattle.lists.specs.Rest.{kind_of}

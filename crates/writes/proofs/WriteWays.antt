@@ -11,7 +11,7 @@ use Rattle.rules.specs.Checks.{Mark, is_rewrite_replay, checks}
 use Rattle.rules.specs.Context.{context, Context, limited, run}
 use Rattle.rules.specs.Waiting.{replay_marked}
 use Rattle.rules.specs.Calls.{checked, run_batch, replay_batch}
-use Rattle.rules_by_group.proofs.RunLaws.{KeptAt}
+use Rattle.rules_by_group.specs.Kept.{KeptAt}
 use Rattle.log_batch.specs.Lent.{items_of, batch_of}
 use Rattle.log_batch.specs.declared.causes.Call as call
 use Rattle.log_batch.specs.Judged.{call_of, mark_for}

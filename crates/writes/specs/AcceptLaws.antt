@@ -17,7 +17,7 @@ use Rattle.rules.specs.Table.{Table}
 use Rattle.rules.specs.Context.{Kind, context, index, is_context, Part, Context, with_groups, with_waiting, table_fits, waiting_fits, fits, limited}
 use Rattle.rules.specs.Waiting.{Accepted, wait, back, accept, some_parts, set_waiting, become, replay_marked}
 use Rattle.rules_by_group.proofs.ItemLaws.{limited-fits}
-use Rattle.rules_by_group.proofs.RunLaws.{KeptAt}
+use Rattle.rules_by_group.specs.Kept.{KeptAt}
 use Rattle.room.specs.Layout.{waiting_of}
 use Rattle.room.specs.Batches.{unmarked}
 use Rattle.room.specs.Parts.{part_for}

@@ -9,7 +9,7 @@ ghost use Rattle.rules.specs.Checks.{checks};
 ghost use Rattle.rules.specs.Context.{Part, context};
 ghost use Rattle.rules.specs.Waiting.{replay_marked};
 ghost use Rattle.rules_by_group.specs.Kept.{is_passed};
-ghost use Rattle.rules_by_group.proofs.RunLaws.{KeptAt};
+ghost use Rattle.rules_by_group.specs.Kept.{KeptAt};
 ghost use Rattle.log_batch.specs.Lent.{items_of};
 ghost use Rattle.groups.specs.Undo.{Undoable};
 ghost use Rattle.room.specs.Rooms.{cell_of};

@@ -5,7 +5,7 @@ ghost use Rattle.rules.specs.Items.{Rewrite, placed_from, replay_rewrite};
 ghost use Rattle.rules.specs.Checks.{checks};
 ghost use Rattle.rules.specs.Context.{context};
 ghost use Rattle.rules.specs.Waiting.{replay_marked};
-ghost use Rattle.rules_by_group.proofs.RunLaws.{KeptAt};
+ghost use Rattle.rules_by_group.specs.Kept.{KeptAt};
 ghost use Rattle.log_batch.specs.Lent.{items_of};
 ghost use Rattle.room.specs.Batches.{unmarked};
 ghost use Rattle.room.specs.Parts.{part_for};
