@@ -12,7 +12,7 @@ ghost use Rattle.pipe_log.specs.Freshness.{number_order, freshness};
 use cells::Order;
 
 // The type of log queue.
-#[derive(Drop)]
+#[derive(Clone, Copy)]
 pub enum LogQueue {
     Append,
     Rewrite,
