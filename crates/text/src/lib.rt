@@ -1,11 +1,13 @@
 // Numbers in texts: what the test programs read.
 #![tactic(auto)]
 
+mod filling;
 mod reading;
 
 ghost use Rattle.std.specs.Prelude.{◌≤◌, length};
 ghost use Rattle.text.specs.Decimals.{ReadNumber};
 
+pub use filling::read_full;
 pub use reading::{Read, read_all};
 
 // What stands where a number is due: its value and the place of the byte that ends it.
