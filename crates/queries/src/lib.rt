@@ -28,14 +28,14 @@ pub const KEY_ABSENT: u64 = 0;
 pub const VALUE_FOUND: u64 = 1;
 
 // Where a group stands: at a stretch of the area, or nowhere.
-#[derive(Drop)]
+#[derive(Clone, Copy)]
 pub enum Place {
     At(usize),
     Absent,
 }
 
 // An index or a sequence number of a group, or that there is none; or document 01's 9.
-#[derive(Drop)]
+#[derive(Clone, Copy)]
 pub enum FoundNumber {
     GroupAbsent,
     Absent,
@@ -43,14 +43,14 @@ pub enum FoundNumber {
 }
 
 // A number of entries or keys of a group, or document 01's 9.
-#[derive(Drop)]
+#[derive(Clone, Copy)]
 pub enum Counted {
     GroupAbsent,
     Is(usize),
 }
 
 // An entry record of a group, or that it is not held; or document 01's 9.
-#[derive(Drop)]
+#[derive(Clone, Copy)]
 pub enum FoundEntry {
     GroupAbsent,
     Absent,
@@ -58,7 +58,7 @@ pub enum FoundEntry {
 }
 
 // What `has_at_least_some_entries_before` answers, or document 01's 9 or 10.
-#[derive(Drop)]
+#[derive(Clone, Copy)]
 pub enum SomeBefore {
     GroupAbsent,
     BadRange,
@@ -66,7 +66,7 @@ pub enum SomeBefore {
 }
 
 // What a query with lent lists answers: how many rows of them it filled, or document 01's 9, 10, 11, 12 or 19.
-#[derive(Drop)]
+#[derive(Clone, Copy)]
 pub enum Fetched {
     Done(usize),
     GroupAbsent,
@@ -77,7 +77,7 @@ pub enum Fetched {
 }
 
 // What `take_cleaned_region_logs` answers: how many numbers it handed out, or document 01's 1 or 19.
-#[derive(Drop)]
+#[derive(Clone, Copy)]
 pub enum Taken {
     Done(usize),
     WrongKind,

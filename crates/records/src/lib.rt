@@ -15,7 +15,7 @@ pub use rows::{fetch_rewritten_rows, fetch_rows_before, fetch_rows_to};
 use stretch::MAX_ENTRIES;
 
 // A fetch of entry records, with document 01's arguments.
-#[derive(Drop)]
+#[derive(Clone, Copy)]
 pub enum Fetch {
     EntriesTo {
         begin: u64,
@@ -30,7 +30,7 @@ pub enum Fetch {
 
 // What a fetch does: `count` rows from place `at` of the area's numbers are stored, of which the first has the index `first`; and
 // what it answers. A refused one stores nothing.
-#[derive(Drop)]
+#[derive(Clone, Copy)]
 pub struct Plan {
     pub at: usize,
     pub first: u64,
@@ -42,7 +42,7 @@ pub struct Plan {
 pub const LISTED: usize = MAX_ENTRIES;
 
 // What a fetch into a list by value answers, with the list.
-#[derive(Drop)]
+#[derive(Clone, Copy)]
 pub struct Listed {
     pub answer: Fetched,
     pub list: [EntryIndex; LISTED],

@@ -15,14 +15,14 @@ pub use marks::{begin, seal};
 pub use stages::stage_all;
 
 // Whether some group was refused, and whether one passed a limit.
-#[derive(Drop)]
+#[derive(Clone, Copy)]
 pub struct Flags {
     pub clashed: bool,
     pub passed: bool,
 }
 
 // The number of a group that may get a table, where a place has one.
-#[derive(Drop)]
+#[derive(Clone, Copy)]
 pub enum Number {
     None,
     Of(u64),

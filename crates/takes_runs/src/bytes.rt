@@ -7,7 +7,7 @@ use crate::runs::take_line;
 use takes_lines::LineReader;
 
 // What is known between two bytes: the reader of the open line, how many lines have ended, and whether the open one has a byte.
-#[derive(Drop)]
+#[derive(Clone, Copy)]
 pub struct Known {
     pub reader: LineReader,
     pub lines: u64,
@@ -15,7 +15,7 @@ pub struct Known {
 }
 
 // What is known afterwards, and how many bytes are printed.
-#[derive(Drop)]
+#[derive(Clone, Copy)]
 pub struct Step {
     pub known: Known,
     pub printed: usize,
