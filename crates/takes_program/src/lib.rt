@@ -167,7 +167,9 @@ fn read_all<R: Read, W: Write>(
     let mut blocks = MOST_BLOCKS;
     while 0 < blocks {
         blocks -= 1;
-        let behind = read_block(input, output, xs, bs, ys, cs, items, rows, bytes, known, out);
+        let behind = read_block(
+            input, output, xs, bs, ys, cs, items, rows, bytes, known, out,
+        );
         let next = behind.next;
         if !is_block(next) {
             return behind;
@@ -219,7 +221,9 @@ fn run_over<R: Read, W: Write>(
     index::fresh(xs, bs, LogQueue::Append);
     index::fresh(ys, cs, LogQueue::Append);
     let first = takes_runs::bytes::start();
-    let last = read_all(input, output, xs, bs, ys, cs, items, rows, bytes, first, out);
+    let last = read_all(
+        input, output, xs, bs, ys, cs, items, rows, bytes, first, out,
+    );
     let next = last.next;
     if is_end(next) {
         let known = last.known;
@@ -240,6 +244,7 @@ pub fn run<R: Read, W: Write>(input: &mut R, output: &mut W) -> io::Result<()> {
     let mut bytes = [0u8; KEY_VALUE_BYTES];
     let mut out = [0u8; PRINTED_MOST];
     run_over(
-        input, output, &mut xs, &mut bs, &mut ys, &mut cs, &mut items, &mut rows, &mut bytes, &mut out,
-    );
+        input, output, &mut xs, &mut bs, &mut ys, &mut cs, &mut items, &mut rows, &mut bytes,
+        &mut out,
+    )
 }

@@ -3,9 +3,8 @@
 
 use std::env::{Env, FillError};
 use std::fs::File;
-use std::io;
 use std::rt::Files;
-use std::str;
+use std::{io, str};
 
 // Writes the name of a file behind a mark.
 fn say_name(rt: &impl Print, name: &str) -> io::Result<()> {
