@@ -122,40 +122,40 @@ PAIRS = answer(lambda t: t.several(t.pair))
 
 # queries: the term, what it takes, how the answer is read
 QUERIES = {
-    'get': ('qGet', lambda t: [t.bytes], answer(lambda t: t.maybe(t.bytes))),
-    'scan': ('qScan', lambda t: [lambda: t.maybe(t.bytes), lambda: t.maybe(t.bytes), t.flag, t.number], PAIRS),
-    'get_entry': ('qEntry', lambda t: [t.number], answer(lambda t: t.maybe(t.entry))),
-    'fetch_entries_to': ('qFetch', lambda t: [t.number, t.number, lambda: t.maybe(t.number)], ENTRIES),
-    'fetch_entry_indexes_before': ('qBefore', lambda t: [t.number], ENTRIES),
-    'fetch_rewritten_entry_indexes': ('qRewritten', lambda t: [], ENTRIES),
-    'fetch_kvs_before': ('qKvsBefore', lambda t: [t.number], PAIRS),
-    'fetch_rewritten_kvs': ('qRewrittenKvs', lambda t: [], PAIRS),
-    'min_file_seq': ('qMin', lambda t: [t.queue], NUMBERS),
-    'has_at_least_some_entries_before': ('qHas', lambda t: [t.gate, t.number], NUMBERS),
-    'first_index': ('qFirst', lambda t: [], NUMBERS),
-    'last_index': ('qLast', lambda t: [], NUMBERS),
-    'rewrite_count': ('qRewriteCount', lambda t: [], NUMBERS),
-    'count': ('qCount', lambda t: [], NUMBERS),
-    'live': ('qLive', lambda t: [], NUMBERS),
+    'get': ('q_get', lambda t: [t.bytes], answer(lambda t: t.maybe(t.bytes))),
+    'scan': ('q_scan', lambda t: [lambda: t.maybe(t.bytes), lambda: t.maybe(t.bytes), t.flag, t.number], PAIRS),
+    'get_entry': ('q_entry', lambda t: [t.number], answer(lambda t: t.maybe(t.entry))),
+    'fetch_entries_to': ('q_fetch', lambda t: [t.number, t.number, lambda: t.maybe(t.number)], ENTRIES),
+    'fetch_entry_indexes_before': ('q_before', lambda t: [t.number], ENTRIES),
+    'fetch_rewritten_entry_indexes': ('q_rewritten', lambda t: [], ENTRIES),
+    'fetch_kvs_before': ('q_kvs_before', lambda t: [t.number], PAIRS),
+    'fetch_rewritten_kvs': ('q_rewritten_kvs', lambda t: [], PAIRS),
+    'min_file_seq': ('q_min', lambda t: [t.queue], NUMBERS),
+    'has_at_least_some_entries_before': ('q_has', lambda t: [t.gate, t.number], NUMBERS),
+    'first_index': ('q_first', lambda t: [], NUMBERS),
+    'last_index': ('q_last', lambda t: [], NUMBERS),
+    'rewrite_count': ('q_rewrite_count', lambda t: [], NUMBERS),
+    'count': ('q_count', lambda t: [], NUMBERS),
+    'live': ('q_live', lambda t: [], NUMBERS),
 }
 
 # changes of a table: the term, what it takes
 CHANGES = {
     'append': ('appended true %s', lambda t: [t.entries]),
     'replay_append': ('appended false %s', lambda t: [t.entries]),
-    'replay_rewrite': ('λ t. ok (replayedRewrite %s t)', lambda t: [t.entries]),
+    'replay_rewrite': ('λ t. ok (replayed_rewrite %s t)', lambda t: [t.entries]),
     'rewrite': ('rewritten %s %s', lambda t: [lambda: t.maybe(t.number), t.entries]),
-    'put': ('λ t. ok (putKey %s (record { value = %s; file = %s }) t)', lambda t: [t.bytes, t.bytes, t.file]),
-    'delete': ('λ t. ok (deleteKey %s t)', lambda t: [t.bytes]),
-    'rewrite_key': ('rewrittenKey %s %s %s', lambda t: [t.bytes, lambda: t.maybe(t.number), t.number]),
+    'put': ('λ t. ok (put_key %s (record { value = %s; file = %s }) t)', lambda t: [t.bytes, t.bytes, t.file]),
+    'delete': ('λ t. ok (delete_key %s t)', lambda t: [t.bytes]),
+    'rewrite_key': ('rewritten_key %s %s %s', lambda t: [t.bytes, lambda: t.maybe(t.number), t.number]),
     'apply_rewrite_atomic_group': ('spanned (record { start = %s; end = %s })', lambda t: [t.number, t.number]),
 }
 
 # calls of a context that take nothing
 ASKED = {
-    'live': ('asks %s liveText', NUMBERS),
-    'groups': ('asks %s (λ c. listed num (groupNumbers c))', NUMBERS),
-    'is_empty': ('asks %s (λ c. bit (isEmpty c))', NUMBERS),
+    'live': ('asks %s live_text', NUMBERS),
+    'groups': ('asks %s (λ c. listed num (group_numbers c))', NUMBERS),
+    'is_empty': ('asks %s (λ c. bit (is_empty c))', NUMBERS),
     'cleaned': ('takes %s', NUMBERS),
 }
 
@@ -199,7 +199,7 @@ class Script:
             return 'attempt (%s)' % term, read
         n, name = t.word(), t.word()
         if word == 'q':
-            return self.query('asksGroup %s %s' % (n, name), t.word(), t)
+            return self.query('asks_group %s %s' % (n, name), t.word(), t)
         return self.table_call(n, name, t) if word == 't' else self.context_call(n, name, t)
 
     def query(self, asks, name, t):
@@ -208,37 +208,37 @@ class Script:
 
     def context_call(self, n, name, t):
         if name == 'new':
-            return 'newContext %s %s' % (n, t.queue()[0]), DONE
+            return 'new_context %s %s' % (n, t.queue()[0]), DONE
         if name in ('merge', 'join'):
             return 'combines %s %s %s' % (n, t.word(), name), DONE
         if name == 'dump':
-            return 'asks %s contextText' % n, context_dump
+            return 'asks %s context_text' % n, context_dump
         if name in ASKED:
             term, read = ASKED[name]
             return term % n, read
         file = t.row(t.queue, t.number)[0]
         call = {'replay': 'replay', 'live_append': 'append'}.get(name) or 'rewrite ' + t.maybe(t.number)[0]
-        return 'writesContext %s (%s (batch %s %s))' % (n, call, file, t.several(t.item)[0]), DONE
+        return 'writes_context %s (%s (batch %s %s))' % (n, call, file, t.several(t.item)[0]), DONE
 
     def table_call(self, n, name, t):
         if name == 'new':
             self.groups[n] = t.word()
-            return 'newTable %s' % n, DONE
+            return 'new_table %s' % n, DONE
         if name == 'dump':
-            return 'asksTable %s (qDump %s)' % (n, self.groups[n]), table_dump
+            return 'asks_table %s (q_dump %s)' % (n, self.groups[n]), table_dump
         if name == 'compact_to':
             return 'compacts %s %s' % (n, t.word()), NUMBERS
         if name == 'merge_newer_neighbor':
             newer = t.word()
-            return 'mergesTable %s %s %s' % (self.queues.get(newer, 'Append'), n, newer), DONE
+            return 'merges_table %s %s %s' % (self.queues.get(newer, 'Append'), n, newer), DONE
         if name == 'merge_append_table':
-            return 'joinsTable %s %s' % (n, t.word()), DONE
+            return 'joins_table %s %s' % (n, t.word()), DONE
         if name not in CHANGES:
-            return self.query('asksTable %s' % n, name, t)
+            return self.query('asks_table %s' % n, name, t)
         if name == 'replay_rewrite':
             self.queues[n] = 'Rewrite'
         term, reads = CHANGES[name]
-        return 'writesTable %s done (%s)' % (n, term % tuple(read()[0] for read in reads(t))), DONE
+        return 'writes_table %s done (%s)' % (n, term % tuple(read()[0] for read in reads(t))), DONE
 
 
 def expected(read, lines):
@@ -277,7 +277,7 @@ def write(out, scripts):
     head = open(here + '/head.txt', encoding='utf-8').read()
     for folder in ('specs', 'src'):
         os.makedirs('%s/%s' % (out, folder))
-    open(out + '/src/lib.rt', 'w').write('// Facts about the rules, made of scripts with the answers of the oracle.\n')
+    open(out + '/src/lib.rt', 'w').write('// Facts about the rules, made of scripts with the answers of the oracle.\n#![tactic(auto)]\n')
     shutil.copy(here + '/calls.txt', out + '/specs/Run.antt')
     for n, lines in enumerate(scripts):
         with open('%s/specs/Script%d.antt' % (out, n), 'w', encoding='utf-8') as f:
