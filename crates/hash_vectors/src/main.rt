@@ -3,74 +3,67 @@
 
 mod vector;
 
-ghost use Rattle.std.specs.Prelude.{◌≡◌, cond, ◌≤◌, eqb};
+ghost use Rattle.std.specs.Prelude.{◌≡◌, cond, false, ◌≤◌, eqb, IfOk, OnErr};
 ghost use Rattle.util.specs.Mixing.{mixed};
 
-use libc::STDOUT_FILENO;
+use std::fs::File;
+use std::io;
+use text::read_full;
 use vector::Line;
 
-fn say(words: &[u8]) {
-    io::write_all(STDOUT_FILENO, words);
+fn say(rt: &impl Print, words: &[u8]) -> io::Result<()> {
+    rt.write_all(words)
 }
 
-fn say_line(words: &[u8], line: u64) {
-    say(words);
-    io::print_decimal(STDOUT_FILENO, line);
-    say(b"\n");
+fn say_line(rt: &impl Print, words: &[u8], line: u64) -> io::Result<()> {
+    say(rt, words)?;
+    println!(rt; "{line}")
 }
 
-fn say_malformed(line: u64) {
-    say_line(b"hash_u64: malformed at line ", line);
+fn say_malformed(rt: &impl Print, line: u64) -> io::Result<()> {
+    say_line(rt, b"hash_u64: malformed at line ", line)
 }
 
-fn say_counts(vectors: u64, differ: u64) {
-    say(b"hash_u64: ");
-    io::print_decimal(STDOUT_FILENO, vectors);
-    say(b" vectors, ");
-    io::print_decimal(STDOUT_FILENO, differ);
-    say(b" differ\n");
+fn say_counts(rt: &impl Print, vectors: u64, differ: u64) -> io::Result<()> {
+    println!(rt; "hash_u64: {vectors} vectors, {differ} differ")
 }
 
 // 1 where the vector at a line differs, which is said, and else 0.
-fn difference(input: u64, output: u64, line: u64) -> u64
-    ensures value { result ≡ cond (eqb (mixed input) output) 0 1 }
-    ensures upper_bound { result ≤ 1 }
+fn difference(rt: &impl Print, input: u64, output: u64, line: u64) -> io::Result<u64>
+    ensures value { IfOk result (λ n. n ≡ cond (eqb (mixed input) output) 0 1) }
+    ensures upper_bound { IfOk result (λ n. n ≤ 1) }
+    ensures said { OnErr result (eqb (mixed input) output ≡ false) }
 {
     if util::hash_u64(input) == output {
-        return 0;
+        return Ok(0);
     }
-    say_line(b"hash_u64 differs at line ", line);
-    1
+    say_line(rt, b"hash_u64 differs at line ", line)?;
+    Ok(1)
 }
 
-fn compare_all(text: &[u8]) {
+fn compare_all(rt: &impl Print, text: &[u8]) -> io::Result<()> {
     let mut at = 0;
     let mut lines: u64 = 0;
     let mut differ: u64 = 0;
     while at < text.len() {
         lines += 1;
         let Line::Vector { input, output, end } = vector::line_at(text, at) else {
-            say_malformed(lines);
-            return;
+            return say_malformed(rt, lines);
         };
-        differ += difference(input, output, lines);
+        differ += difference(rt, input, output, lines)?;
         at = end + 1;
     }
-    say_counts(lines, differ);
+    say_counts(rt, lines, differ)
 }
 
-fn main() {
-    let fd = os::open_read(b"hash_u64.txt");
-    if fd < 0 {
-        say(b"hash_u64: no file of vectors\n");
-        return;
-    }
-    let mut text = io::large_buffer();
-    let length = io::read_full(fd, &mut text);
-    libc::close(fd);
+fn main(rt: HostRuntime) -> io::Result<()> {
+    let Ok(mut file) = File::open(&rt, "hash_u64.txt") else {
+        return say(&rt, b"hash_u64: no file of vectors\n");
+    };
+    let mut text = [0u8; 65536];
+    let length = read_full(&mut file, &mut text)?;
     if length == text.len() {
-        say(b"hash_u64: too many vectors\n");
-        return;
+        return say(&rt, b"hash_u64: too many vectors\n");
     }
-    compare_all(&text[..length]);
+    compare_all(&rt, &text[..length])
 }
