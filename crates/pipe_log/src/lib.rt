@@ -48,7 +48,7 @@ pub enum EntryBlock {
 }
 
 // The gate of a rewrite, a sequence number of the Append queue (the Rust's `Option<FileSeq>`): document 01's gated or ungated.
-#[derive(Drop)]
+#[derive(Clone, Copy)]
 pub enum Gate {
     None,
     Seq(u64),
