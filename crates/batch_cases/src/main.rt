@@ -4,27 +4,24 @@
 mod case;
 
 use case::Outcome;
-use libc::STDOUT_FILENO;
+use std::fs::File;
+use std::io;
+use text::read_full;
 
-fn say(words: &[u8]) {
-    io::write_all(STDOUT_FILENO, words);
+fn say(rt: &impl Print, words: &[u8]) -> io::Result<()> {
+    rt.write_all(words)
 }
 
-fn say_case(words: &[u8], number: u64) {
-    say(words);
-    io::print_decimal(STDOUT_FILENO, number);
-    say(b"\n");
+fn say_case(rt: &impl Print, words: &[u8], number: u64) -> io::Result<()> {
+    say(rt, words)?;
+    println!(rt; "{number}")
 }
 
-fn say_counts(cases: u64, differ: u64) {
-    say(b"checks: ");
-    io::print_decimal(STDOUT_FILENO, cases);
-    say(b" cases, ");
-    io::print_decimal(STDOUT_FILENO, differ);
-    say(b" differ\n");
+fn say_counts(rt: &impl Print, cases: u64, differ: u64) -> io::Result<()> {
+    println!(rt; "checks: {cases} cases, {differ} differ")
 }
 
-fn compare_all(text: &[u8]) {
+fn compare_all(rt: &impl Print, text: &[u8]) -> io::Result<()> {
     let mut at = 0;
     let mut cases: u64 = 0;
     let mut differ: u64 = 0;
@@ -36,31 +33,26 @@ fn compare_all(text: &[u8]) {
                 at = end;
             }
             Outcome::Differs(end) => {
-                say_case(b"checks: other answer in case ", cases);
+                say_case(rt, b"checks: other answer in case ", cases)?;
                 differ += 1;
                 at = end;
             }
             Outcome::Malformed => {
-                say_case(b"checks: malformed case ", cases);
-                return;
+                return say_case(rt, b"checks: malformed case ", cases);
             }
         }
     }
-    say_counts(cases, differ);
+    say_counts(rt, cases, differ)
 }
 
-fn main() {
-    let fd = os::open_read(b"cases.txt");
-    if fd < 0 {
-        say(b"checks: no file of cases\n");
-        return;
-    }
-    let mut text = io::large_buffer();
-    let length = io::read_full(fd, &mut text);
-    libc::close(fd);
+fn main(rt: HostRuntime) -> io::Result<()> {
+    let Ok(mut file) = File::open(&rt, "cases.txt") else {
+        return say(&rt, b"checks: no file of cases\n");
+    };
+    let mut text = [0u8; 65536];
+    let length = read_full(&mut file, &mut text)?;
     if length == text.len() {
-        say(b"checks: too many cases\n");
-        return;
+        return say(&rt, b"checks: too many cases\n");
     }
-    compare_all(&text[..length]);
+    compare_all(&rt, &text[..length])
 }

@@ -1,34 +1,28 @@
 // Makes the calls of the files of data/ on the index, and writes of each file how many answers are other than the Rust's.
 #![tactic(auto)]
 
-ghost use Rattle.std.specs.Prelude.{◌≡◌, ◌+◌, ◌*◌, ◌≤◌, ◌<◌, length};
+ghost use Rattle.std.specs.Prelude.{◌≡◌, ◌+◌, ◌*◌, ◌≤◌, ◌<◌, false, IfOk, OnErr, length};
 ghost use Rattle.contexts.specs.Contexts.{area_numbers, area_bytes};
 
-use libc::STDOUT_FILENO;
 use script_areas::{ALL_BYTES, ALL_NUMBERS};
 use scripts::HEAD;
-use text::Read;
+use std::fs::File;
+use std::io;
+use std::rt::Files;
+use text::{Read, read_full};
 
-fn say(words: &[u8]) {
-    io::write_all(STDOUT_FILENO, words);
+fn say(rt: &impl Print, words: &str) -> io::Result<()> {
+    rt.print(words)
 }
 
 // Names a file and a call of it.
-fn say_call(name: &[u8], words: &[u8], number: u64) {
-    say(name);
-    say(words);
-    io::print_decimal(STDOUT_FILENO, number);
-    say(b"\n");
+fn say_call(rt: &impl Print, name: &str, words: &str, number: u64) -> io::Result<()> {
+    println!(rt; "{name}{words}{number}")
 }
 
 // Says how many calls a file has, and how many were answered otherwise.
-fn say_counts(name: &[u8], calls: u64, differ: u64) {
-    say(name);
-    say(b": ");
-    io::print_decimal(STDOUT_FILENO, calls);
-    say(b" calls, ");
-    io::print_decimal(STDOUT_FILENO, differ);
-    say(b" differ\n");
+fn say_counts(rt: &impl Print, name: &str, calls: u64, differ: u64) -> io::Result<()> {
+    println!(rt; "{name}: {calls} calls, {differ} differ")
 }
 
 // How many numbers the call at a place has by its first number, or 0 where there are not so many.
@@ -44,18 +38,25 @@ fn length_at(numbers: &[u64], at: usize) -> usize
 }
 
 // 1 where a call differs, which is said, and else 0.
-fn difference(same: bool, name: &[u8], number: u64) -> u64
-    ensures { result ≤ 1 }
+fn difference(rt: &impl Print, same: bool, name: &str, number: u64) -> io::Result<u64>
+    ensures upper_bound { IfOk result (λ n. n ≤ 1) }
+    ensures said { OnErr result (same ≡ false) }
 {
     if same {
-        return 0;
+        return Ok(0);
     }
-    say_call(name, b": other answer in call ", number);
-    1
+    say_call(rt, name, ": other answer in call ", number)?;
+    Ok(1)
 }
 
 // Compares the calls one after another, each on what those before it left.
-fn compare_all(name: &[u8], numbers: &[u64], xs: &mut [u64], bs: &mut [u8])
+fn compare_all(
+    rt: &impl Print,
+    name: &str,
+    numbers: &[u64],
+    xs: &mut [u64],
+    bs: &mut [u8],
+) -> io::Result<()>
     requires { (length xs.old ≡ 8 * area_numbers) × (length bs.old ≡ 8 * area_bytes) }
 {
     script_areas::fresh_all(xs, bs);
@@ -66,67 +67,67 @@ fn compare_all(name: &[u8], numbers: &[u64], xs: &mut [u64], bs: &mut [u8])
         let n = length_at(numbers, at);
         calls += 1;
         if n < HEAD {
-            say_call(name, b": malformed call ", calls);
-            return;
+            return say_call(rt, name, ": malformed call ", calls);
         }
         let end = at + n;
-        differ += difference(script_areas::run(&numbers[at..end], xs, bs), name, calls);
+        let same = script_areas::run(&numbers[at..end], xs, bs);
+        differ += difference(rt, same, name, calls)?;
         at = end;
     }
-    say_counts(name, calls, differ);
+    say_counts(rt, name, calls, differ)
 }
 
 // Compares the calls that stand in some numbers on areas of their own.
-fn compare_numbers(name: &[u8], numbers: &[u64]) {
+fn compare_numbers(rt: &impl Print, name: &str, numbers: &[u64]) -> io::Result<()> {
     let mut xs = [0u64; ALL_NUMBERS];
     let mut bs = [0u8; ALL_BYTES];
-    compare_all(name, numbers, &mut xs, &mut bs);
+    compare_all(rt, name, numbers, &mut xs, &mut bs)
 }
 
 // Compares the calls of a text, whose numbers go to the front of a list.
-fn compare_text(name: &[u8], text: &[u8], list: &mut [u64]) {
+fn compare_text(rt: &impl Print, name: &str, text: &[u8], list: &mut [u64]) -> io::Result<()> {
     let Read::UpTo(n) = text::read_all(text, list) else {
-        say(name);
-        say(b": malformed\n");
-        return;
+        say(rt, name)?;
+        return say(rt, ": malformed\n");
     };
-    compare_numbers(name, &list[..n]);
+    compare_numbers(rt, name, &list[..n])
 }
 
 // Compares the calls that a file holds, if it is shorter than the buffer.
-fn compare_read(name: &[u8], fd: i32, text: &mut [u8]) {
-    let length = io::read_full(fd, text);
-    libc::close(fd);
+fn compare_read(
+    rt: &impl Print,
+    name: &str,
+    file: &mut impl io::Read,
+    text: &mut [u8],
+) -> io::Result<()> {
+    let length = read_full(file, text)?;
     if length == text.len() {
-        say(name);
-        say(b": too long\n");
-        return;
+        say(rt, name)?;
+        return say(rt, ": too long\n");
     }
     let mut list = [0u64; 131072];
-    compare_text(name, &text[..length], &mut list);
+    compare_text(rt, name, &text[..length], &mut list)
 }
 
 // Compares the calls of a file.
-fn compare_file(name: &[u8]) {
-    let fd = os::open_read(name);
-    if fd < 0 {
-        say(name);
-        say(b": no such file\n");
-        return;
-    }
+fn compare_file(rt: &(impl Files + Print), name: &str) -> io::Result<()> {
+    let Ok(mut file) = File::open(rt, name) else {
+        say(rt, name)?;
+        return say(rt, ": no such file\n");
+    };
     let mut text = [0u8; 262144];
-    compare_read(name, fd, &mut text);
+    compare_read(rt, name, &mut file, &mut text)
 }
 
-fn main() {
-    compare_file(b"bench_1.txt");
-    compare_file(b"tables_1.txt");
-    compare_file(b"tables_2.txt");
-    compare_file(b"tables_3.txt");
-    compare_file(b"tables_4.txt");
-    compare_file(b"index_1.txt");
-    compare_file(b"index_2.txt");
-    compare_file(b"index_3.txt");
-    compare_file(b"index_4.txt");
-    compare_file(b"wrong.txt");
+fn main(rt: HostRuntime) -> io::Result<()> {
+    compare_file(&rt, "bench_1.txt")?;
+    compare_file(&rt, "tables_1.txt")?;
+    compare_file(&rt, "tables_2.txt")?;
+    compare_file(&rt, "tables_3.txt")?;
+    compare_file(&rt, "tables_4.txt")?;
+    compare_file(&rt, "index_1.txt")?;
+    compare_file(&rt, "index_2.txt")?;
+    compare_file(&rt, "index_3.txt")?;
+    compare_file(&rt, "index_4.txt")?;
+    compare_file(&rt, "wrong.txt")
 }

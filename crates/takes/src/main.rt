@@ -1,6 +1,8 @@
 // Document 01's program `takes`: lines on standard input, groups and live counts on standard output.
 #![tactic(auto)]
 
-fn main() {
-    takes_program::run(libc::STDIN_FILENO);
+use std::io;
+
+fn main(rt: HostRuntime) -> io::Result<()> {
+    takes_program::run(&mut rt.reader(), &mut io::writer(&rt))
 }

@@ -1,13 +1,14 @@
-// The input and output of document 01's program `takes`: an open file is read by blocks, and what `takes_runs` prints is written to
-// standard output by blocks, in fixed memory.
+// The input and output of document 01's program `takes`: a reader is read by blocks, and what `takes_runs` prints is written to a
+// writer by blocks, in fixed memory.
 #![tactic(auto)]
 
 ghost use Rattle.std.specs.Prelude.{◌≡◌, ◌+◌, ◌^◌, ◌≤◌, ◌<◌, length};
 ghost use Rattle.takes_runs.specs.Reading.{Fit};
 
 use index::{BYTES, NUMBERS};
-use libc::STDOUT_FILENO;
 use pipe_log::LogQueue;
+use std::io;
+use std::io::{Read, Write};
 use takes_lines::reader::{ITEM_NUMBERS, KEY_VALUE_BYTES, ROW_NUMBERS};
 use takes_runs::blocks::LINE_MOST;
 use takes_runs::bytes::Known;
@@ -21,22 +22,23 @@ const BLOCK: usize = 4096;
 const PRINTED_MOST: usize = BLOCK * LINE_MOST;
 
 // What follows a block: the next one, the end of the input, or nothing, where a read or a write failed.
-#[derive(Drop)]
+#[derive(Clone, Copy)]
 enum Next {
     Block,
     End,
-    Nothing,
+    Nothing(io::Error),
 }
 
 // What is known behind a block, and what follows.
-#[derive(Drop)]
+#[derive(Clone, Copy)]
 struct Turn {
     known: Known,
     next: Next,
 }
 
 // Takes a block that was read, and writes what it prints.
-fn take_block(
+fn take_block<W: Write>(
+    output: &mut W,
     xs: &mut [u64],
     bs: &mut [u8],
     ys: &mut [u64],
@@ -58,21 +60,22 @@ fn take_block(
     );
     let printed = step.printed;
     let behind = step.known;
-    if io::write_all(STDOUT_FILENO, &out[..printed]) {
-        return Turn {
+    match output.write_all(&out[..printed]) {
+        Ok(()) => Turn {
             known: behind,
             next: Next::Block,
-        };
-    }
-    Turn {
-        known: behind,
-        next: Next::Nothing,
+        },
+        Err(e) => Turn {
+            known: behind,
+            next: Next::Nothing(e),
+        },
     }
 }
 
 // Reads a block and takes it.
-fn read_block(
-    fd: i32,
+fn read_block<R: Read, W: Write>(
+    input: &mut R,
+    output: &mut W,
     xs: &mut [u64],
     bs: &mut [u8],
     ys: &mut [u64],
@@ -88,23 +91,30 @@ fn read_block(
     ensures fit_2 { Fit result.known items.new rows.new bytes.new xs.new bs.new ys.new cs.new }
     ensures lines_bound { result.known.lines ≤ known.lines + 4096 }
 {
-    let mut block = io::buffer();
-    let got = libc::read(fd, &mut block);
-    if got < 0 {
-        os::fail(b"takes: input");
-        return Turn {
-            known,
-            next: Next::Nothing,
-        };
-    }
-    if got == 0 {
-        return Turn {
+    let mut block = [0u8; BLOCK];
+    match input.read(&mut block) {
+        Ok(0) => Turn {
             known,
             next: Next::End,
-        };
+        },
+        Ok(n) => take_block(
+            output,
+            xs,
+            bs,
+            ys,
+            cs,
+            items,
+            rows,
+            bytes,
+            known,
+            &block[..n],
+            out,
+        ),
+        Err(e) => Turn {
+            known,
+            next: Next::Nothing(e),
+        },
     }
-    let n = io::count(got, &block);
-    take_block(xs, bs, ys, cs, items, rows, bytes, known, &block[..n], out)
 }
 
 // Whether there is a next block.
@@ -112,7 +122,7 @@ fn is_block(next: Next) -> bool {
     match next {
         Next::Block => true,
         Next::End => false,
-        Next::Nothing => false,
+        Next::Nothing(_) => false,
     }
 }
 
@@ -121,13 +131,23 @@ fn is_end(next: Next) -> bool {
     match next {
         Next::Block => false,
         Next::End => true,
-        Next::Nothing => false,
+        Next::Nothing(_) => false,
+    }
+}
+
+// The error of a read or a write, where one failed.
+fn outcome(next: Next) -> io::Result<()> {
+    match next {
+        Next::Block => Ok(()),
+        Next::End => Ok(()),
+        Next::Nothing(e) => Err(e),
     }
 }
 
 // Reads the input to its end.
-fn read_all(
-    fd: i32,
+fn read_all<R: Read, W: Write>(
+    input: &mut R,
+    output: &mut W,
     xs: &mut [u64],
     bs: &mut [u8],
     ys: &mut [u64],
@@ -147,7 +167,9 @@ fn read_all(
     let mut blocks = MOST_BLOCKS;
     while 0 < blocks {
         blocks -= 1;
-        let behind = read_block(fd, xs, bs, ys, cs, items, rows, bytes, known, out);
+        let behind = read_block(
+            input, output, xs, bs, ys, cs, items, rows, bytes, known, out,
+        );
         let next = behind.next;
         if !is_block(next) {
             return behind;
@@ -161,7 +183,8 @@ fn read_all(
 }
 
 // Writes what is printed from the end of the input on.
-fn finish(
+fn finish<W: Write>(
+    output: &mut W,
     xs: &mut [u64],
     bs: &mut [u8],
     ys: &mut [u64],
@@ -171,17 +194,18 @@ fn finish(
     bytes: &mut [u8],
     known: Known,
     out: &mut [u8],
-)
+) -> io::Result<()>
     requires fit { Fit known items.old rows.old bytes.old xs.old bs.old ys.old cs.old }
     requires out_len { (length out.old ≡ 180224) × (known.lines + 1 < 2 ^ 64) }
 {
     let printed = takes_runs::end::end_all(xs, bs, ys, cs, items, rows, bytes, known, out);
-    io::write_all(STDOUT_FILENO, &out[..printed]);
+    output.write_all(&out[..printed])
 }
 
-// Reads an open file to its end over lent memory.
-fn run_over(
-    fd: i32,
+// Reads the input to its end over lent memory.
+fn run_over<R: Read, W: Write>(
+    input: &mut R,
+    output: &mut W,
     xs: &mut [u64],
     bs: &mut [u8],
     ys: &mut [u64],
@@ -190,24 +214,27 @@ fn run_over(
     rows: &mut [u64],
     bytes: &mut [u8],
     out: &mut [u8],
-)
+) -> io::Result<()>
     requires xs_len { (length xs.old ≡ 17231) × (length bs.old ≡ 38912) × (length ys.old ≡ 17231) × (length cs.old ≡ 38912) }
     requires len { (length items.old ≡ 9) × (length rows.old ≡ 264) × (length bytes.old ≡ 66) × (length out.old ≡ 180224) }
 {
     index::fresh(xs, bs, LogQueue::Append);
     index::fresh(ys, cs, LogQueue::Append);
     let first = takes_runs::bytes::start();
-    let last = read_all(fd, xs, bs, ys, cs, items, rows, bytes, first, out);
+    let last = read_all(
+        input, output, xs, bs, ys, cs, items, rows, bytes, first, out,
+    );
     let next = last.next;
     if is_end(next) {
         let known = last.known;
-        finish(xs, bs, ys, cs, items, rows, bytes, known, out);
+        return finish(output, xs, bs, ys, cs, items, rows, bytes, known, out);
     }
+    outcome(next)
 }
 
-// Reads an open file to its end, and writes what document 01's program prints for it. Where a read fails, a message goes to standard
-// error; where a read or a write fails, nothing more is written.
-pub fn run(fd: i32) {
+// Reads the input to its end, and writes what document 01's program prints for it. Where a read or a write fails, nothing more is
+// written, and its error is returned.
+pub fn run<R: Read, W: Write>(input: &mut R, output: &mut W) -> io::Result<()> {
     let mut xs = [0u64; NUMBERS];
     let mut bs = [0u8; BYTES];
     let mut ys = [0u64; NUMBERS];
@@ -217,6 +244,7 @@ pub fn run(fd: i32) {
     let mut bytes = [0u8; KEY_VALUE_BYTES];
     let mut out = [0u8; PRINTED_MOST];
     run_over(
-        fd, &mut xs, &mut bs, &mut ys, &mut cs, &mut items, &mut rows, &mut bytes, &mut out,
-    );
+        input, output, &mut xs, &mut bs, &mut ys, &mut cs, &mut items, &mut rows, &mut bytes,
+        &mut out,
+    )
 }

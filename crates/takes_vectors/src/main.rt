@@ -1,38 +1,43 @@
 // Runs document 01's program on each file that an argument names, and writes what it prints behind the file's name.
 #![tactic(auto)]
 
-use libc::STDOUT_FILENO;
+use std::env::{Env, FillError};
+use std::fs::File;
+use std::rt::Files;
+use std::{io, str};
 
 // Writes the name of a file behind a mark.
-fn say_name(name: &[u8]) {
-    io::write_all(STDOUT_FILENO, b"# ");
-    io::write_all(STDOUT_FILENO, name);
-    io::write_all(STDOUT_FILENO, b"\n");
+fn say_name(rt: &impl Print, name: &str) -> io::Result<()> {
+    println!(rt; "# {name}")
 }
 
 // Runs the program on the file that an argument names, or says why it can not be opened.
-fn run_file(i: usize) {
-    let mut path = io::buffer();
-    let length = os::arg(i, &mut path);
-    let fd = os::open_read(&path[..length]);
-    if fd < 0 {
-        os::fail(&path[..length]);
-        return;
+fn run_file(rt: &(impl Files + Print + Eprint), path: &[u8]) -> io::Result<()> {
+    let Ok(name) = str::from_utf8(path) else {
+        return eprintln!(rt; "a file's name is not text");
+    };
+    match File::open(rt, name) {
+        Ok(mut file) => {
+            say_name(rt, name)?;
+            takes_program::run(&mut file, &mut io::writer(rt))
+        }
+        Err(e) => eprintln!(rt; "{name}: {e}"),
     }
-    say_name(&path[..length]);
-    takes_program::run(fd);
-    libc::close(fd);
 }
 
 // Each argument behind the program's own name is a file.
-fn run_all(count: usize) {
-    let mut i = 1;
-    while i < count {
-        run_file(i);
-        i += 1;
+fn run_all(rt: &(impl Env + Files + Print + Eprint)) -> io::Result<()> {
+    let mut path = [0u8; 4096];
+    for i in 1..usize::MAX {
+        match rt.arg(i, &mut path) {
+            Ok(length) => run_file(rt, &path[..length])?,
+            Err(FillError::TooLong) => eprintln!(rt; "argument {i} is too long")?,
+            Err(FillError::NotPresent) => break,
+        }
     }
+    Ok(())
 }
 
-fn main() {
-    run_all(os::arg_count());
+fn main(rt: HostRuntime) -> io::Result<()> {
+    run_all(&rt)
 }
