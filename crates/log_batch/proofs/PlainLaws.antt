@@ -1,6 +1,6 @@
 -- A list that one pass finds plain meets none of 3 to 6. Assumes nothing.
-use mathlib.Core.Bool.{Bool, true, false, cond, not, ◌&&◌, ◌||◌}
-use mathlib.Core.Path.{◌≡◌, refl, sym, ap, ◌∙◌}
+use mathlib.Core.Bool.{true, false, ◌&&◌}
+use mathlib.Core.Path.{◌≡◌, refl, sym}
 use mathlib.Core.List.{List, [], ◌∷◌}
 use Prim.Native.Nat.{ℕ, zero, suc, ◌+◌, ◌-◌, ◌*◌, ◌≤◌, ◌<◌, ◌^◌}
 use native.Mathlib.Nat.{add-zero}
@@ -15,7 +15,7 @@ use Rattle.maps.specs.Lists.{any}
 use Rattle.pipe_log.specs.declared.EntryIndex.{EntryIndex}
 use Rattle.pipe_log.specs.Numbers.{queue_number}
 use Rattle.pipe_log.specs.Rows.{is_record, entry_of, entries_of, queue_at}
-use Rattle.rules.specs.Items.{LogQueue, Append, Rewrite, same_queue, has_file, file_of, Call, writes, entries, is_tombstone}
+use Rattle.rules.specs.Items.{LogQueue, Append, Rewrite, same_queue, Call, writes, entries, is_tombstone}
 use Rattle.rules.specs.Checks.{consecutive, is_incomplete, is_out_of_range, is_other_queue, is_not_rewritable}
 use Rattle.log_batch.specs.declared.entries.EntryTest.{TheVariants.WithoutFile, TheVariants.OutOfRange, TheVariants.OtherQueue}
 use Rattle.log_batch.specs.declared.item.LogItemContent as content

@@ -23,7 +23,7 @@ pub const MAX_BYTES: usize = 32;
 pub const NONE_OF_CONTENT: u64 = 7;
 
 // The four calls that take a batch; a live rewrite has its gate and the batch's sequence number.
-#[derive(Drop)]
+#[derive(Clone, Copy)]
 pub enum Call {
     ReplayAppend,
     ReplayRewrite,

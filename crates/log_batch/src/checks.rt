@@ -19,14 +19,14 @@ pub const MAX_STATUS: u8 = END;
 const NONE_OF_ALL: u64 = 8;
 
 // The answer of the checks: a refusal has 01's number and the item's position.
-#[derive(Drop)]
+#[derive(Clone, Copy)]
 pub enum Checked {
     Passed,
     Refused { number: u64, place: usize },
 }
 
 // The least number met so far, 8 where there is none, and the first item that meets it.
-#[derive(Drop)]
+#[derive(Clone, Copy)]
 struct Best {
     pub number: u64,
     pub place: usize,

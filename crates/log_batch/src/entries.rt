@@ -19,7 +19,7 @@ pub const MAX_COMPRESSION: u64 = 1;
 pub const ENTRY_OFFSETS: u64 = 0x1_0000_0000;
 
 // What an entry is tested for.
-#[derive(Drop)]
+#[derive(Clone, Copy)]
 pub enum EntryTest {
     WithoutFile,
     OutOfRange,

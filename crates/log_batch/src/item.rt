@@ -4,41 +4,41 @@ ghost use Rattle.cells.specs.Part.{part};
 
 use pipe_log::{ENTRY_WIDTH, FileId};
 
-#[derive(Drop)]
+#[derive(Clone, Copy)]
 pub enum Command {
     Clean,
     Compact { index: u64 },
 }
 
-#[derive(Drop)]
+#[derive(Clone, Copy)]
 pub enum OpType {
     Put,
     Del,
 }
 
 // The places of a list's rows in the lent rows of entries.
-#[derive(Drop)]
+#[derive(Clone, Copy)]
 pub struct EntryIndexes {
     pub at: usize,
     pub count: usize,
 }
 
 // The place of a value in the lent bytes; a Put may lack one.
-#[derive(Drop)]
+#[derive(Clone, Copy)]
 pub enum Value {
     Absent,
     At { at: usize, len: usize },
 }
 
 // The file of a key change; a Put may lack one.
-#[derive(Drop)]
+#[derive(Clone, Copy)]
 pub enum KeyFile {
     Absent,
     Of(FileId),
 }
 
 // A key change, with the place of its key in the lent bytes.
-#[derive(Drop)]
+#[derive(Clone, Copy)]
 pub struct KeyValue {
     pub op_type: OpType,
     pub key_at: usize,
@@ -47,14 +47,14 @@ pub struct KeyValue {
     pub file_id: KeyFile,
 }
 
-#[derive(Drop)]
+#[derive(Clone, Copy)]
 pub enum LogItemContent {
     EntryIndexes(EntryIndexes),
     Command(Command),
     Kv(KeyValue),
 }
 
-#[derive(Drop)]
+#[derive(Clone, Copy)]
 pub struct LogItem {
     pub raft_group_id: u64,
     pub content: LogItemContent,

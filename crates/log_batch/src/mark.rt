@@ -21,7 +21,7 @@ pub const MIDDLE: u8 = 1;
 pub const END: u8 = 2;
 
 // The status of a mark.
-#[derive(Drop)]
+#[derive(Clone, Copy)]
 pub enum AtomicGroupStatus {
     Begin,
     Middle,
@@ -29,14 +29,14 @@ pub enum AtomicGroupStatus {
 }
 
 // The status byte of a mark, which an item that is no mark lacks.
-#[derive(Drop)]
+#[derive(Clone, Copy)]
 pub enum MarkByte {
     Absent,
     Byte(u8),
 }
 
 // A mark: its place in the batch, its group and its status byte.
-#[derive(Drop)]
+#[derive(Clone, Copy)]
 pub struct Mark {
     pub at: usize,
     pub raft_group_id: u64,
@@ -44,7 +44,7 @@ pub struct Mark {
 }
 
 // The first mark of a batch, if it has one.
-#[derive(Drop)]
+#[derive(Clone, Copy)]
 pub enum FirstMark {
     Absent,
     Found(Mark),

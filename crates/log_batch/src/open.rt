@@ -34,7 +34,7 @@ pub const HAS_VALUE: u64 = 1;
 pub const NO_FILE: u64 = 2;
 
 // An item, or the group of a row that is none, which every call refuses by 3.
-#[derive(Drop)]
+#[derive(Clone, Copy)]
 pub enum Opened {
     Item(LogItem),
     Refused { raft_group_id: u64 },

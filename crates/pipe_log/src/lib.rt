@@ -19,14 +19,14 @@ pub enum LogQueue {
 }
 
 // A unique identifier for a log file. Sequence numbers are unique within a queue.
-#[derive(Drop)]
+#[derive(Clone, Copy)]
 pub struct FileId {
     pub queue: LogQueue,
     pub seq: u64,
 }
 
 // A logical pointer to a chunk of log file data.
-#[derive(Drop)]
+#[derive(Clone, Copy)]
 pub struct FileBlockHandle {
     pub id: FileId,
     pub offset: u64,
@@ -34,14 +34,14 @@ pub struct FileBlockHandle {
 }
 
 // Types of compression.
-#[derive(Drop)]
+#[derive(Clone, Copy)]
 pub enum CompressionType {
     None,
     Lz4,
 }
 
 // The block that an entry lies in; an entry that was never written has none.
-#[derive(Drop)]
+#[derive(Clone, Copy)]
 pub enum EntryBlock {
     Absent,
     At(FileBlockHandle),
@@ -55,7 +55,7 @@ pub enum Gate {
 }
 
 // A number that bounds an answer, which may be absent (the Rust's `Option<usize>`).
-#[derive(Drop)]
+#[derive(Clone, Copy)]
 pub enum Bound {
     None,
     At(u64),
@@ -71,7 +71,7 @@ pub const REWRITE: u64 = 1;
 pub const ENTRY_WIDTH: usize = 8;
 
 // Location of a log entry: document 01's entry record.
-#[derive(Drop)]
+#[derive(Clone, Copy)]
 pub struct EntryIndex {
     pub index: u64,
     pub entries: EntryBlock,

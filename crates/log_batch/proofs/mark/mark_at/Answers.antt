@@ -1,0 +1,31 @@
+-- `log_batch::mark::mark_at` meets its contract. Assumes nothing.
+use mathlib.Core.Path.{sym, ◌∙◌}
+use Prim.Native.Nat.{◌*◌}
+use lib.ListN.{drop}
+use Rattle.maps.specs.Lists.{map_option}
+use Rattle.rules.specs.Items.{mark_byte}
+use Rattle.log_batch.specs.Judged.{byte_as, mark_of, mark_as, mark_here}
+use Rattle.log_batch.specs.Lent.{item_of, opened_of}
+use Rattle.log_batch.proofs.ItemLaws.{item-is}
+use Rattle.log_batch.proofs.mark.mark_at.Goals as goal
+
+pub returns-in_default : goal.returns-in_default
+unfolding mark_as mark_here opened_of mark_byte map_option
+returns-in_default c =
+    let args = c.args in
+    rw (item-is args.entries.now args.bytes.now (drop (args.i * 9) args.items.now) _ (sym c.open_item.ensures.value ∙ c.in_default.is))
+
+pub mark_byte-requires : goal.mark_byte-requires
+mark_byte-requires c = (rw c.in-Item.is at c.open_item.ensures.opened_within).places
+
+pub returns-in_default-mark_byte : goal.returns-in_default-mark_byte
+unfolding mark_as mark_here opened_of item_of byte_as map_option
+returns-in_default-mark_byte c =
+    let args = c.args in
+    rw (item-is args.entries.now args.bytes.now (drop (args.i * 9) args.items.now) _ (sym c.open_item.ensures.value ∙ c.in-Item.is), ← c.mark_byte.ensures args.entries.now, c.in_default-mark_byte.is)
+
+pub returns : goal.returns
+unfolding mark_as mark_of mark_here opened_of item_of byte_as map_option
+returns c =
+    let args = c.args in
+    rw (item-is args.entries.now args.bytes.now (drop (args.i * 9) args.items.now) _ (sym c.open_item.ensures.value ∙ c.in-Item.is), ← c.mark_byte.ensures args.entries.now, c.in-Byte.is)
