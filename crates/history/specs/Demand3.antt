@@ -1,11 +1,11 @@
 -- Demand 3, clause by clause.
-use Rattle.std.specs.Prelude.{◌≡◌, false, List, [], ◌∷◌, ◌++◌, ℕ, ◌+◌, length}
-use Rattle.std.proofs.Math.Option.{Option, none, some}
-use Rattle.maps.specs.Lists.{sum, or_else}
+use Rattle.std.specs.Prelude.{◌≡◌, false, List, ◌∷◌, ◌++◌, ℕ, ◌+◌, length}
+use Rattle.std.proofs.Math.Option.{Option}
+use Rattle.maps.specs.Lists.{sum}
 use Rattle.maps.specs.Maps.{Pair, lookup, numbers, bytes, equal_bytes}
 use Rattle.rules.specs.Limits.{reserved_key}
-use Rattle.rules.specs.Causes.{Result, ok}
-use Rattle.rules.specs.Items.{LogQueue, Append, Rewrite, EntryIndex, Batch}
+use Rattle.rules.specs.Causes.{ok}
+use Rattle.rules.specs.Items.{Append, Rewrite, EntryIndex, Batch}
 use Rattle.rules.specs.Table.{Held, Table, made}
 use Rattle.rules.specs.Context.{Context, fresh}
 use Rattle.rules.specs.Calls.{replay, merge}

@@ -3,7 +3,7 @@ use Rattle.std.specs.Prelude.{◌≡◌, Bool, true, false, cond, not, ◌&&◌,
 use Rattle.std.proofs.Math.Option.{Option, none, some}
 use Rattle.maps.specs.Lists.{select, every, or_else}
 use Rattle.maps.specs.Maps.{equal_bytes}
-use Rattle.rules.specs.Items.{FileId, EntryIndex, Command, clean, compact, Change, put, del, Content, entries, command, kv, LogItem}
+use Rattle.rules.specs.Items.{FileId, EntryIndex, clean, compact, put, del, Content, entries, command, kv, LogItem}
 use Rattle.rules.specs.Table.{Held}
 
 -- ---- entries

@@ -1,5 +1,5 @@
 -- One pass over a list of batches, its history, and recovery by runs that are merged.
-use Rattle.std.specs.Prelude.{◌≡◌, Bool, List, [], ◌∷◌, ◌++◌, ℕ}
+use Rattle.std.specs.Prelude.{◌≡◌, List, [], ◌∷◌, ◌++◌, ℕ}
 use Rattle.std.proofs.Math.Option.{Option}
 use Rattle.rules.specs.Causes.{Refusal, Result, ok, refused, left}
 use Rattle.rules.specs.Items.{Append, LogItem, Batch}

@@ -1,7 +1,7 @@
 -- Deeds: a group's number with what becomes of what a map has for it. A list of deeds on a map is, group by group, each group's own deeds in order.
 -- Assumes nothing.
 use Rattle.std.specs.Prelude.{◌≡◌, cond, ℕ, eqb}
-use Rattle.std.proofs.Math.Path.{refl, sym, ap}
+use Rattle.std.proofs.Math.Path.{refl, sym, ap, subst}
 use Rattle.std.proofs.Common.{◌∙◌, eqb-true, eq-eqb}
 use mathlib.Core.List.{List, [], ◌∷◌, ◌++◌}
 use Rattle.std.proofs.Math.Option.{Option}
@@ -54,8 +54,10 @@ module _ {A : Type 0} where
     at_next : (t : Option A) → d.by (before d ds m) ≡ ok t → (g : ℕ) → own g (d ∷ ds) (lookup numbers g m) ≡ own g ds (lookup numbers g (store numbers d.group t m))
     unfolding own
     at_next t e g =
+        let P : ℕ → Type 0 = λ h. own h (d ∷ ds) (lookup numbers h m) ≡ own h ds (lookup numbers h (store numbers d.group t m)) in
         split (eqb d.group g)
-        (λ s. rw s (rw (← (eqb-true d.group g s)) (and_then_of (d.by (before d ds m)) (own d.group ds) t e ∙ ap (own d.group ds) (sym (lookup-store_same numbers numbers_lawful d.group t m asc)))))
+        (λ s. subst P (eqb-true d.group g s)
+        (rw (eq-eqb d.group d.group refl) (and_then_of (d.by (before d ds m)) (own d.group ds) t e ∙ ap (own d.group ds) (sym (lookup-store_same numbers numbers_lawful d.group t m asc)))))
         (λ s. rw s (ap (own g ds) (sym (lookup-store-other numbers numbers_lawful g d.group t m (eqb_comm g d.group ∙ s)))))
 
     own-refused : (x : Refusal) → d.by (before d ds m) ≡ refused x → own d.group (d ∷ ds) (before d ds m) ≡ refused x
@@ -117,9 +119,10 @@ module _ {A B : Type 0} (f : ℕ → B → Option A → Result (Option A)) where
   own-map g [] o asc = refl
   own-map g (x ∷ xs) o asc =
       let later = ascending-tail numbers x xs asc in
+      let P : ℕ → Type 0 = λ h. own h (deeds_of (x ∷ xs)) o ≡ or_else (ok o) (λ a. f h a o) (lookup numbers h (x ∷ xs)) in
       split (eqb x.key g)
-      (λ e. rw (e, eqb_comm g x.key ∙ e)
-      (rw (← (eqb-true x.key g e))
+      (λ e. subst P (eqb-true x.key g e)
+      (rw (eq-eqb x.key x.key refl)
       (and_then_same (f x.key x.val o) (own x.key (deeds_of xs)) (λ t. ok t) (λ t. none-later x xs t (ascending-head numbers x xs asc) (own-map x.key xs t later))
       ∙ and_then-unit (f x.key x.val o))))
       (λ e. rw (e, eqb_comm g x.key ∙ e) (own-map g xs o later))

@@ -21,7 +21,7 @@ use Rattle.rules.specs.Table.{Span, Table, made, spanned}
 use Rattle.rules.specs.Context.{Kind, context, index, Part, Context, with_groups, with_waiting, limited, keeps, step, run}
 use Rattle.rules.specs.Waiting.{Accepted, wait, finish, back, accept, some_parts, set_waiting, set_span, finish_group, become, accept_new_group, part_of, replay_marked}
 use Rattle.rules_by_group.specs.Group.{tomb_of, clean_of, cleans_of, parts_of, waits}
-use Rattle.rules_by_group.specs.Kept.{shaped, entry_by, each_entry, is_passed, is_own, own_items, own_parts, all_tombstones, KeptBy, Kept, KeptAt}
+use Rattle.rules_by_group.specs.Kept.{shaped, entry_by, each_entry, is_passed, is_own, own_items, own_parts, all_tombstones, KeptBy, KeptAt}
 use Rattle.rules_by_group.proofs.ResultLaws.{ok_inj, refused_not_ok, and_then_ok, in_order-kept}
 use Rattle.rules_by_group.proofs.KindLaws.{kept_at, kept_by_lem, rewrite-cleaned, own-made}
 use Rattle.rules_by_group.proofs.ItemLaws.{cleaned_by, kept_by, after, limited_ok, step-taken}
