@@ -11,7 +11,7 @@
  * every content of a batch included, is answered as document 01 says: a call is accepted, or it is refused by one of the
  * numbers below and leaves everything as it was.
  *
- * Build: rt staticlib galdnyrr, then link target/staticlib/libgaldnyrr.a. */
+ * Build: tools/library, then link target/staticlib/libgaldnyrr.a. */
 #ifndef GALDNYRR_H
 #define GALDNYRR_H
 

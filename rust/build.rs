@@ -1,4 +1,4 @@
-//! Links libgaldnyrr.a, which `rt staticlib galdnyrr` writes to target/staticlib of the project; `GALDNYRR_LIB_DIR` names another folder.
+//! Links libgaldnyrr.a, which `tools/library` writes to target/staticlib of the project; `GALDNYRR_LIB_DIR` names another folder.
 
 use std::path::PathBuf;
 
@@ -12,7 +12,7 @@ fn main() {
     println!("cargo:rerun-if-env-changed=GALDNYRR_LIB_DIR");
     println!("cargo:rerun-if-changed={}", library.display());
     if !library.is_file() {
-        panic!("no {}: run `rt staticlib galdnyrr` at the project's root", library.display());
+        panic!("no {}: run `tools/library` at the project's root", library.display());
     }
     println!("cargo:rustc-link-search=native={}", dir.display());
     println!("cargo:rustc-link-lib=static=galdnyrr");

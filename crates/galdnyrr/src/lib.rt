@@ -1,4 +1,4 @@
-// The calls for C and Rust to link (`rt staticlib galdnyrr`, include/galdnyrr.h). Each is a call of `index` with its contract;
+// The calls for C and Rust to link (`tools/library`, include/galdnyrr.h). Each is a call of `index` with its contract;
 // what is an enum or a struct there goes as numbers (`specs/Told.antt`, `specs/Asked.antt`).
 #![tactic(auto)]
 
