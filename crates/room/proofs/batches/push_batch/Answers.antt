@@ -15,7 +15,7 @@ push_item-all-requires c =
 pub loop-i-preserved : goal.loop-i-preserved
 loop-i-preserved c =
     let below : c.loop-i.i < row_count_of c.args.items.now = rw c.row_count-n.ensures at c.loop-i-test.true in
-    pushing-more c.args.items.now c.args.entries.now c.args.bytes.now c.args.cells c.args.tag c.args.store c.args.ws.now c.args.vs.now c.requires.ws_len.0 c.requires.ws_len.1 c.requires.stored c.loop-i.i c.loop-i.all c.loop-i.ws c.loop-i.vs c.loop-i.invariant below _ _ _ c.ws-1.given c.vs-1.given c.push_item-all.ensures
+    pushing-more c.args.items.now c.args.entries.now c.args.bytes.now c.args.cells c.args.tag c.args.store c.args.ws.now c.args.vs.now c.requires.ws_len.0 c.requires.ws_len.1 c.requires.stored c.loop-i.i c.loop-i.all c.loop-i.ws c.loop-i.vs c.loop-i.invariant below _ _ _ c.push_item-all.auto.ws c.push_item-all.auto.vs c.push_item-all.ensures
 
 pub returns : goal.returns
 returns c =

@@ -18,4 +18,4 @@ add-requires c =
 pub returns : goal.returns
 returns c =
     let plain = rw c.in-Item.is at c.unmarked_at.ensures in
-    pushed-plain c.args.items.now c.args.entries.now c.args.bytes.now c.args.i c.args.cells c.args.ws.now c.args.vs.now _ _ c.args.store c.args.tag _ _ c.requires.ws_len.0 c.requires.ws_len.1 c.ws-1.given c.vs-1.given plain c.add.ensures
+    pushed-plain c.args.items.now c.args.entries.now c.args.bytes.now c.args.i c.args.cells c.args.ws.now c.args.vs.now _ _ c.args.store c.args.tag _ _ c.requires.ws_len.0 c.requires.ws_len.1 c.add.auto.ws c.add.auto.vs plain c.add.ensures

@@ -15,7 +15,7 @@ pub copy_rows-end-requires : goal.copy_rows-end-requires
 copy_rows-end-requires c =
     let h = c.requires.store_bound.1 in
     let e = c.requires.ws_len.0 in
-    let same = c.ws-1.given in record { ws_len = same ∙ e; content_bound = omega arith; rows_within = c.requires.lent.within.rows }
+    let same = c.write_row.auto.ws in record { ws_len = same ∙ e; content_bound = omega arith; rows_within = c.requires.lent.within.rows }
 
 pub overflow_add-ws-2 : goal.overflow_add-ws-2
 overflow_add-ws-2 c = let h = c.requires.store_bound.0 in let e = c.requires.ws_len.0 in omega arith

@@ -15,7 +15,7 @@ write_row-requires c =
     let h = c.requires.left_bound.0 in record { ws_len = c.requires.ws_len.0; i_bound = omega arith; content_bound = omega arith }
 
 pub move_rows-end-requires : goal.move_rows-end-requires
-move_rows-end-requires c = let h = c.requires.left_bound.1 in record { ws_len = c.ws-1.given ∙ c.requires.ws_len.0; content_bound = omega arith; rows_within = c.requires.lent.within.rows; rows_behind = c.requires.behind.rows }
+move_rows-end-requires c = let h = c.requires.left_bound.1 in record { ws_len = c.write_row.auto.ws ∙ c.requires.ws_len.0; content_bound = omega arith; rows_within = c.requires.lent.within.rows; rows_behind = c.requires.behind.rows }
 
 pub move_bytes-requires : goal.move_bytes-requires
 move_bytes-requires c = rw c.requires.ws_len.1 record { bytes_within = c.requires.lent.within.places; bytes_behind = c.requires.behind.places }

@@ -13,7 +13,7 @@ keep_other-left-requires c =
 
 pub loop-j-preserved : goal.loop-j-preserved
 loop-j-preserved c =
-    (omega arith, taking-in-next c.args.cells c.args.tag c.args.ws.now c.args.vs.now c.requires.ws_len.0 c.requires.ws_len.1 c.args.store c.requires.stored c.loop-j.j c.loop-j.left c.loop-j.ws c.loop-j.vs c.loop-j.invariant.1 c.loop-j-test.true _ _ _ c.ws-1.given c.vs-1.given c.keep_other-left.ensures)
+    (omega arith, taking-in-next c.args.cells c.args.tag c.args.ws.now c.args.vs.now c.requires.ws_len.0 c.requires.ws_len.1 c.args.store c.requires.stored c.loop-j.j c.loop-j.left c.loop-j.ws c.loop-j.vs c.loop-j.invariant.1 c.loop-j-test.true _ _ _ c.keep_other-left.auto.ws c.keep_other-left.auto.vs c.keep_other-left.ensures)
 
 pub returns : goal.returns
 returns c =

@@ -38,4 +38,4 @@ pub returns : goal.returns
 returns c =
     let its = unmarked (items_of c.args.items.now c.args.entries.now c.args.bytes.now) in
     let fit = judged_form c.args.ws.now c.args.vs.now c.requires.context_room c.args.group c.args.k c.args.status c.args.seq its c.args.form c.requires.form_at _ _ _ c.groups_with-groups.ensures c.counts_left-left.ensures.keeps c.count_batch-more.ensures.value ∙ sym c.within_limits.ensures in
-    form_waited c.args.ws.now c.args.vs.now c.requires.context_room c.args.group c.args.k c.args.status c.args.seq its c.args.form c.requires.form_at (fit ∙ c.if-not-within_limits.false) _ _ c.ws-1.given c.vs-1.given c.write_form.ensures
+    form_waited c.args.ws.now c.args.vs.now c.requires.context_room c.args.group c.args.k c.args.status c.args.seq its c.args.form c.requires.form_at (fit ∙ c.if-not-within_limits.false) _ _ c.write_form.auto.ws c.write_form.auto.vs c.write_form.ensures

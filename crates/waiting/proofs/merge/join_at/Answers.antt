@@ -23,7 +23,7 @@ returns-in-Drop c =
 
 pub returns-in-Finish : goal.returns-in-Finish
 returns-in-Finish c =
-    joined-finish c.args.ws.now c.args.vs.now c.requires.room_wf c.args.group c.args.k c.args.status c.args.start c.args.end (items_from c.args.us.now c.args.ds.now c.args.its) c.requires.at_cell c.step_at-step.result c.step_at-step.ensures c.in-Finish.is _ _ c.ws-in-Finish-1.given c.vs-in-Finish-1.given c.take_part.ensures
+    joined-finish c.args.ws.now c.args.vs.now c.requires.room_wf c.args.group c.args.k c.args.status c.args.start c.args.end (items_from c.args.us.now c.args.ds.now c.args.its) c.requires.at_cell c.step_at-step.result c.step_at-step.ensures c.in-Finish.is _ _ c.take_part.auto.ws c.take_part.auto.vs c.take_part.ensures
 
 pub returns-in-Back : goal.returns-in-Back
 returns-in-Back c =

@@ -9,4 +9,4 @@ move_form-requires c =
 
 pub returns : goal.returns
 returns c =
-    joined_form c.args.ws.now c.args.vs.now c.requires.room_wf c.args.group c.args.k c.args.status c.args.start c.args.end (items_from c.args.us.now c.args.ds.now c.args.its) c.args.form c.requires.form_at _ _ c.ws-1.given c.vs-1.given c.move_form.ensures
+    joined_form c.args.ws.now c.args.vs.now c.requires.room_wf c.args.group c.args.k c.args.status c.args.start c.args.end (items_from c.args.us.now c.args.ds.now c.args.its) c.args.form c.requires.form_at _ _ c.move_form.auto.ws c.move_form.auto.vs c.move_form.ensures

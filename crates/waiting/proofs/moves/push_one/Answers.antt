@@ -12,7 +12,7 @@ add_from-requires c =
 
 pub returns-then-old-its : goal.returns-then-old-its
 returns-then-old-its c =
-    pushed-there c.args.us.now c.args.ds.now c.requires.room_wf c.args.j c.requires.j_bound c.args.its _ c.item_in-item.ensures (λ z. c.tag_at-old.ensures c.args.ds.now z c.requires.j_bound ∙ c.if-old-its.true) c.args.ws.now c.args.vs.now c.requires.ws_len.0 c.requires.ws_len.1 c.args.store c.args.tag _ _ _ c.ws-1.given c.vs-1.given c.add_from.ensures
+    pushed-there c.args.us.now c.args.ds.now c.requires.room_wf c.args.j c.requires.j_bound c.args.its _ c.item_in-item.ensures (λ z. c.tag_at-old.ensures c.args.ds.now z c.requires.j_bound ∙ c.if-old-its.true) c.args.ws.now c.args.vs.now c.requires.ws_len.0 c.requires.ws_len.1 c.args.store c.args.tag _ _ _ c.add_from.auto.ws c.add_from.auto.vs c.add_from.ensures
 
 pub returns : goal.returns
 returns c =

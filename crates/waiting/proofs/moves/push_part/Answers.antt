@@ -25,7 +25,7 @@ overflow_add-j c =
 pub loop-j-preserved : goal.loop-j-preserved
 unfolding store_of
 loop-j-preserved c =
-    moving-more (items_in (store_of c.args.us.now) (room_of 16 c.args.us.now c.args.ds.now)) _ c.args.its c.args.tag (many c.args.us.now c.args.ds.now c.requires.room_wf) c.args.store c.args.ws.now c.args.vs.now c.loop-j.all c.loop-j.ws c.loop-j.vs c.loop-j.j c.loop-j-test.true c.loop-j.invariant _ _ _ c.ws-1.given c.vs-1.given c.push_one-all.ensures
+    moving-more (items_in (store_of c.args.us.now) (room_of 16 c.args.us.now c.args.ds.now)) _ c.args.its c.args.tag (many c.args.us.now c.args.ds.now c.requires.room_wf) c.args.store c.args.ws.now c.args.vs.now c.loop-j.all c.loop-j.ws c.loop-j.vs c.loop-j.j c.loop-j-test.true c.loop-j.invariant _ _ _ c.push_one-all.auto.ws c.push_one-all.auto.vs c.push_one-all.ensures
 
 pub returns : goal.returns
 unfolding store_of
