@@ -161,7 +161,8 @@ def main(dry):
     changed = 0
     for p, text in texts.items():
         labels = set(re.findall(r"(?m)^(?:abbrev )?(?:pub )?(" + NAME + r") : (?:tie|need|goal|g)\.", text)) if not own_lemmas(p) else set()
-        mine = {o: n for o, n in table.items() if o in held[p] and o not in labels}
+        words = {m[0] for m in word.finditer(text)}
+        mine = {o: n for o, n in table.items() if o in words and o not in labels}
         if not mine:
             continue
 
@@ -172,7 +173,7 @@ def main(dry):
             return mine[o]
 
         if p.endswith(".rt"):
-            soft = lambda t: word.sub(lambda m: mine[m[0]] if m[0] in mine and m.string[m.start() - 1 : m.start()] != "." and (HUMP.search(m[0]) or "-" in m[0]) else m[0], t)
+            soft = lambda t: word.sub(lambda m: mine[m[0]] if m[0] in mine and (HUMP.search(m[0]) or "-" in m[0] and m.string[m.start() - 1 : m.start()] != ".") else m[0], t)
             new = "\n".join(soft(l) if re.match(r"\s*(ghost use|requires|ensures|ghost|//)", l) else l for l in text.split("\n"))
         else:
             new = word.sub(one, text)

@@ -9,7 +9,7 @@ use Rattle.std.proofs.Math.Numerals.{add-one}
 use Rattle.maps.specs.Cells.{map_of}
 use Rattle.maps.specs.Maps.{Map}
 use Rattle.rules.specs.Causes.{Result, ok, refused, and_then, in_order}
-use Rattle.rules.specs.Items.{LogItem, Call, Placed, placed_from}
+use Rattle.rules.specs.Items.{Call, Placed, placed_from}
 use Rattle.rules.specs.Checks.{checks}
 use Rattle.rules.specs.Table.{Table}
 use Rattle.rules.specs.Context.{Part, Context, with_groups, with_waiting, limited, step, run}

@@ -17,7 +17,7 @@ use Rattle.pipe_log.specs.Rows.{entries_of, window}
 use Rattle.rules.specs.Limits.{max_bytes, reserved_key}
 use Rattle.rules.specs.Causes.{ok, and_then}
 use Rattle.rules.specs.Items as rules
-use Rattle.rules.specs.Checks.{consecutive, long, long_change, lacks_value, lacks_file, is_incomplete, is_out_of_range, is_other_queue, is_not_rewritable, is_rewrite_replay, meets3, unless_reserved, checks}
+use Rattle.rules.specs.Checks.{consecutive, long, long_change, lacks_value, lacks_file, is_incomplete, is_out_of_range, is_other_queue, is_not_rewritable, is_rewrite_replay, meets3, unless_reserved}
 use Rattle.rules.specs.Table.{Table, made, change, entries_to, put_to, change_to, command_to, put_held}
 use Rattle.memtable.specs.Appends.{Lent}
 use Rattle.memtable.specs.BatchLaws.{entries_of-window, lent-checked}

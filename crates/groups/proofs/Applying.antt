@@ -1,6 +1,6 @@
 -- Each way through `apply` and `remove`: a group that stands at a stretch, one that is made at a free stretch, and no stretch.
 -- Assumes nothing.
-use mathlib.Core.Bool.{true, false, cond, ◌&&◌, and-false, false≢true}
+use mathlib.Core.Bool.{false, cond, ◌&&◌, and-false, false≢true}
 use mathlib.Core.List.{List}
 use mathlib.Core.Option.{none, some}
 use mathlib.Core.Path.{◌≡◌, refl, sym, ◌∙◌}

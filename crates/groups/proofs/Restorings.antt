@@ -1,5 +1,5 @@
 -- One stretch is taken back: its header and the rows of entries that the spare holds, and its keys if the spare holds them. Assumes nothing.
-use mathlib.Core.Bool.{true, false, false≢true}
+use mathlib.Core.Bool.{false≢true}
 use mathlib.Core.List.{List, [], ◌∷◌}
 use mathlib.Core.Path.{◌≡◌, sym, ap, ◌∙◌}
 use Prim.Native.Nat.{ℕ, ◌+◌, ◌-◌, ◌*◌, ◌%◌, ◌≤◌, ◌<◌}
@@ -11,7 +11,6 @@ use Rattle.cells.specs.Part.{part, put}
 use Rattle.cells.specs.PartLaws.{length_part, length-put, part_none, part-cons, part-part, part-front, part-set-before, part-put_same, part-put-before, part-put-after, set-put}
 use Rattle.stretch.specs.Layout.{stretch_width, bytes_width}
 use Rattle.stretch.specs.Stretch.{head_part, key_count}
-use Rattle.stretch.specs.Stretch as stretch
 use Rattle.groups.specs.Area.{slots, numbers_in_use, stretch_at, bytes_at, cell_at, Only}
 use Rattle.groups.specs.AreaLaws.{Same, only_none, only-length, only-other}
 use Rattle.groups.specs.PlaceLaws.{laid_in, laid_none, laid-again}

@@ -24,7 +24,7 @@ pub const BYTES: usize = 2 * SLOTS * stretch::BYTES;
 pub const SPARES_AT: usize = SLOTS * stretch::STRETCH;
 
 // Where a group stands: at a stretch, or nowhere with a free stretch for it, or nowhere and all are used.
-#[derive(Drop)]
+#[derive(Clone, Copy)]
 pub enum Slot {
     At(usize),
     Free(usize),

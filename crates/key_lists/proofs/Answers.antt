@@ -30,7 +30,7 @@ use Rattle.key_lists.specs.declared.Which.{Which}
 use Rattle.key_lists.specs.declared.Which.TheVariants.{UpTo, OfRewrite}
 use Rattle.key_lists.specs.declared.Fetched.{Fetched}
 use Rattle.key_lists.specs.declared.Fetched.TheVariants.{Done, BadRange, TooShort}
-use Rattle.kvs.specs.Rows.{row_at, key_of, held_of, pair_of, keys_in}
+use Rattle.kvs.specs.Rows.{row_at, held_of, pair_of, keys_in}
 use Rattle.kvs.specs.RowIn.{number_at}
 use Rattle.kvs.specs.Orders.{is_less, below_by-order}
 use Rattle.kvs.specs.Places.{below_bound}

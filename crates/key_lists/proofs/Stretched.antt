@@ -1,5 +1,5 @@
 -- A stretch of rows copied to the list, and the answer of a scan by it. Assumes nothing.
-use Prim.Native.Nat.{ℕ, zero, suc, ◌+◌, ◌-◌, ◌*◌, ◌≤◌, ◌<◌, min}
+use Prim.Native.Nat.{ℕ, suc, ◌+◌, ◌-◌, ◌≤◌, ◌<◌}
 use native.Mathlib.Nat.{zero-add, add-zero}
 use native.Mathlib.Numerals.{add-one}
 use native.Mathlib.Decide.{dec_lt}
@@ -12,7 +12,7 @@ use lib.Seq.{length-take-le, take-suc, get_or-drop, get_or-append-add}
 use Rattle.cells.specs.Part.{part}
 use Rattle.cells.specs.PartLaws.{length_part, get_or-part}
 use Rattle.maps.specs.Lists.{or_else}
-use Rattle.maps.specs.Maps.{Pair, Map}
+use Rattle.maps.specs.Maps.{Pair}
 use Rattle.rules.specs.Table.{Held}
 use Rattle.rules.specs.TableQueries.{KeyValue, row_of, in_direction}
 use Rattle.kvs.specs.Rows.{row_at, pair_of, keys_in}

@@ -16,7 +16,7 @@ use copies::{copy_chosen, copy_stretch, count_chosen};
 use kvs::rows::{LENS_WIDTH, ROW_BYTES};
 
 // Which keys a query asks for: the Append ones up to a gate, or the Rewrite ones.
-#[derive(Drop)]
+#[derive(Clone, Copy)]
 pub enum Which {
     UpTo(u64),
     OfRewrite,

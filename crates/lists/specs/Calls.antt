@@ -1,5 +1,5 @@
 -- What the calls on a context's lists promise.
-use Rattle.std.specs.Prelude.{List, [], ◌∷◌, ◌++◌, ◌≡◌, ℕ, ◌+◌, ◌≤◌, get_or, drop}
+use Rattle.std.specs.Prelude.{List, [], ◌∷◌, ◌++◌, ◌≡◌, ℕ, ◌≤◌, get_or, drop}
 use Rattle.rules.specs.Items.{LogItem}
 use Rattle.rules.specs.Context.{Kind, context, index, Context, with_tombstones, with_cleaned}
 use Rattle.lists.specs.declared.Kind as kind

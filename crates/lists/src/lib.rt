@@ -48,14 +48,14 @@ pub const ROW_BYTES: usize = MAX_TOMBSTONES * ITEM_BYTES;
 const INDEX: u64 = 2;
 
 // What an area stands for.
-#[derive(Drop)]
+#[derive(Clone, Copy)]
 pub enum Kind {
     Context(LogQueue),
     Index,
 }
 
 // The numbers of elements that the lists have.
-#[derive(Drop)]
+#[derive(Clone, Copy)]
 pub struct Counts {
     pub tombstones: usize,
     pub cleaned: usize,

@@ -2,7 +2,7 @@
 use Rattle.std.specs.Prelude.{Bool, List, ◌++◌, ◌≡◌, ℕ, ◌+◌, ◌-◌, ◌*◌, length, drop}
 use Rattle.std.proofs.Math.Bool.{true, false}
 use Rattle.std.proofs.Common.{append-nil, arith}
-use Rattle.maps.specs.Lists.{select, front}
+use Rattle.maps.specs.Lists.{select}
 use Rattle.pipe_log.specs.Rows.{queue_at, window}
 use Rattle.rules.specs.Items.{LogQueue, Append, Rewrite, EntryIndex, same_queue, file_of, is_rewrite}
 use Rattle.rules.specs.TableQueries.{run_of}

@@ -18,7 +18,7 @@ use pipe_log::EntryIndex;
 pub use rows::entry_at;
 
 // The files of a finished atomic group: document 01's span.
-#[derive(Drop)]
+#[derive(Clone, Copy)]
 pub enum AtomicGroup {
     None,
     Span { start: u64, end: u64 },
@@ -26,7 +26,7 @@ pub enum AtomicGroup {
 
 // A group's head. The entries are the first `len` rows of the group's part, oldest first, by consecutive indexes from
 // `first_index`; the first `rewrite_count` of them are of the Rewrite queue, the others of the Append queue.
-#[derive(Drop)]
+#[derive(Clone, Copy)]
 pub struct Head {
     pub first_index: u64,
     pub len: usize,

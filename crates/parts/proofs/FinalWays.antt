@@ -1,9 +1,9 @@
 -- The ways of counting the tombstones among the items that finish. Assumes nothing.
-use mathlib.Core.Bool.{Bool, true, false}
-use mathlib.Core.List.{List, [], ◌∷◌, ◌++◌}
-use mathlib.Core.Option.{Option, none, some}
+use mathlib.Core.Bool.{true, false}
+use mathlib.Core.List.{List, [], ◌∷◌}
+use mathlib.Core.Option.{some}
 use mathlib.Core.Path.{◌≡◌, refl, sym, ap, ◌∙◌, subst}
-use Prim.Native.Nat.{ℕ, zero, suc, ◌+◌, ◌*◌, ◌≤◌, ◌<◌}
+use Prim.Native.Nat.{ℕ, suc, ◌+◌, ◌*◌, ◌≤◌, ◌<◌}
 use native.Mathlib.Nat.{zero-add}
 use native.Mathlib.Omega.{arith}
 use lib.ListN.{length, get_or, drop, length-append}
@@ -15,13 +15,13 @@ use Rattle.maps.specs.MapLaws.{pair}
 use Rattle.maps.proofs.CellLaws.{length-le}
 use Rattle.rules.specs.Items as rules
 use Rattle.rules.specs.Context.{Part}
-use Rattle.rules_by_group.specs.Group.{Finished, finished_of}
+use Rattle.rules_by_group.specs.Group.{finished_of}
 use Rattle.rules_by_group.specs.Stage.{tombs_in, finished_tombs}
 use Rattle.log_batch.specs.declared.item.LogItem.{LogItem}
 use Rattle.log_batch.specs.Lent.{item_of, content_of}
 use Rattle.stores.specs.declared.Store.{Store}
 use Rattle.stores.specs.Stores.{Area, Stored, ItemAt}
-use Rattle.stores.specs.Tags.{Tagged, store_tagged, items_with}
+use Rattle.stores.specs.Tags.{store_tagged, items_with}
 use Rattle.room.specs.Rooms.{head_at, group_in, parts_of, waiting_in}
 use Rattle.room.specs.Layout.{room_of, waiting_of, tagged, RoomWf}
 use Rattle.parts.specs.declared.Ending.{Ending}

@@ -1,27 +1,27 @@
 -- The ways of keeping the tombstones among the items that finish. Assumes nothing.
-use mathlib.Core.Bool.{Bool, true, false}
+use mathlib.Core.Bool.{true, false}
 use mathlib.Core.List.{List, [], ◌∷◌, ◌++◌, append-nil, append_assoc}
-use mathlib.Core.Option.{Option, none, some}
+use mathlib.Core.Option.{Option, some}
 use mathlib.Core.Path.{◌≡◌, refl, sym, ap, ◌∙◌, subst}
-use Prim.Native.Nat.{ℕ, zero, suc, ◌+◌, ◌*◌, ◌≤◌, ◌<◌}
+use Prim.Native.Nat.{ℕ, suc, ◌+◌, ◌*◌, ◌≤◌, ◌<◌}
 use native.Mathlib.Omega.{arith}
 use lib.ListN.{length, get_or, drop, length-append}
 use Rattle.cells.specs.Part.{part}
 use Rattle.maps.specs.BoolLaws.{clash}
-use Rattle.maps.specs.Lists.{select, or_else}
+use Rattle.maps.specs.Lists.{or_else}
 use Rattle.maps.specs.ListLaws.{select-append}
 use Rattle.maps.specs.Maps.{Map, lookup, numbers}
 use Rattle.maps.specs.MapLaws.{pair}
 use Rattle.rules.specs.Items as rules
 use Rattle.rules.specs.Context.{Part, Context, with_tombstones}
-use Rattle.rules_by_group.specs.Group.{Finished, finished_of}
+use Rattle.rules_by_group.specs.Group.{finished_of}
 use Rattle.rules_by_group.specs.Stage.{tombs_in, finished_tombs}
 use Rattle.log_batch.specs.declared.item.LogItem.{LogItem}
 use Rattle.log_batch.specs.declared.item.LogItemContent as content
 use Rattle.log_batch.specs.Lent.{item_of, content_of}
 use Rattle.stores.specs.declared.Store.{Store}
 use Rattle.stores.specs.Stores.{Area, Stored, ItemAt}
-use Rattle.stores.specs.Tags.{Tagged, store_tagged, items_with}
+use Rattle.stores.specs.Tags.{store_tagged, items_with}
 use Rattle.stores.specs.Written.{count_of}
 use Rattle.lists.specs.Rest.{tombstones_in, rest_of}
 use Rattle.lists.specs.Rest as lists

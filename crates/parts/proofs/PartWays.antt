@@ -1,10 +1,9 @@
 -- The ways of finding what finishes: the heads of two cells tell, and a group's cell is what the map has of it. Assumes nothing.
-use mathlib.Core.Bool.{Bool, true, false, not, cond, ◌&&◌}
+use mathlib.Core.Bool.{true, false, not, cond}
 use mathlib.Core.List.{List, [], ◌∷◌, ◌++◌}
-use mathlib.Core.Option.{Option, none, some, none-ne-some, some-injective}
+use mathlib.Core.Option.{Option, none, some}
 use mathlib.Core.Path.{◌≡◌, refl, sym, ap, ◌∙◌}
-use Prim.Native.Nat.{ℕ, suc, ◌+◌, ◌-◌, ◌*◌, ◌≤◌, ◌<◌}
-use native.Mathlib.Nat.{add-zero}
+use Prim.Native.Nat.{ℕ, ◌+◌, ◌*◌, ◌≤◌, ◌<◌}
 use native.Mathlib.Numerals.{add-one}
 use native.Mathlib.Omega.{arith}
 use lib.Dec.{eqb}
@@ -14,29 +13,25 @@ use Rattle.cells.specs.Part.{part}
 use Rattle.cells.specs.PartLaws.{get_or-part}
 use Rattle.maps.specs.BoolLaws.{clash, both_left, both_right}
 use Rattle.maps.specs.Lists.{last, or_else}
-use Rattle.maps.specs.Maps.{Pair, lookup, numbers}
+use Rattle.maps.specs.Maps.{lookup, numbers}
 use Rattle.maps.specs.MapLaws.{pair}
 use Rattle.maps.specs.Cells.{holds}
 use Rattle.maps.proofs.CellLaws.{lookup_at, lookup_absent}
 use Rattle.maps.specs.OrderLaws.{split}
 use Rattle.rules.specs.Items.{status_of}
 use Rattle.rules.specs.Context.{Part}
-use Rattle.rules.specs.Waiting.{Accepted, accept}
+use Rattle.rules.specs.Waiting.{accept}
 use Rattle.rules_by_group.specs.Group.{Finished, finished_by, finished_of}
 use Rattle.rules_by_group.specs.Group as group
 use Rattle.rules_by_group.proofs.ResultLaws.{by_option}
 use Rattle.stores.specs.Tags.{Tagged, items_with}
 use Rattle.stores.specs.TagLaws.{with_here, with-past, with-end}
 use Rattle.room.specs.Rooms.{head_at, count_in, group_in, newest_tag, older_tag, newest, older, parts_of, cell_of, cells_of, items_in, area_in, waiting_in}
-use Rattle.room.specs.RoomLaws.{length-cells, get_or-cells}
 use Rattle.room.specs.Layout.{store_of, room_of, waiting_of, tagged, RoomWf}
-use Rattle.room.specs.LayoutLaws.{cell-count, length-tags, length-items}
-use Rattle.room.specs.HeadLaws.{head_number}
 use Rattle.waiting.specs.declared.Place as place
 use Rattle.waiting.specs.declared.Step as step
-use Rattle.waiting.specs.Steps.{is_of, step_by, step_of, stepped, AtCell, FreeCell, NoCell, Found}
+use Rattle.waiting.specs.Steps.{is_of, step_of, stepped, AtCell, Found}
 use Rattle.waiting.specs.StepLaws.{accept_step}
-use Rattle.parts.specs.declared.Ending.{Ending}
 use Rattle.parts.specs.declared.Finishing.{Finishing}
 use Rattle.parts.specs.declared.Finishing.TheVariants as finishing
 use Rattle.parts.specs.Finishings.{finished_as, oldest_at, oldest, is_finish, has_items}

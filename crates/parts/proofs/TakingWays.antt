@@ -1,7 +1,6 @@
 -- The ways of newer parts that are accepted in the older room: a part, a cell, and all cells. Assumes nothing.
 use mathlib.Core.Bool.{Bool, true, false}
 use mathlib.Core.List.{List, [], ◌∷◌}
-use mathlib.Core.Option.{Option}
 use mathlib.Core.Path.{◌≡◌, refl, sym, ap, ◌∙◌, subst}
 use Prim.Native.Nat.{ℕ, suc, ◌+◌, ◌*◌, ◌≤◌, ◌<◌}
 use native.Mathlib.Omega.{arith}
@@ -17,7 +16,7 @@ use Rattle.rules.specs.Waiting.{Accepted, wait, finish, back, accept, some_parts
 use Rattle.rules_by_group.specs.Group.{parts_of, waits, accept_part}
 use Rattle.rules_by_group.specs.Stage.{accept_parts_of, waiting_after}
 use Rattle.rules_by_group.proofs.ResultLaws.{refusal_of, and_then_of, and_then-refused}
-use Rattle.stores.specs.Tags.{Tagged, items_with}
+use Rattle.stores.specs.Tags.{items_with}
 use Rattle.room.specs.Rooms.{head_at, group_in, newest_tag, older_tag, newest, older}
 use Rattle.room.specs.Rooms as rooms
 use Rattle.room.specs.Layout.{store_of, room_of, waiting_of, tagged, RoomWf, ContextRoom}

@@ -15,7 +15,7 @@ pub use limits::room_fits;
 pub use takings::take_parts;
 
 // The parts that are finished: the tags of their items in the older and in the newer room, and the first and the last file.
-#[derive(Drop)]
+#[derive(Clone, Copy)]
 pub struct Ending {
     pub older: u64,
     pub newer: u64,
@@ -24,14 +24,14 @@ pub struct Ending {
 }
 
 // What a merge finishes of a group.
-#[derive(Drop)]
+#[derive(Clone, Copy)]
 pub enum Finishing {
     None,
     Of(Ending),
 }
 
 // The groups that a walk by ascending number has still to come to.
-#[derive(Drop)]
+#[derive(Clone, Copy)]
 pub enum Bound {
     All,
     Above(u64),

@@ -1,4 +1,4 @@
-// The fetch itself. A function with the list of records as a parameter is proved by a walk, so this one decides nothing.
+// The fetch itself: it carries a plan out, and decides nothing.
 ghost use Rattle.rules.specs.Queries.{in_group};
 ghost use Rattle.contexts.specs.Contexts.{context_of, Wf};
 ghost use Rattle.records.specs.Fetches.{query_of, Fetching};

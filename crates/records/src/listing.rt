@@ -7,7 +7,7 @@ use crate::fetching::fetch_records;
 use crate::{Fetch, LISTED, Listed};
 use pipe_log::EntryIndex;
 
-// Fetches a group's records into a list that comes and goes by value: a caller's proof needs no walk.
+// Fetches a group's records into a list that comes and goes by value.
 pub fn fetch_listed(
     xs: &[u64],
     bs: &[u8],

@@ -1,5 +1,5 @@
-// The fetches into a lent list of rows of eight numbers, one for each record: a list of records that C can read. No struct is lent, so
-// that these functions need no walk.
+// The fetches into a lent list of rows of eight numbers, one for each record: a list of records that C can read, since no struct is
+// lent.
 ghost use Rattle.std.specs.Prelude.{◌≡◌, ◌+◌, ◌≤◌, ◌/◌, length, drop};
 ghost use Rattle.cells.specs.Part.{put};
 ghost use Rattle.pipe_log.specs.Numbers.{bound_of};

@@ -11,7 +11,7 @@ use Rattle.rules_by_group.proofs.ResultLaws.{refused_not_ok}
 use Rattle.contexts.specs.declared.Answer.{Answer}
 use Rattle.contexts.specs.declared.Answer.TheVariants.{Accepted, Refused}
 use Rattle.contexts.specs.declared.Position.{Position}
-use Rattle.contexts.specs.Contexts.{position_of, answer_as, context_of}
+use Rattle.contexts.specs.Contexts.{position_of, answer_as}
 use Rattle.history.specs.Recovery.{one_pass, keep_if, history, Runs, Made}
 use Rattle.recovery.specs.Areas.{Area, context_in, CallOn, Took, MadeBy}
 

@@ -1,19 +1,16 @@
 -- Demand 3 of the calls, from demand 3 of the rules.
 -- Assumes nothing.
 use mathlib.Core.List.{List, [], ◌∷◌, ◌++◌, map, append_assoc, append-nil}
-use mathlib.Core.Path.{◌≡◌, refl, sym, ap, ◌∙◌}
+use mathlib.Core.Path.{◌≡◌, sym, ap, ◌∙◌}
 use lib.ListN.{length}
 use native.Mathlib.Omega.{arith}
 use Rattle.rules.specs.Items.{Append, Batch}
 use Rattle.rules.specs.Context.{fresh}
 use Rattle.rules.specs.Calls.{replay, merge}
-use Rattle.contexts.specs.declared.Answer.{Answer}
-use Rattle.contexts.specs.declared.Answer.TheVariants.{Accepted}
-use Rattle.history.specs.Held.{Premise}
-use Rattle.history.specs.Recovery.{history, items_of, one_pass, Runs, run, merged, batches_of}
+use Rattle.history.specs.Recovery.{history, Runs, run, merged, batches_of}
 use Rattle.history.specs.Demand3 as rules
 use Rattle.history.proofs.Theorem as rules·theorem
-use Rattle.recovery.specs.Areas.{Area, context_in, WfIn, CallOn, Took, MadeBy, LentBatch, batch_in, Ending}
+use Rattle.recovery.specs.Areas.{Area, context_in, WfIn, CallOn, MadeBy, LentBatch, batch_in, Ending}
 use Rattle.recovery.specs.Demand3.{Demand3, Claim, Reached}
 use Rattle.recovery.proofs.Passes.{answers-accepted, made_by, TookAs, took-as}
 

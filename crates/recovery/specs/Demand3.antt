@@ -1,5 +1,5 @@
 -- Demand 3 of the calls, clause by clause.
-use Rattle.std.specs.Prelude.{List, [], ◌∷◌, ◌++◌, map, ◌≡◌}
+use Rattle.std.specs.Prelude.{List, ◌∷◌, ◌++◌, map, ◌≡◌}
 use Rattle.rules.specs.Items.{Batch}
 use Rattle.rules.specs.Calls.{replay, merge}
 use Rattle.contexts.specs.declared.Answer.{Answer}

@@ -1,7 +1,7 @@
 -- A room in which an item is written behind the others, with its tag. Assumes nothing.
 use mathlib.Core.List.{List}
 use mathlib.Core.Path.{◌≡◌, refl, sym, ap, ◌∙◌}
-use Prim.Native.Nat.{ℕ, ◌+◌, ◌*◌, ◌/◌, ◌≤◌, ◌<◌}
+use Prim.Native.Nat.{ℕ, ◌+◌, ◌*◌, ◌≤◌, ◌<◌}
 use native.Mathlib.Omega.{arith}
 use lib.ListN.{length, set}
 use Rattle.cells.specs.Part.{part, put}
@@ -10,7 +10,7 @@ use Rattle.log_batch.specs.declared.item.LogItem.{LogItem}
 use Rattle.log_batch.specs.Lent.{item_of}
 use Rattle.stores.specs.declared.Store.{Store}
 use Rattle.stores.specs.Written.{row_for, rows_of, bytes_of, count_of, Lent}
-use Rattle.stores.specs.Stores.{Area, area, Stored, one_more, Added}
+use Rattle.stores.specs.Stores.{Stored, one_more, Added}
 use Rattle.stores.specs.CountLaws.{pushed-tagged}
 use Rattle.stores.proofs.AddLaws.{written, added_by}
 use Rattle.stores.proofs.AddLaws as stores

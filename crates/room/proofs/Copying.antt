@@ -1,7 +1,7 @@
 -- An item of a room is read, and copied to the front of other slices. Assumes nothing.
 use mathlib.Core.List.{List, [], ◌∷◌}
 use mathlib.Core.Path.{◌≡◌, refl, sym, ap, ◌∙◌}
-use Prim.Native.Nat.{ℕ, zero, suc, ◌+◌, ◌*◌, ◌/◌, ◌≤◌, ◌<◌}
+use Prim.Native.Nat.{ℕ, zero, suc, ◌+◌, ◌*◌, ◌≤◌, ◌<◌}
 use native.Mathlib.Omega.{arith}
 use lib.ListN.{length, get_or, drop}
 use Rattle.cells.specs.Part.{part, put}
@@ -17,14 +17,14 @@ use Rattle.log_batch.specs.OpenLaws as opening
 use Rattle.log_batch.specs.OpenLaws.{Bare}
 use Rattle.stores.specs.declared.Store.{Store}
 use Rattle.stores.specs.Written.{placed_value, placed_key, placed_content, placed, key_length, rows_of, bytes_of, count_of, ValueShort, ContentShort, Lent}
-use Rattle.stores.specs.Stores.{Area, store_items, entries_before, Stored, ItemAt}
+use Rattle.stores.specs.Stores.{Area, store_items, Stored, ItemAt}
 use Rattle.stores.specs.StoreLaws.{before_more, before_below, opened-entries, placed-short}
 use Rattle.stores.specs.Tags.{Tagged, tagged, store_tagged}
 use Rattle.stores.specs.CountLaws.{read-tagged}
 use Rattle.stores.proofs.WrittenLaws.{length-rows_of, length-bytes_of, key-32, written-item}
 use Rattle.room.specs.Rooms.{Room, area_in, items_in}
 use Rattle.room.specs.Layout.{store_of, room_of, ContextRoom}
-use Rattle.room.specs.LayoutLaws.{length-tags, length-items, length-entries, length-bytes}
+use Rattle.room.specs.LayoutLaws.{length-tags, length-items, length-entries}
 use Rattle.room.specs.LimitLaws.{room-few}
 use Rattle.room.specs.PlaceLaws.{bytes-are}
 use Rattle.room.specs.Items.{ItemCopied}

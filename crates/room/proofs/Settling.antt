@@ -1,7 +1,7 @@
 -- Heads and counts are written. Assumes nothing.
-use mathlib.Core.List.{List, [], ◌∷◌, ◌++◌, map}
-use mathlib.Core.Path.{◌≡◌, refl, sym, ap, ◌∙◌}
-use Prim.Native.Nat.{ℕ, ◌+◌, ◌-◌, ◌*◌, ◌/◌, ◌≤◌, ◌<◌}
+use mathlib.Core.List.{List, [], ◌∷◌}
+use mathlib.Core.Path.{◌≡◌, ap, ◌∙◌}
+use Prim.Native.Nat.{ℕ, ◌+◌, ◌-◌, ◌*◌, ◌≤◌, ◌<◌}
 use native.Mathlib.Nat.{add-zero}
 use native.Mathlib.Omega.{arith}
 use lib.ListN.{length, get_or, set, length-set}
@@ -10,14 +10,13 @@ use Rattle.cells.specs.Part.{part, put}
 use Rattle.cells.specs.PartLaws.{length-put, part-set-before}
 use Rattle.rules.specs.Items as rules
 use Rattle.stores.specs.declared.Store.{Store}
-use Rattle.stores.specs.Stores.{Stored}
-use Rattle.room.specs.Rooms.{Room, room, area_in, items_in, head_at, count_in, newest_tag, cell_count, Wf}
-use Rattle.room.specs.Layout.{numbers_of, bytes_of, store_of, room_of, RoomWf}
+use Rattle.room.specs.Rooms.{Room, room, items_in, head_at, count_in, newest_tag, cell_count}
+use Rattle.room.specs.Layout.{numbers_of, store_of, room_of, RoomWf}
 use Rattle.room.specs.LayoutLaws.{cell-count, count-in}
 use Rattle.room.specs.PlaceLaws.{put-head}
 use Rattle.room.specs.HeadLaws.{heads-are, head_number}
 use Rattle.room.specs.Items.{TakenIn}
-use Rattle.room.specs.Batches.{counts_for, tag_with, PushedAll}
+use Rattle.room.specs.Batches.{PushedAll}
 use Rattle.room.specs.Parts.{left_head, Settled, WroteIn, TookPart}
 use Rattle.room.specs.PartLaws.{Retagged}
 use Rattle.room.specs.RetagLaws.{retagged-left, part_left}

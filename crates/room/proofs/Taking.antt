@@ -1,19 +1,19 @@
 -- A tag is taken out of a room item by item. Assumes nothing.
 use mathlib.Core.Bool.{true, false}
 use mathlib.Core.List.{List}
-use mathlib.Core.Path.{◌≡◌, refl, sym, ap, ◌∙◌}
-use Prim.Native.Nat.{ℕ, ◌+◌, ◌*◌, ◌/◌, ◌≤◌, ◌<◌}
+use mathlib.Core.Path.{◌≡◌, refl, sym, ◌∙◌}
+use Prim.Native.Nat.{ℕ, ◌+◌, ◌*◌, ◌≤◌, ◌<◌}
 use native.Mathlib.Omega.{arith}
 use lib.Dec.{eqb}
-use lib.ListN.{length, get_or, set, drop}
+use lib.ListN.{length, get_or, set}
 use borrow.Author.Tests.{eq-eqb, ne_eqb}
 use Rattle.cells.specs.PartLaws.{get_or-part}
 use Rattle.log_batch.specs.declared.item.LogItem.{LogItem}
 use Rattle.log_batch.specs.Lent.{row_count_of}
 use Rattle.stores.specs.declared.Store.{Store}
 use Rattle.stores.specs.Written.{count_of, Behind, Lent}
-use Rattle.stores.specs.Stores.{Area, Stored}
-use Rattle.stores.specs.Tags.{Movable, Keeping}
+use Rattle.stores.specs.Stores.{Stored}
+use Rattle.stores.specs.Tags.{Movable}
 use Rattle.stores.proofs.AddLaws.{room-is}
 use Rattle.stores.proofs.TakingLaws.{Taking, taking-start, taking_movable, taking-next, taking-end}
 use Rattle.room.specs.Rooms.{Room, room, area_in}

@@ -1,5 +1,5 @@
 -- The items of a marked batch but its mark: the part that waits.
-use Rattle.std.specs.Prelude.{true, false, not, List, [], ◌∷◌, ◌++◌, map, ◌≡◌, ℕ, ◌+◌, ◌*◌, ◌≤◌, length, drop}
+use Rattle.std.specs.Prelude.{true, false, not, List, ◌++◌, map, ◌≡◌, ℕ, ◌+◌, ◌*◌, ◌≤◌, length, drop}
 use Rattle.maps.specs.Lists.{select, sum}
 use Rattle.rules.specs.Items as rules
 use Rattle.rules.specs.Items.{is_mark}

@@ -1,24 +1,23 @@
 -- What waits in a room after a change of one cell. Assumes nothing.
-use Rattle.std.specs.Prelude.{List, [], ◌∷◌, ◌≡◌, eqb, length, get_or, set}
+use Rattle.std.specs.Prelude.{List, ◌≡◌, length, get_or, set}
 use Rattle.std.proofs.Math.Option.{Option, none, some}
 use Rattle.std.proofs.Math.Path.{refl, sym}
 use Rattle.std.proofs.Common.{ap, ◌∙◌, zero-add}
-use Prim.Native.Nat.{ℕ, zero, suc, ◌+◌, ◌-◌, ◌*◌, ◌/◌, ◌≤◌, ◌<◌}
+use Prim.Native.Nat.{ℕ, zero, suc, ◌+◌, ◌*◌, ◌≤◌, ◌<◌}
 use Rattle.std.proofs.Math.Decide.{dec_lt}
 use native.Mathlib.Omega.{arith}
-use Rattle.cells.specs.Part.{part, put}
+use Rattle.cells.specs.Part.{put}
 use Rattle.cells.specs.PartLaws.{length-put, part-put_same, part-put-before, part-put-after}
 use Rattle.maps.specs.Lists.{sum, or_else}
-use Rattle.maps.specs.Maps.{Map, Pair, lookup, insert, remove, store, numbers}
+use Rattle.maps.specs.Maps.{Pair, lookup, store, numbers}
 use Rattle.maps.specs.MapLaws.{pair, Ascending, sum-store}
 use Rattle.maps.specs.OrderLaws.{numbers_lawful}
-use Rattle.maps.specs.Cells.{Cell, map_of, Distinct}
+use Rattle.maps.specs.Cells.{map_of, Distinct}
 use Rattle.maps.proofs.CellLaws.{lookup_at, map_of-ascending, map-store-free, distinct-store-free, map-store_at, distinct-store_at, map-free, distinct-free}
-use Rattle.rules.specs.Items.{status_of}
 use Rattle.rules.specs.Context.{Part}
 use Rattle.stores.specs.declared.Store.{Store}
 use Rattle.stores.specs.Tags.{Tagged, items_with}
-use Rattle.room.specs.Rooms.{Room, area_in, items_in, head_at, count_in, group_in, newest_tag, older_tag, newest, older, parts_of, cell_of, cells_by, cell_count, cells_of, waiting_in, item_count, entry_count, waiting_items, waiting_entries, Tag, other_tag, NoPart, OnePart, TwoParts, Counted, CellWf, Wf}
+use Rattle.room.specs.Rooms.{Room, items_in, head_at, count_in, newest_tag, older_tag, newest, older, parts_of, cell_of, cell_count, cells_of, waiting_in, item_count, entry_count, waiting_items, waiting_entries, Tag, other_tag, Counted, CellWf, Wf}
 use Rattle.room.specs.RoomLaws.{length-cells, get_or-cells, set-cells_by, free-cell}
 use Rattle.room.specs.Changes.{OnlyCell, Became}
 

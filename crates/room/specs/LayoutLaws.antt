@@ -1,17 +1,16 @@
 -- The laws of a room in two slices: the lengths of its parts, and a room in which nothing waits. Assumes nothing.
 use Rattle.std.specs.Prelude.{List, [], ◌≡◌, refl, ℕ, ◌+◌, ◌*◌, ◌/◌, ◌≤◌, ◌<◌, length, get_or}
-use Rattle.std.proofs.Common.{sym, ap, ◌∙◌, add-zero, arith}
+use Rattle.std.proofs.Common.{◌∙◌, arith}
 use Rattle.cells.specs.Part.{part}
 use Rattle.cells.specs.PartLaws.{length_part, get_or-part}
 use Rattle.maps.specs.Lists.{select, sum}
 use Rattle.maps.specs.Cells.{map_of, Distinct}
 use Rattle.maps.proofs.CellLaws.{all-free}
 use Rattle.stores.specs.declared.Store.{Store}
-use Rattle.stores.specs.Stores.{Area, store_items}
 use Rattle.stores.specs.StoreLaws.{stored-none, none-stored}
-use Rattle.stores.specs.Tags.{Tagged, tagged, store_tagged, items_with}
-use Rattle.room.specs.Rooms.{Room, area_in, items_in, head_at, count_in, cell_of, cell_count, cells_of, waiting_in, waiting_items, waiting_entries, NoPart, Counted, CellWf, Wf}
-use Rattle.room.specs.Layout.{numbers_of, bytes_of, store_of, room_of, RoomWf, Empty}
+use Rattle.stores.specs.Tags.{tagged, store_tagged, items_with}
+use Rattle.room.specs.Rooms.{Room, area_in, items_in, head_at, count_in, cell_count, cells_of, waiting_in, waiting_items, waiting_entries, Counted, CellWf, Wf}
+use Rattle.room.specs.Layout.{numbers_of, bytes_of, store_of, room_of, Empty}
 use Rattle.room.specs.RoomLaws.{length-cells, get_or-cells, free-cell, count_at}
 
 -- ---- a room in which nothing waits

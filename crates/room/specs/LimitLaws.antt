@@ -1,10 +1,10 @@
 -- The limits of what waits, by its counts. Assumes nothing.
-use Rattle.std.specs.Prelude.{Bool, true, false, ◌&&◌, List, ◌≡◌, refl, ℕ, ◌≤◌, leb, length}
-use Rattle.std.proofs.Common.{true≢false, sym, ap, ◌∙◌, arith, leb-true, le-leb}
+use Rattle.std.specs.Prelude.{true, ◌&&◌, List, ◌≡◌, refl, ℕ, ◌≤◌, leb, length}
+use Rattle.std.proofs.Common.{sym, ◌∙◌, arith, leb-true, le-leb}
 use Rattle.maps.specs.BoolLaws.{both_left, both_right}
 use Rattle.maps.specs.Maps.{Map}
 use Rattle.rules.specs.Context.{Part, waiting_fits}
-use Rattle.room.specs.Rooms.{item_count, entry_count, waiting_items, waiting_entries, Wf}
+use Rattle.room.specs.Rooms.{item_count, entry_count, waiting_items, waiting_entries}
 use Rattle.room.specs.Layout.{store_of, waiting_of, ContextRoom}
 
 -- the limits by the three counts

@@ -1,8 +1,8 @@
 -- What waits after the newest part of a cell is changed. Assumes nothing.
-use Rattle.std.specs.Prelude.{Bool, true, false, cond, not, ◌&&◌, List, [], ◌∷◌, ◌++◌, map, ◌≡◌, ℕ, zero, suc, ◌+◌, ◌-◌, ◌*◌, ◌/◌, ◌≤◌, ◌<◌, eqb, length, get_or}
+use Rattle.std.specs.Prelude.{List, [], ◌∷◌, ◌++◌, map, ◌≡◌, ℕ, ◌+◌, ◌-◌, ◌*◌, ◌/◌, ◌≤◌, ◌<◌, eqb, length, get_or}
 use Rattle.std.proofs.lemmas.List.{map-append}
-use Rattle.std.proofs.Common.{append-nil, sym, ap, ◌∙◌, add-zero, eq-eqb, ne_eqb, eqb-true}
-use Rattle.std.proofs.Math.Option.{Option, none, some}
+use Rattle.std.proofs.Common.{append-nil, sym, ap, ◌∙◌, eq-eqb, ne_eqb, eqb-true}
+use Rattle.std.proofs.Math.Option.{none, some}
 use Rattle.std.proofs.Math.Path.{refl}
 use native.Mathlib.Omega.{arith}
 use Rattle.std.proofs.lemmas.Bool.{eqb-false}
@@ -14,12 +14,10 @@ use Rattle.maps.specs.MapLaws.{pair}
 use Rattle.maps.specs.OrderLaws.{split}
 use Rattle.rules.specs.Items as rules
 use Rattle.rules.specs.Items.{status_of}
-use Rattle.rules.specs.Context.{Part, entries_in}
-use Rattle.rules.specs.Waiting.{some_parts}
+use Rattle.rules.specs.Context.{Part}
 use Rattle.stores.specs.declared.Store.{Store}
 use Rattle.stores.specs.Stores.{Stored}
-use Rattle.stores.specs.Tags.{Tagged, has_tag, has_other, items_with}
-use Rattle.stores.specs.TagLaws.{with-taken, with-left}
+use Rattle.stores.specs.Tags.{Tagged, has_tag, items_with}
 use Rattle.room.specs.Rooms.{Room, area_in, items_in, head_at, count_in, group_in, newest_tag, older_tag, newest, older, parts_of, cell_of, cell_count, waiting_in, item_count, entry_count, Tag, first_tag, other_tag, NoPart, OnePart, TwoParts, Counted, CellWf, Wf}
 use Rattle.room.specs.Batches.{counts_for, tag_with}
 use Rattle.room.specs.RoomLaws.{free-cell}

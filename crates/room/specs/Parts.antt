@@ -1,17 +1,15 @@
 -- The heads of parts as they are written, and what a part that comes makes of what waits.
-use Rattle.std.specs.Prelude.{Bool, true, false, cond, ◌&&◌, List, [], ◌∷◌, ◌++◌, map, ◌≡◌, ℕ, ◌+◌, ◌-◌, ◌*◌, ◌/◌, ◌≤◌, ◌<◌, eqb, leb, length, get_or}
-use Rattle.std.proofs.Math.Option.{Option, none, some}
+use Rattle.std.specs.Prelude.{List, [], ◌∷◌, ◌++◌, map, ◌≡◌, ℕ, ◌+◌, ◌-◌, ◌*◌, length, get_or}
+use Rattle.std.proofs.Math.Option.{some}
 use Rattle.cells.specs.Part.{put}
-use Rattle.maps.specs.Lists.{or_else}
-use Rattle.maps.specs.Maps.{Map, lookup, store, numbers}
 use Rattle.maps.specs.MapLaws.{pair}
 use Rattle.rules.specs.Items as rules
 use Rattle.rules.specs.Items.{status_of}
 use Rattle.rules.specs.Context.{Part}
-use Rattle.rules.specs.Waiting.{wait, finish, back, accept, some_parts}
+use Rattle.rules.specs.Waiting.{some_parts}
 use Rattle.stores.specs.declared.Store.{Store}
 use Rattle.stores.specs.Stores.{Stored}
-use Rattle.room.specs.Rooms.{Room, room, area_in, items_in, head_at, cell_of, waiting_in, waiting_items, waiting_entries, first_tag, other_tag, Wf}
+use Rattle.room.specs.Rooms.{Room, room, area_in, items_in, head_at, cell_of, first_tag, other_tag}
 use Rattle.room.specs.Layout.{store_of, room_of}
 use Rattle.room.specs.Batches.{counts_for, tag_with}
 use Rattle.room.specs.Changes.{Became}

@@ -1,7 +1,7 @@
 -- The laws of a room in two slices: what is written at a place of one part leaves the other parts. Assumes nothing.
-use Rattle.std.specs.Prelude.{List, ◌≡◌, refl, ℕ, ◌+◌, ◌*◌, ◌≤◌, ◌<◌, length, set}
-use Rattle.std.proofs.Common.{sym, ap, ◌∙◌, arith}
-use Rattle.cells.specs.Part.{part, put}
+use Rattle.std.specs.Prelude.{List, ◌≡◌, ℕ, ◌+◌, ◌*◌, ◌≤◌, ◌<◌, length, set}
+use Rattle.std.proofs.Common.{arith}
+use Rattle.cells.specs.Part.{put}
 use Rattle.cells.specs.PartLaws.{part_all, part-put-before, part-put-after, part-put-around, part-set-in, part-set-before, part-set-after}
 use Rattle.room.specs.Rooms.{Room, room}
 use Rattle.room.specs.Layout.{numbers_of, bytes_of, room_of}

@@ -1,10 +1,10 @@
 -- The items of one tag change, and with them the newest part of a cell. Assumes nothing.
-use mathlib.Core.List.{List, [], ◌∷◌, ◌++◌, map}
-use Rattle.std.proofs.Math.Option.{none, some, some-injective}
-use Rattle.std.specs.Prelude.{◌≡◌, length, get_or}
+use mathlib.Core.List.{List, [], ◌∷◌, ◌++◌}
+use Rattle.std.proofs.Math.Option.{some, some-injective}
+use Rattle.std.specs.Prelude.{◌≡◌}
 use Rattle.std.proofs.Math.Path.{refl, ap}
 use Rattle.std.proofs.Common.{sym, ◌∙◌}
-use Prim.Native.Nat.{ℕ, zero, suc, ◌+◌, ◌*◌, ◌/◌, ◌≤◌, ◌<◌}
+use Prim.Native.Nat.{ℕ, zero, suc, ◌+◌, ◌*◌, ◌<◌}
 use native.Mathlib.Omega.{arith}
 use Rattle.std.proofs.lemmas.List.{length-map}
 use Rattle.cells.specs.Part.{put}
@@ -19,9 +19,9 @@ use Rattle.stores.specs.declared.Store.{Store}
 use Rattle.stores.specs.Tags.{Tagged, store_tagged, has_tag, has_other, items_with, counts_of}
 use Rattle.stores.specs.TagLaws.{with-taken, with-left}
 use Rattle.stores.specs.CountLaws.{counts_split, stored-counts}
-use Rattle.room.specs.Rooms.{Room, room, area_in, items_in, head_at, count_in, group_in, newest_tag, newest, older, cell_of, cell_count, Counted, CellWf, Wf}
+use Rattle.room.specs.Rooms.{Room, room, area_in, items_in, head_at, count_in, group_in, newest_tag, older, cell_of, cell_count, Counted, CellWf, Wf}
 use Rattle.room.specs.Items.{TakenIn}
-use Rattle.room.specs.Batches.{counts_for, tag_with}
+use Rattle.room.specs.Batches.{counts_for}
 use Rattle.room.specs.BatchLaws.{counts-append}
 use Rattle.room.specs.Changes.{Became}
 use Rattle.room.specs.Parts.{left_head, WroteIn}

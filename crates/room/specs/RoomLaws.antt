@@ -1,15 +1,13 @@
 -- The laws of the cells of a room. Assumes nothing.
-use Rattle.std.specs.Prelude.{List, [], ◌∷◌, ◌≡◌, length, get_or, set}
+use Rattle.std.specs.Prelude.{List, ◌∷◌, ◌≡◌, length, get_or, set}
 use Rattle.std.proofs.Math.Option.{none}
 use Rattle.std.proofs.Math.Path.{refl, ap}
-use Rattle.std.proofs.Common.{sym, ◌∙◌, zero-add, add-zero, arith}
+use Rattle.std.proofs.Common.{◌∙◌, zero-add, add-zero, arith}
 use Prim.Native.Nat.{ℕ, zero, suc, ◌+◌, ◌*◌, ◌≤◌, ◌<◌}
 use Rattle.std.proofs.Math.Nat.{add-suc, suc-add}
-use Rattle.cells.specs.Part.{part}
-use Rattle.cells.specs.PartLaws.{get_or-part, part-part}
+use Rattle.cells.specs.PartLaws.{get_or-part}
 use Rattle.maps.specs.Cells.{Cell}
 use Rattle.stores.specs.Tags.{Tagged}
-use Rattle.rules.specs.Context.{Part}
 use Rattle.room.specs.Rooms.{head_at, count_in, cell_of, cells_by, cell_count, cells_of}
 
 -- ---- cells that a function of the place gives

@@ -4,7 +4,7 @@ use Rattle.std.specs.Prelude.{cond, List, [], ◌∷◌, ◌≡◌, ℕ, zero, s
 use Rattle.std.proofs.Math.Option.{none, some}
 use Rattle.cells.specs.Part.{part}
 use Rattle.maps.specs.Lists.{sum}
-use Rattle.maps.specs.Maps.{Pair, Map}
+use Rattle.maps.specs.Maps.{Map}
 use Rattle.maps.specs.MapLaws.{pair}
 use Rattle.maps.specs.Cells.{Cell, map_of, Distinct}
 use Rattle.rules.specs.Items.{status_of}

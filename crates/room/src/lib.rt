@@ -58,7 +58,7 @@ pub const NUMBERS: usize = HEADS_AT + CELLS * (ENTRIES_FROM + ENTRIES);
 pub const BYTES: usize = CELLS * TAGS * ITEM_BYTES;
 
 // An item of a marked batch: the mark, or one that waits with the part.
-#[derive(Drop)]
+#[derive(Clone, Copy)]
 pub enum Unmarked {
     Mark,
     Item(LogItem),

@@ -11,14 +11,14 @@ pub mod row;
 pub mod shift;
 
 // A store's counts: its items, and the rows of entries that they have.
-#[derive(Drop)]
+#[derive(Clone, Copy)]
 pub struct Store {
     pub items: usize,
     pub entries: usize,
 }
 
 // The answer of a push.
-#[derive(Drop)]
+#[derive(Clone, Copy)]
 pub enum Pushed {
     Done(Store),
     NoRoom,

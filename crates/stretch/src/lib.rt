@@ -42,7 +42,7 @@ pub const STRETCH: usize = KEYS_AT + MAX_KEYS * ROW_WIDTH;
 pub const BYTES: usize = MAX_KEYS * ROW_BYTES;
 
 // What an item does to its group. The rows of entries, the key and the value are lent beside it.
-#[derive(Drop)]
+#[derive(Clone, Copy)]
 pub enum Change {
     Append { first: u64, live: bool },
     ReplayRewrite { first: u64 },

@@ -8,7 +8,7 @@ use native.Mathlib.Omega.{arith}
 use lib.ListN.{length, take, drop, get_or, set, length-append, length-set, length-drop}
 use lib.Seq.{drop-cons, drop-length, drop-set-lt, get_or-set_same, take-suc, take_all}
 use borrow.Author.Tests.{lt-ltb, le-ltb}
-use Rattle.cells.specs.Part.{part, put}
+use Rattle.cells.specs.Part.{put}
 use Rattle.cells.specs.PartLaws.{length-put, part-front, part-put_same, put-nil, put-append, set-put}
 use Rattle.takes_rules.specs.Fields.{comma}
 use Rattle.takes_rules.specs.Output.{digits_before, decimal, fields_text, line_text}

@@ -1,5 +1,5 @@
 -- The program `takes` byte by byte, and that it prints the same. Assumes nothing.
-use Rattle.std.specs.Prelude.{Bool, true, false, cond, ◌≡◌, ℕ, suc, eqb}
+use Rattle.std.specs.Prelude.{true, false, cond, ◌≡◌, ℕ, suc}
 use mathlib.Core.List.{List, [], ◌∷◌, ◌++◌, append_assoc, append-nil}
 use Rattle.std.proofs.Math.Path.{refl}
 use Rattle.std.proofs.Common.{sym, ap, ◌∙◌, eqb-true}

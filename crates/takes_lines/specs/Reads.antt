@@ -12,7 +12,7 @@ use Rattle.rules.specs.Items.{EntryIndex, entries, Batch}
 use Rattle.takes_lines.specs.declared.fields.Field.{Field}
 use Rattle.takes_lines.specs.declared.fields.Field.TheVariants.{Letter, Group, First, Index, File, Length, Key, Value, Extra}
 use Rattle.takes_rules.specs.Fields.{bind, comma, first_field, other_fields, is_digit_byte, decimal_from, below, number, hex_digit, hexadecimal}
-use Rattle.takes_rules.specs.Lines.{length_limit, number_limit, entry_at, batch_of_one, entries_from, entries_line, put_line, del_line, compact_line, clean_line, Line, malformed, batch, batch_line, merge_line, letter_e, letter_p, letter_d, letter_c, letter_x, letter_m, letter_line, fields_line, line_of}
+use Rattle.takes_rules.specs.Lines.{length_limit, number_limit, entry_at, batch_of_one, entries_from, entries_line, put_line, del_line, compact_line, clean_line, Line, malformed, batch_line, merge_line, letter_e, letter_p, letter_d, letter_c, letter_x, letter_m, letter_line, fields_line, line_of}
 use Rattle.takes_lines.specs.Reading.{kept_most, Digits, Named, Reading, no_digits, nothing, with_group, with_first, with_index, with_file, keep, with_entry, with_key_byte, with_value_byte, is_letter, add_letter, add_digit, add_hex, add_to, close_number, close_length, close_bytes, close_as, close, after, next_field, add_byte, read_byte, read_bytes, begin, is_last, said_by, whole, whole_line, end_line}
 use Rattle.takes_lines.specs.Kept.{kept_content, kept_change, kept_item, kept_items, kept_batch, kept_line}
 

@@ -3,7 +3,7 @@ ghost use Rattle.std.specs.Prelude.{cond, ◌≡◌};
 ghost use Rattle.takes_lines.specs.Reading.{is_letter, after, is_last};
 
 // The fields by document 01's names, and one that the line's letter does not have.
-#[derive(Drop)]
+#[derive(Clone, Copy)]
 pub enum Field {
     Letter,
     Group,

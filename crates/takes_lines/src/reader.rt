@@ -28,7 +28,7 @@ pub const KEY_VALUE_BYTES: usize = 2 * KEPT_MOST;
 // What has been read of a line. Of a list, a key or a value one more is kept than document 01's bound, since it is
 // refused then whatever it holds: `count` entries in the lent rows, the key's bytes in the lent bytes from place 0 and
 // the value's from place 33.
-#[derive(Drop)]
+#[derive(Clone, Copy)]
 pub struct LineReader {
     pub malformed: bool,
     // 0 before it is read
@@ -54,7 +54,7 @@ pub struct LineReader {
 }
 
 // What a line says: nothing, the next run, or a batch with this file, of the one item in the lent rows and bytes.
-#[derive(Drop)]
+#[derive(Clone, Copy)]
 pub enum Answer {
     Malformed,
     NextRun,

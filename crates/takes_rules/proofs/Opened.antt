@@ -1,4 +1,4 @@
--- `takesOpened` unfolds the rules and the definitions of `takes`: a fact under `unfolding takesOpened` is computed.
+-- `takes_opened` unfolds the rules and the definitions of `takes`: a fact under `unfolding takes_opened` is computed.
 use Rattle.rules.proofs.Opened.{opened}
 use Rattle.takes_rules.specs.Fields.{bind, first_field, other_fields, is_digit_byte, decimal_from, below, number, hex_digit, hexadecimal}
 use Rattle.takes_rules.specs.Lines.{append_file, entry_at, batch_of_one, entries_from, entries_line, put_line, del_line, compact_line, clean_line, batch_line, merge_line, letter_line, fields_line, line_of}

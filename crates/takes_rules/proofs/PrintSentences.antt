@@ -1,6 +1,6 @@
 -- 01's sentences on what `takes` prints, one by one; each group of facts begins with the sentence that it shows. Assumes nothing.
 use mathlib.Core.Path.{◌≡◌, refl}
-use mathlib.Core.List.{List, [], ◌∷◌, ◌++◌}
+use mathlib.Core.List.{[], ◌∷◌, ◌++◌}
 use Rattle.takes_rules.specs.Program.{takes}
 use Rattle.takes_rules.proofs.Texts.{bytes, text}
 use Rattle.takes_rules.proofs.Opened.{takes_opened}

@@ -1,9 +1,8 @@
 -- 01's program `takes`: what it prints for its input, by the rules of an Append context.
 use Rattle.std.specs.Prelude.{cond, List, [], ◌∷◌, ◌++◌, ℕ, suc, eqb, length}
-use Rattle.std.proofs.Math.Option.{Option}
 use Rattle.maps.specs.Lists.{or_else}
-use Rattle.maps.specs.Maps.{Map, Pair}
-use Rattle.rules.specs.Items.{Append, Rewrite, Batch}
+use Rattle.maps.specs.Maps.{Map}
+use Rattle.rules.specs.Items.{Append, Rewrite}
 use Rattle.rules.specs.Causes.{Result, ok, refused}
 use Rattle.rules.specs.Table.{Table, first_index_of}
 use Rattle.rules.specs.Context.{Context, fresh}

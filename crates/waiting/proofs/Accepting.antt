@@ -1,36 +1,36 @@
 -- A part that comes to the room of a context. Assumes nothing.
-use mathlib.Core.Bool.{Bool, true, false, cond, ◌&&◌}
+use mathlib.Core.Bool.{true, false, ◌&&◌}
 use mathlib.Core.List.{List, [], ◌∷◌}
-use mathlib.Core.Option.{none, some}
+use mathlib.Core.Option.{some}
 use mathlib.Core.Path.{◌≡◌, refl, sym, ap, ◌∙◌}
-use Prim.Native.Nat.{ℕ, ◌+◌, ◌*◌, ◌/◌, ◌≤◌, ◌<◌}
+use Prim.Native.Nat.{ℕ, ◌+◌, ◌*◌, ◌≤◌, ◌<◌}
 use native.Mathlib.Omega.{arith}
 use lib.Dec.{leb}
-use lib.ListN.{length, get_or}
+use lib.ListN.{length}
 use Rattle.cells.specs.Part.{part}
 use Rattle.maps.specs.OrderLaws.{numbers_lawful}
-use Rattle.maps.specs.Maps.{Map, lookup, store, numbers}
-use Rattle.maps.specs.MapLaws.{pair, store-again}
+use Rattle.maps.specs.Maps.{store, numbers}
+use Rattle.maps.specs.MapLaws.{store-again}
 use Rattle.rules.specs.Items as rules
 use Rattle.rules.specs.Context.{Part, waiting_fits}
-use Rattle.rules.specs.Waiting.{wait, finish, back, accept, some_parts}
+use Rattle.rules.specs.Waiting.{wait, back, accept, some_parts}
 use Rattle.stores.specs.declared.Store.{Store}
 use Rattle.stores.specs.Stores.{entries_before}
-use Rattle.room.specs.Rooms.{Room, area_in, items_in, head_at, newest_tag, newest, cell_of, waiting_in, waiting_items, waiting_entries, cell_count, Wf}
-use Rattle.room.specs.Layout.{store_of, room_of, waiting_of, tagged, head_part, RoomWf, ContextRoom}
-use Rattle.room.specs.LayoutLaws.{length-items, cell-count}
+use Rattle.room.specs.Rooms.{Room, items_in, head_at, newest_tag, newest, waiting_in, waiting_items, waiting_entries, cell_count}
+use Rattle.room.specs.Layout.{store_of, room_of, waiting_of, ContextRoom}
+use Rattle.room.specs.LayoutLaws.{cell-count}
 use Rattle.room.specs.HeadLaws.{heads-are}
 use Rattle.room.specs.Batches.{counts_for}
 use Rattle.room.specs.Changes.{Became}
 use Rattle.room.specs.ChangeLaws.{waiting_at_lem, waiting-ascends}
 use Rattle.room.specs.Parts.{part_for}
-use Rattle.room.specs.LimitLaws.{Few, fits-few, room-few}
+use Rattle.room.specs.LimitLaws.{fits-few, room-few}
 use Rattle.waiting.specs.declared.Form as form
 use Rattle.waiting.specs.declared.Step as step
-use Rattle.waiting.specs.Steps.{is_free_cell, AtCell, NoCell, step_of, stepped}
+use Rattle.waiting.specs.Steps.{AtCell, NoCell, step_of, stepped}
 use Rattle.waiting.specs.Accepts.{parts_at, Waited, Passing, Finishing}
 use Rattle.waiting.specs.Forms.{FormAt, form_parts, with_part, Keeps, used_from, form_groups}
-use Rattle.waiting.specs.FormLaws.{others, cell_here, parts_here, accept_here, form-accepts}
+use Rattle.waiting.specs.FormLaws.{others, cell_here, accept_here, form-accepts}
 use Rattle.waiting.specs.JudgeLaws.{judged, all-used}
 use Rattle.waiting.proofs.Forming.{form_in, part-is}
 

@@ -1,21 +1,19 @@
 -- The search for the cell of a group, or for a free one. Assumes nothing.
-use mathlib.Core.Bool.{Bool, true, false, true≢false, ◌&&◌, not}
+use mathlib.Core.Bool.{Bool, true, false}
 use mathlib.Core.List.{List}
-use mathlib.Core.Path.{◌≡◌, refl, sym, ap, ◌∙◌}
+use mathlib.Core.Path.{◌≡◌, ◌∙◌}
 use Prim.Native.Nat.{ℕ, ◌+◌, ◌*◌, ◌≤◌, ◌<◌}
 use native.Mathlib.Nat.{add-zero}
 use native.Mathlib.Decide.{dec_lt}
 use native.Mathlib.Omega.{arith}
-use lib.Dec.{eqb, ltb, leb}
-use lib.ListN.{length, get_or}
-use borrow.Author.Tests.{eq-eqb, ne_eqb, lt-ltb, le-ltb, le-leb, lt-leb}
+use lib.Dec.{eqb}
+use lib.ListN.{get_or}
+use borrow.Author.Tests.{ne_eqb}
 use Rattle.cells.specs.Part.{part}
-use Rattle.maps.specs.OrderLaws.{split}
 use Rattle.room.specs.Rooms.{head_at, count_in, group_in}
 use Rattle.room.specs.HeadLaws.{head_number}
 use Rattle.waiting.specs.declared.Place.{Place}
 use Rattle.waiting.specs.declared.Place.TheVariants.{At, Free, Full}
-use Rattle.waiting.specs.declared.Step as step
 use Rattle.waiting.specs.Steps.{is_of, is_free_cell, FirstOf, AtCell, FreeCell, NoCell, Found, step_by, step_of}
 
 module _ (n : ℕ) (ws : List ℕ) (k : ℕ) (l : k < n) where

@@ -1,29 +1,28 @@
 -- A part of another room that comes to the room of a context. Assumes nothing.
-use mathlib.Core.List.{List, [], ◌∷◌}
+use mathlib.Core.List.{List, ◌∷◌}
 use mathlib.Core.Option.{some}
 use mathlib.Core.Path.{◌≡◌, refl, sym, ap, ◌∙◌}
-use Prim.Native.Nat.{ℕ, ◌+◌, ◌*◌, ◌/◌, ◌≤◌, ◌<◌}
+use Prim.Native.Nat.{ℕ, ◌+◌, ◌*◌, ◌≤◌, ◌<◌}
 use native.Mathlib.Omega.{arith}
 use lib.ListN.{length, get_or}
 use Rattle.cells.specs.Part.{part}
 use Rattle.maps.specs.OrderLaws.{numbers_lawful}
-use Rattle.maps.specs.Maps.{Map, lookup, store, numbers}
-use Rattle.maps.specs.MapLaws.{pair, store-again}
+use Rattle.maps.specs.Maps.{numbers}
+use Rattle.maps.specs.MapLaws.{store-again}
 use Rattle.rules.specs.Items as rules
 use Rattle.rules.specs.Context.{Part}
-use Rattle.rules.specs.Waiting.{wait, finish, back, accept, some_parts}
+use Rattle.rules.specs.Waiting.{back, accept, some_parts}
 use Rattle.stores.specs.declared.Store.{Store}
-use Rattle.room.specs.Rooms.{Room, items_in, head_at, newest, waiting_in, waiting_items, waiting_entries, cell_count, Wf}
+use Rattle.room.specs.Rooms.{Room, items_in, head_at, newest, waiting_in, waiting_items, waiting_entries, cell_count}
 use Rattle.room.specs.Layout.{store_of, room_of, waiting_of, RoomWf}
 use Rattle.room.specs.LayoutLaws.{cell-count, count-in}
 use Rattle.room.specs.HeadLaws.{heads-are}
-use Rattle.room.specs.Batches.{counts_for}
 use Rattle.room.specs.Changes.{Became}
 use Rattle.room.specs.ChangeLaws.{waiting_at_lem, waiting-ascends}
 use Rattle.room.specs.Parts.{TookPart}
 use Rattle.waiting.specs.declared.Form as form
 use Rattle.waiting.specs.declared.Step as step
-use Rattle.waiting.specs.Steps.{is_free_cell, AtCell, NoCell, step_of, stepped}
+use Rattle.waiting.specs.Steps.{AtCell, NoCell, step_of, stepped}
 use Rattle.waiting.specs.Accepts.{parts_at}
 use Rattle.waiting.specs.Forms.{FormAt, form_parts, with_part, part_with}
 use Rattle.waiting.specs.FormLaws.{others, used-count, cell_here, accept_here, form-accepts, waits-not}

@@ -1,7 +1,7 @@
 -- The items of a tag of another room are added one by one. Assumes nothing.
 use mathlib.Core.List.{List, [], ◌∷◌, ◌++◌}
 use mathlib.Core.Path.{◌≡◌, refl, sym, ap, ◌∙◌}
-use Prim.Native.Nat.{ℕ, suc, ◌+◌, ◌-◌, ◌*◌, ◌/◌, ◌≤◌, ◌<◌}
+use Prim.Native.Nat.{ℕ, suc, ◌+◌, ◌-◌, ◌*◌, ◌≤◌, ◌<◌}
 use native.Mathlib.Numerals.{add-one}
 use native.Mathlib.Omega.{arith}
 use lib.ListN.{length, get_or, take, drop}
@@ -9,14 +9,13 @@ use lib.Seq.{take-suc, take_all, split_at}
 use borrow.Author.Tests.{eq-eqb, ne_eqb}
 use Rattle.maps.specs.Lists.{select}
 use Rattle.rules.specs.Items as rules
-use Rattle.rules.specs.Context.{entries_in}
 use Rattle.log_batch.specs.declared.item.LogItem.{LogItem}
 use Rattle.log_batch.specs.Lent.{item_of}
 use Rattle.stores.specs.declared.Store.{Store}
 use Rattle.stores.specs.Written.{count_of, Lent}
 use Rattle.stores.specs.Stores.{Stored, ItemAt}
 use Rattle.stores.specs.StoreLaws.{entries-count}
-use Rattle.stores.specs.Tags.{Tagged, store_tagged, has_tag, items_with, counts_of}
+use Rattle.stores.specs.Tags.{Tagged, has_tag, items_with, counts_of}
 use Rattle.stores.specs.CountLaws.{read-tagged, stored-counts}
 use Rattle.room.specs.Rooms.{Room, area_in, items_in}
 use Rattle.room.specs.Layout.{store_of, room_of, RoomWf}
@@ -110,7 +109,7 @@ pub record MovingIn (xs : List Tagged) (n t tag : ℕ) (s : Store) (ws₀ vs₀ 
 
 none-taken : (t : ℕ) (xs : List Tagged) → items_with t (take 0 xs) ≡ []
 unfolding items_with select
-none-taken t xs = refl
+none-taken t l = refl
 
 module _ (xs : List Tagged) (n t tag : ℕ) (m : length xs ≡ n) (s : Store) (ws₀ vs₀ : List ℕ) where
   pub moving-none : length ws₀ ≡ 2 + 16 * 218 → length vs₀ ≡ 16 * 512 → Stored s (area_in (room_of 16 ws₀ vs₀)) → MovingIn xs n t tag s ws₀ vs₀ s ws₀ vs₀ 0

@@ -1,24 +1,23 @@
 -- A newest part that leaves the room of a context. Assumes nothing.
-use Rattle.std.specs.Prelude.{true, false, not, ◌&&◌, List, [], ◌∷◌, ◌≡◌, refl, ℕ, ◌+◌, ◌*◌, ◌≤◌, ◌<◌, eqb, length, get_or}
-use Rattle.std.proofs.Math.Option.{Option, none, some, none-ne-some}
-use Rattle.std.proofs.Common.{sym, ap, ◌∙◌, arith, eq-eqb, ne_eqb}
+use Rattle.std.specs.Prelude.{true, List, [], ◌∷◌, ◌≡◌, refl, ℕ, ◌+◌, ◌*◌, ◌≤◌, ◌<◌, length, get_or}
+use Rattle.std.proofs.Math.Option.{some, none-ne-some}
+use Rattle.std.proofs.Common.{sym, ◌∙◌, arith, eq-eqb, ne_eqb}
 use Rattle.std.proofs.Math.Decide.{dec_lt}
 use Rattle.maps.specs.Lists.{or_else}
 use Rattle.maps.specs.OrderLaws.{numbers_lawful}
-use Rattle.maps.specs.Maps.{Map, lookup, insert, remove, store, numbers}
-use Rattle.maps.specs.MapLaws.{pair, Ascending, length-insert-some, length-remove-some}
+use Rattle.maps.specs.Maps.{Map, lookup, store, numbers}
+use Rattle.maps.specs.MapLaws.{Ascending, length-insert-some, length-remove-some}
 use Rattle.rules.specs.Context.{Part, waiting_fits}
 use Rattle.rules.specs.Waiting.{some_parts}
 use Rattle.stores.specs.declared.Store.{Store}
-use Rattle.room.specs.Rooms.{Room, items_in, head_at, count_in, group_in, newest, cell_of, cell_count, waiting_in, item_count, entry_count, waiting_items, waiting_entries, Wf}
+use Rattle.room.specs.Rooms.{Room, items_in, head_at, count_in, group_in, newest, cell_count, waiting_in, item_count, entry_count, Wf}
 use Rattle.room.specs.RoomLaws.{free-cell}
 use Rattle.room.specs.Layout.{store_of, room_of, waiting_of, tagged, head_part, RoomWf, ContextRoom}
 use Rattle.room.specs.LayoutLaws.{cell-count, count-in}
-use Rattle.room.specs.Changes.{Became}
 use Rattle.room.specs.ChangeLaws.{would-wait, waiting_at_lem, waiting-ascends}
 use Rattle.room.specs.Parts.{TookPart}
 use Rattle.room.specs.PartLaws.{counts-cons, counts-nil}
-use Rattle.room.specs.LimitLaws.{Few, fits-few, few-fits}
+use Rattle.room.specs.LimitLaws.{fits-few, few-fits}
 use Rattle.waiting.specs.Steps.{is_of}
 use Rattle.waiting.specs.FormLaws.{others, cell_here}
 use Rattle.waiting.specs.Accepts.{Finishing, TookFinished}

@@ -1,38 +1,35 @@
 -- What waits after a part is put into a cell, and its counts. Assumes nothing.
-use Rattle.std.specs.Prelude.{Bool, true, false, cond, not, ◌&&◌, List, [], ◌∷◌, ◌++◌, ◌≡◌, ℕ, zero, suc, ◌+◌, ◌*◌, ◌≤◌, ◌<◌, eqb, ltb, leb, length, get_or}
-use Rattle.std.proofs.Math.Option.{Option, none, some}
+use Rattle.std.specs.Prelude.{Bool, true, false, cond, not, List, [], ◌∷◌, ◌++◌, ◌≡◌, ℕ, zero, suc, ◌*◌, ◌≤◌, ◌<◌, eqb, ltb, leb, get_or}
+use Rattle.std.proofs.Math.Option.{none, some}
 use Rattle.std.proofs.Math.Path.{refl}
-use Rattle.std.proofs.Common.{sym, ap, ◌∙◌, add-zero, arith}
-use borrow.Author.Tests.{eq-eqb, ne_eqb, eqb-true, eqb-false, ltb-true, ltb-false, not-true}
-use Rattle.cells.specs.Part.{put}
+use Rattle.std.proofs.Common.{sym, ap, ◌∙◌, arith}
+use borrow.Author.Tests.{ne_eqb, eqb-true, eqb-false, ltb-false, not-true}
 use Rattle.maps.specs.BoolLaws.{both_left, both_right}
 use Rattle.maps.specs.Lists.{or_else}
-use Rattle.maps.specs.OrderLaws.{split, numbers_lawful}
-use Rattle.maps.specs.Maps.{Map, lookup, insert, store, numbers}
-use Rattle.maps.specs.MapLaws.{pair, length-insert-none, length-insert-some}
-use Rattle.maps.specs.Cells.{Cell, holds}
+use Rattle.maps.specs.OrderLaws.{split}
+use Rattle.maps.specs.Maps.{lookup, numbers}
+use Rattle.maps.specs.MapLaws.{pair}
+use Rattle.maps.specs.Cells.{holds}
 use Rattle.maps.proofs.CellLaws.{lookup_absent}
 use Rattle.rules.specs.Items as rules
 use Rattle.rules.specs.Items.{status_of}
 use Rattle.rules.specs.Context.{Part}
-use Rattle.rules.specs.Waiting.{wait, finish, back, accept, some_parts}
+use Rattle.rules.specs.Waiting.{wait, accept}
 use Rattle.stores.specs.declared.Store.{Store}
 use Rattle.stores.specs.Tags.{Tagged, items_with}
-use Rattle.room.specs.Rooms.{Room, items_in, head_at, count_in, group_in, newest_tag, newest, older, parts_of, cell_of, cell_count, cells_of, waiting_in, item_count, entry_count, waiting_items, waiting_entries, Counted, CellWf, Wf}
+use Rattle.room.specs.Rooms.{Room, items_in, head_at, count_in, group_in, newest_tag, newest, older, parts_of, cell_of, cell_count, cells_of, waiting_in, Counted, CellWf, Wf}
 use Rattle.room.specs.RoomLaws.{length-cells, get_or-cells}
-use Rattle.room.specs.Batches.{counts_for}
-use Rattle.room.specs.BatchLaws.{counts-append, counts-none}
 use Rattle.room.specs.Changes.{Became}
-use Rattle.room.specs.ChangeLaws.{would-wait, waiting_at_lem, waiting-ascends, waiting-map_of}
-use Rattle.room.specs.Parts.{first_head, front_head, renewed_head, WroteIn}
-use Rattle.room.specs.PartLaws.{counts-cons, counts-nil, one_cell, two-cell, one-part, two-parts, first-waits, front-waits, Retagged, renewed-one, renewed_two}
-use Rattle.room.specs.RetagLaws.{taken-both, retagged-other, retagged-more}
+use Rattle.room.specs.ChangeLaws.{waiting_at_lem, waiting-map_of}
+use Rattle.room.specs.Parts.{first_head, renewed_head, WroteIn}
+use Rattle.room.specs.PartLaws.{two-parts, first-waits, front-waits, Retagged, renewed-one, renewed_two}
+use Rattle.room.specs.RetagLaws.{retagged-other, retagged-more}
 use Rattle.waiting.specs.declared.Form as form
 use Rattle.waiting.specs.declared.Step as step
-use Rattle.waiting.specs.Steps.{is_of, is_free_cell, FreeCell, AtCell, step_by, step_of, joined_status, joined_part, stepped}
+use Rattle.waiting.specs.Steps.{is_of, is_free_cell, step_by, step_of, joined_status, joined_part, stepped}
 use Rattle.waiting.specs.StepLaws.{accept_step}
 use Rattle.waiting.specs.Accepts.{parts_at}
-use Rattle.waiting.specs.Forms.{FormAt, form_parts, with_part, form_tag, joined_number, form_head, part_with, lost_by, Freed, form_groups}
+use Rattle.waiting.specs.Forms.{FormAt, form_parts, form_tag, joined_number, form_head, part_with, Freed}
 
 -- ---- what a step says of the numbers
 

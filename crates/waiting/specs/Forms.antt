@@ -7,7 +7,7 @@ use Rattle.rules.specs.Items.{status_of}
 use Rattle.rules.specs.Context.{Part}
 use Rattle.stores.specs.declared.Store.{Store}
 use Rattle.stores.specs.Tags.{count_tag}
-use Rattle.room.specs.Rooms.{Room, head_at, count_in, newest_tag, waiting_in, first_tag, other_tag}
+use Rattle.room.specs.Rooms.{Room, head_at, count_in, newest_tag, first_tag, other_tag}
 use Rattle.room.specs.Items.{TakenIn}
 use Rattle.room.specs.Parts.{first_head, front_head, renewed_head}
 use Rattle.waiting.specs.declared.Form as form

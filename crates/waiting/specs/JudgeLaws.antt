@@ -1,15 +1,14 @@
 -- The counts of what waits with a part that is put into a cell, and the limits by them. Assumes nothing.
-use Rattle.std.specs.Prelude.{Bool, true, false, cond, ◌&&◌, List, [], ◌∷◌, ◌++◌, ◌≡◌, eqb, leb, length, get_or}
+use Rattle.std.specs.Prelude.{false, ◌&&◌, List, [], ◌∷◌, ◌++◌, ◌≡◌, eqb, leb, length}
 use Rattle.std.proofs.Math.Option.{Option, none, some}
 use Rattle.std.proofs.Math.Path.{refl, sym, ap}
 use Rattle.std.proofs.Common.{◌∙◌, zero-add, eqb-true}
-use Prim.Native.Nat.{ℕ, zero, suc, ◌+◌, ◌*◌, ◌/◌, ◌≤◌, ◌<◌}
+use Prim.Native.Nat.{ℕ, zero, suc, ◌+◌, ◌<◌}
 use native.Mathlib.Omega.{arith}
-use Rattle.std.proofs.lemmas.Bool.{eqb-false}
 use Rattle.maps.specs.Lists.{or_else}
 use Rattle.maps.specs.OrderLaws.{split, numbers_lawful}
-use Rattle.maps.specs.Maps.{Pair, Map, lookup, insert, store, numbers}
-use Rattle.maps.specs.MapLaws.{pair, Ascending, length-insert-none, length-insert-some}
+use Rattle.maps.specs.Maps.{Map, lookup, store, numbers}
+use Rattle.maps.specs.MapLaws.{pair, length-insert-none, length-insert-some}
 use Rattle.maps.specs.Cells as places
 use Rattle.maps.specs.Cells.{Cell, map_of, Distinct}
 use Rattle.maps.proofs.CellLaws.{length-full}

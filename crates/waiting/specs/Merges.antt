@@ -1,15 +1,15 @@
 -- A part that comes from another room of a context, as a merge has it: no limit is judged on the way.
 use Rattle.std.specs.Prelude.{List, [], ◌∷◌, ◌≡◌, ℕ, ◌+◌, ◌*◌, ◌≤◌, ◌<◌, length, get_or}
 use Rattle.std.proofs.Math.Option.{none}
-use Rattle.maps.specs.Maps.{Map, lookup, store, numbers}
+use Rattle.maps.specs.Maps.{lookup, store, numbers}
 use Rattle.rules.specs.Items as rules
 use Rattle.rules.specs.Context.{Part}
 use Rattle.rules.specs.Waiting.{wait, finish, back, accept, some_parts}
 use Rattle.stores.specs.declared.Store.{Store}
 use Rattle.stores.specs.Tags.{Tagged, items_with}
 use Rattle.room.specs.Rooms.{waiting_items, waiting_entries}
-use Rattle.room.specs.Layout.{store_of, room_of, context_cells, waiting_of, tagged, RoomWf}
-use Rattle.room.specs.Batches.{counts_for, PushedAll}
+use Rattle.room.specs.Layout.{context_cells, waiting_of, tagged, RoomWf}
+use Rattle.room.specs.Batches.{counts_for}
 use Rattle.waiting.specs.declared.Accepted as accepted
 use Rattle.waiting.specs.Accepts.{parts_at}
 

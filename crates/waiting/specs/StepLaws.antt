@@ -1,13 +1,13 @@
 -- The steps are what `accept` makes of a part. Assumes nothing.
-use Rattle.std.specs.Prelude.{Bool, true, false, cond, not, List, [], ◌∷◌, ◌++◌, ◌≡◌, eqb, ltb, leb, get_or}
+use Rattle.std.specs.Prelude.{Bool, true, false, cond, List, ◌∷◌, ◌++◌, ◌≡◌, ltb, leb}
 use Rattle.std.proofs.Math.Path.{refl, sym, ap}
 use Rattle.std.proofs.Common.{◌∙◌, arith}
-use Prim.Native.Nat.{ℕ, zero, suc, ◌≤◌, ◌<◌}
+use Prim.Native.Nat.{ℕ, zero, suc, ◌≤◌}
 use Rattle.std.proofs.Math.Decide.{dec_lt}
-use borrow.Author.Tests.{eq-eqb, ne_eqb, lt-ltb, le-ltb, le-leb, lt-leb}
+use borrow.Author.Tests.{ne_eqb, lt-ltb, le-ltb, le-leb, lt-leb}
 use Rattle.rules.specs.Items.{Status, begin, middle, end, status_of}
 use Rattle.rules.specs.Context.{Part}
-use Rattle.rules.specs.Waiting.{Accepted, wait, finish, back, joined, accept_by, accept}
+use Rattle.rules.specs.Waiting.{wait, finish, back, joined, accept_by, accept}
 use Rattle.waiting.specs.declared.Step as step
 use Rattle.waiting.specs.Steps.{step_by, joined_status, joined_part, stepped}
 

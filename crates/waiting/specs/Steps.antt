@@ -1,5 +1,5 @@
 -- Where the parts of a group wait, and what becomes of a part that comes to them.
-use Rattle.std.specs.Prelude.{Bool, true, false, cond, ◌&&◌, not, List, [], ◌∷◌, ◌++◌, ◌≡◌, ℕ, ◌≤◌, ◌<◌, eqb, ltb, leb, get_or}
+use Rattle.std.specs.Prelude.{Bool, true, false, cond, ◌&&◌, not, List, ◌∷◌, ◌++◌, ◌≡◌, ℕ, ◌≤◌, ◌<◌, eqb, ltb, leb, get_or}
 use Rattle.rules.specs.Items.{Status, begin, middle, end}
 use Rattle.rules.specs.Context.{Part}
 use Rattle.rules.specs.Waiting.{Accepted, wait, finish, back}

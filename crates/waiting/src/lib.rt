@@ -22,7 +22,7 @@ pub const MIDDLE: u64 = mark::MIDDLE as u64;
 pub const END: u64 = mark::END as u64;
 
 // Where the parts of a group wait: in a cell, or nowhere with a free cell for them, or nowhere and all are used.
-#[derive(Drop)]
+#[derive(Clone, Copy)]
 pub enum Place {
     At(usize),
     Free(usize),
@@ -30,7 +30,7 @@ pub enum Place {
 }
 
 // What becomes of a part that comes to the newest part of its group.
-#[derive(Drop)]
+#[derive(Clone, Copy)]
 pub enum Step {
     // it waits in place of the newest part
     Replace,
@@ -47,7 +47,7 @@ pub enum Step {
 }
 
 // How a part that waits is put into a cell.
-#[derive(Drop)]
+#[derive(Clone, Copy)]
 pub enum Form {
     // as the first of its group
     First,
@@ -60,7 +60,7 @@ pub enum Form {
 }
 
 // What becomes of a part that comes to a room.
-#[derive(Drop)]
+#[derive(Clone, Copy)]
 pub enum Accepted {
     // it waits, or is dropped
     Waits,

@@ -37,7 +37,7 @@ use Rattle.stretch.specs.Stretch.{head_part, entry_rows, table_at, NumbersWf}
 use Rattle.stretch.specs.Changes.{outcome_as}
 use Rattle.worktable.specs.declared.Mode.{Mode}
 use Rattle.worktable.specs.declared.Mode.TheVariants as mode
-use Rattle.worktable.specs.Work.{long_keys_at, long_entries, long_keys, work_in, Wf}
+use Rattle.worktable.specs.Work.{long_keys_at, long_entries, long_keys, work_in}
 use Rattle.worktable.specs.Calls.{Becomes, Ends, AllOf, laid_over, OlderFor, Layable, entries_held, HeadFor, entries_over, span_laid, table_over, TableEnds}
 use Rattle.worktable.specs.WorkLaws.{few_of, not-ok, same_ok, becomes}
 

@@ -32,7 +32,7 @@ pub const WORK_AT: usize = 13509;
 pub const WORK_BYTES_AT: usize = 28672;
 
 // How a newer table is laid over: by the merge of two Append or of two Rewrite contexts, or by the join.
-#[derive(Drop)]
+#[derive(Clone, Copy)]
 pub enum Mode {
     Append,
     Rewrite,

@@ -1,4 +1,6 @@
 -- `log_batch::open::open_row` meets its contract. Assumes nothing.
+use lib.ListN.{get_or}
+use borrow.Author.Rules.{rules}
 use borrow.Author.Tests.{ne_eqb, lt-ltb, le-ltb}
 use Rattle.log_batch.specs.Lent.{item_if, opened_row}
 use Rattle.log_batch.proofs.open.open_row.Goals as goal
@@ -30,4 +32,5 @@ returns-in-4 c = rw (le-ltb _ _ c.if-row-lt-ITEM_WIDTH.false, c.in-4.is) c.open_
 pub returns-in_default : goal.returns-in_default
 unfolding opened_row
 returns-in_default c =
-    rw (le-ltb _ _ c.if-row-lt-ITEM_WIDTH.false, ne_eqb _ _ c.in_default.in_default-own.rest.0.0.0.0.1, ne_eqb _ _ c.in_default.in_default-own.rest.0.0.0.1, ne_eqb _ _ c.in_default.in_default-own.rest.0.0.1, ne_eqb _ _ c.in_default.in_default-own.rest.0.1, ne_eqb _ _ c.in_default.in_default-own.rest.1)
+    let tag = get_or c.args.row.now 1 0 in
+    rw (le-ltb _ _ c.if-row-lt-ITEM_WIDTH.false, ne_eqb tag 0 (search rules), ne_eqb tag 1 (search rules), ne_eqb tag 2 (search rules), ne_eqb tag 3 (search rules), ne_eqb tag 4 (search rules))

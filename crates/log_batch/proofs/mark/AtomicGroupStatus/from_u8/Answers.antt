@@ -1,4 +1,5 @@
 -- `log_batch::mark::AtomicGroupStatus::from_u8` meets its contract. Assumes nothing.
+use borrow.Author.Rules.{rules}
 use Rattle.rules.specs.Items.{status_of}
 use Rattle.log_batch.specs.Judged.{status_as}
 use Rattle.log_batch.proofs.ItemLaws.{status-end}
@@ -14,4 +15,4 @@ returns-in-1 c = rw c.in-1.is
 
 pub returns-in_default : goal.returns-in_default
 unfolding status_as
-returns-in_default c = status-end _ c.in_default.in_default-own.rest.0.1 c.in_default.in_default-own.rest.1
+returns-in_default c = status-end _ (search rules) (search rules)

@@ -1,0 +1,29 @@
+-- `columns::fetch::fetch_entries_to` meets its contract. Assumes nothing.
+use Rattle.queries.specs.PlaceLaws.{stands_at, asked-absent}
+use Rattle.queries.proofs.Ways.{numbers-there, entries_wf}
+use Rattle.columns.proofs.SliceWays.{range-there, fetched-absent}
+use Rattle.rules.specs.TableQueries.{fetch_entries_to}
+use Rattle.pipe_log.specs.Numbers.{bound_of}
+use Rattle.columns.proofs.fetch.fetch_entries_to.Goals as goal
+
+pub place_of-requires : goal.place_of-requires
+place_of-requires c = c.requires.groups.numbers_fit
+
+pub returns-in_default : goal.returns-in_default
+returns-in_default c = fetched-absent (asked-absent _ _ _ _ _ (c.place_of.ensures c.args.bs.now c.requires) c.in_default.is)
+
+pub head_at-head-requires : goal.head_at-head-requires
+head_at-head-requires c = numbers-there (stands_at (c.place_of.ensures c.args.bs.now c.requires) c.in-At.is) c.requires
+
+pub entry_rows-rows-requires : goal.entry_rows-rows-requires
+entry_rows-rows-requires c = numbers-there (stands_at (c.place_of.ensures c.args.bs.now c.requires) c.in-At.is) c.requires
+
+pub range_to-range-requires : goal.range_to-range-requires
+range_to-range-requires c = entries_wf (stands_at (c.place_of.ensures c.args.bs.now c.requires) c.in-At.is) c.head_at-head.ensures c.entry_rows-rows.ensures
+
+pub answer_range-requires : goal.answer_range-requires
+answer_range-requires c = record { wf = entries_wf (stands_at (c.place_of.ensures c.args.bs.now c.requires) c.in-At.is) c.head_at-head.ensures c.entry_rows-rows.ensures; range_bound = c.range_to-range.ensures.within }
+
+pub returns : goal.returns
+returns c =
+    range-there (stands_at (c.place_of.ensures c.args.bs.now c.requires) c.in-At.is) c.head_at-head.ensures (fetch_entries_to c.args.begin c.args.end (bound_of c.args.max_size)) c.entry_rows-rows.ensures _ c.range_to-range.ensures c.answer_range.ensures

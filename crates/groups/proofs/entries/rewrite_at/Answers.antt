@@ -1,0 +1,11 @@
+-- `groups::entries::rewrite_at` meets its contract. Assumes nothing.
+use Rattle.stretch.specs.Changes.{rule_of}
+use Rattle.groups.proofs.Applying.{lent_wf, entries-changed}
+use Rattle.groups.proofs.entries.rewrite_at.Goals as goal
+
+pub rewrite-requires : goal.rewrite-requires
+rewrite-requires c = record { numbers_at = (lent_wf c.args.group c.args.k c.args.xs.now c.args.bs.now c.requires.wf c.requires.at_slot).numbers; lent = c.requires.lent }
+
+pub returns : goal.returns
+unfolding rule_of
+returns c = entries-changed c.args.group c.args.k c.args.xs.now c.args.bs.now c.requires.wf c.requires.at_slot _ _ _ c.rewrite.auto.p c.rewrite.ensures.by_index

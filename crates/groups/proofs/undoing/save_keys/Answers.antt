@@ -1,0 +1,40 @@
+-- `groups::undoing::save_keys` meets its contract. Assumes nothing.
+use native.Mathlib.Omega.{arith}
+use Rattle.groups.specs.Undo.{mark_at}
+use Prim.Native.Nat.{◌+◌}
+use mathlib.Core.Path.{refl}
+use Rattle.groups.proofs.Savings.{low_small, few-keys, keys_in_lem, keys-there, keys-saved_by}
+use Rattle.groups.proofs.undoing.save_keys.Goals as goal
+
+pub returns-then-mark-eq1 : goal.returns-then-mark-eq1
+unfolding mark_at
+returns-then-mark-eq1 c = keys-there c.args.k c.args.xs.now c.args.bs.now c.requires.restorable c.if-mark-eq1.true
+
+pub overflow_mul-keys : goal.overflow_mul-keys
+unfolding mark_at
+overflow_mul-keys c =
+    let keys = few-keys c.args.k c.args.xs.now c.args.bs.now c.requires.restorable (omega (arith, c.if-mark-eq1.false, c.requires.bound)) in omega (arith, keys, keys_in_lem (8 + c.args.k) c.args.xs.now (omega arith), c.requires.restorable)
+
+pub shift_up_u64-requires : goal.shift_up_u64-requires
+unfolding mark_at
+shift_up_u64-requires c =
+    let keys = few-keys c.args.k c.args.xs.now c.args.bs.now c.requires.restorable (omega (arith, c.if-mark-eq1.false, c.requires.bound)) in omega (arith, keys, keys_in_lem (8 + c.args.k) c.args.xs.now (omega arith), c.requires.restorable)
+
+pub overflow_mul-keys-2 : goal.overflow_mul-keys-2
+unfolding mark_at
+overflow_mul-keys-2 c =
+    let keys = few-keys c.args.k c.args.xs.now c.args.bs.now c.requires.restorable (omega (arith, c.if-mark-eq1.false, c.requires.bound)) in omega (arith, keys, keys_in_lem (8 + c.args.k) c.args.xs.now (omega arith), c.requires.restorable)
+
+pub shift_up_u8-requires : goal.shift_up_u8-requires
+unfolding mark_at
+shift_up_u8-requires c =
+    let keys = few-keys c.args.k c.args.xs.now c.args.bs.now c.requires.restorable (omega (arith, c.if-mark-eq1.false, c.requires.bound)) in omega (arith, keys, keys_in_lem (8 + c.args.k) c.args.xs.now (omega arith), c.requires.restorable)
+
+pub overflow_add-xs : goal.overflow_add-xs
+unfolding mark_at
+overflow_add-xs c = let low = low_small c.args.k c.args.xs.now c.args.bs.now c.requires.restorable (omega (arith, c.if-mark-eq1.false, c.requires.bound)) in omega (arith, low, c.if-mark-eq1.false)
+
+pub returns : goal.returns
+unfolding mark_at
+returns c =
+    keys-saved_by c.args.k c.args.xs.now c.args.bs.now c.requires.restorable _ _ _ (omega (arith, c.if-mark-eq1.false, c.requires.bound)) (omega (arith, c.if-mark-eq1.false)) refl c.shift_up_u64.ensures c.shift_up_u8.ensures

@@ -1,0 +1,36 @@
+-- `worktable::moves::load` meets its contract. Assumes nothing.
+use mathlib.Core.Path.{refl}
+use native.Mathlib.Omega.{arith}
+use Rattle.worktable.proofs.MoveWays.{load-few, loaded}
+use Rattle.worktable.proofs.moves.load.Goals as goal
+
+pub overflow_mul-entries : goal.overflow_mul-entries
+overflow_mul-entries c = omega (arith, load-few c.args.k c.args.xs.now c.args.bs.now c.requires.wf.0)
+
+pub overflow_add-entries-2 : goal.overflow_add-entries-2
+overflow_add-entries-2 c = omega (arith, load-few c.args.k c.args.xs.now c.args.bs.now c.requires.wf.0)
+
+pub shift_up_u64-requires : goal.shift_up_u64-requires
+shift_up_u64-requires c =
+    let few = load-few c.args.k c.args.xs.now c.args.bs.now c.requires.wf.0 in
+    let pre = c.requires.k_bound in omega (arith, few, pre)
+
+pub overflow_mul-keys : goal.overflow_mul-keys
+overflow_mul-keys c = omega (arith, load-few c.args.k c.args.xs.now c.args.bs.now c.requires.wf.0)
+
+pub shift_up_u64-requires-2 : goal.shift_up_u64-requires-2
+shift_up_u64-requires-2 c =
+    let few = load-few c.args.k c.args.xs.now c.args.bs.now c.requires.wf.0 in
+    let pre = c.requires.k_bound in omega (arith, few, pre)
+
+pub overflow_mul-keys-2 : goal.overflow_mul-keys-2
+overflow_mul-keys-2 c = omega (arith, load-few c.args.k c.args.xs.now c.args.bs.now c.requires.wf.0)
+
+pub shift_up_u8-requires : goal.shift_up_u8-requires
+shift_up_u8-requires c =
+    let few = load-few c.args.k c.args.xs.now c.args.bs.now c.requires.wf.0 in
+    let pre = c.requires.k_bound in omega (arith, few, pre)
+
+pub returns : goal.returns
+returns c =
+    loaded c.args.k c.args.xs.now c.args.bs.now c.requires.k_bound.0 c.requires.k_bound.1 c.requires.k_bound.2 c.requires.wf.0 c.requires.wf.1 _ _ _ _ _ refl refl c.shift_up_u64.ensures c.shift_up_u64-2.ensures c.shift_up_u8.ensures
