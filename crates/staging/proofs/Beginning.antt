@@ -5,7 +5,7 @@ use Prim.Native.Nat.{ℕ, ◌+◌, ◌*◌, ◌≤◌, ◌<◌}
 use native.Mathlib.Nat.{add-zero}
 use native.Mathlib.Omega.{arith}
 use lib.Dec.{eqb}
-use lib.ListN.{length, get_or, set, take, drop, length-set}
+use lib.ListN.{length, get_or, set, length-set}
 use lib.Seq.{get_or-set_same, get_or-set_other, take-set-le, drop-set-lt}
 use borrow.Author.Tests.{ne_eqb, eqb-true, eqb-false}
 use Rattle.cells.specs.PartLaws.{part-set-in, part-set-after, part-set-before}

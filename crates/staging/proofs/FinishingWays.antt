@@ -4,25 +4,25 @@ use mathlib.Core.Bool.{Bool, true, false}
 use mathlib.Core.List.{List, [], ◌∷◌, ◌++◌}
 use mathlib.Core.Option.{Option, none, some, none-ne-some, some-injective}
 use mathlib.Core.Path.{◌≡◌, refl, sym, ap, ◌∙◌}
-use Prim.Native.Nat.{ℕ, ◌+◌, ◌-◌, ◌*◌, ◌≤◌, ◌<◌}
+use Prim.Native.Nat.{ℕ, ◌+◌, ◌-◌, ◌≤◌}
 use native.Mathlib.Omega.{arith}
 use lib.ListN.{length, get_or, take, drop, length-append}
 use borrow.Author.Rules.{part_to_end}
 use borrow.Rule.Slice.PartMut.{put_mid}
 use Rattle.cells.specs.Part.{part, put}
 use Rattle.cells.specs.PartLaws.{part-is, length_part, put_all}
-use Rattle.maps.specs.BoolLaws.{clash, both_left, both_right}
+use Rattle.maps.specs.BoolLaws.{clash, both_left}
 use Rattle.maps.specs.Lists.{every, sum, last, or_else}
 use Rattle.maps.specs.ListLaws.{every_append, every-head, every-tail, sum-append}
-use Rattle.maps.specs.Maps.{Map, lookup, numbers}
+use Rattle.maps.specs.Maps.{lookup, numbers}
 use Rattle.maps.specs.OrderLaws.{split}
-use Rattle.rules.specs.Causes.{Result, ok, and_then}
+use Rattle.rules.specs.Causes.{ok, and_then}
 use Rattle.rules.specs.Items as rules
 use Rattle.rules.specs.Table.{Span, Table, made, spanned, with_span, span_goes_back}
 use Rattle.rules.specs.Context.{context, Part, Context, entries_in, waiting_fits, with_groups, with_waiting}
 use Rattle.rules.specs.Waiting.{Accepted, wait, finish, back, accept}
 use Rattle.rules_by_group.specs.Group.{Finished, parts_of, finished_by, finished_of, replayed_items, finish_with, finish_table}
-use Rattle.rules_by_group.specs.Kept.{entry_by, each_entry, is_passed, own_items, own_parts, Kept}
+use Rattle.rules_by_group.specs.Kept.{each_entry, is_passed, own_items, own_parts, Kept}
 use Rattle.rules_by_group.proofs.PartLaws.{own-items-append, OwnAccepted, own_old, accept-own}
 use Rattle.rules_by_group.proofs.EntryLaws.{items-meet, spanned-meets, own-each, own-passed}
 use Rattle.rules_by_group.proofs.KindLaws.{own-made}
@@ -30,17 +30,12 @@ use Rattle.rules_by_group.proofs.ResultLaws.{by_option, ok_inj, refused_not_ok, 
 use Rattle.rules_by_group.proofs.RoomLaws.{within_more, finished-items, finished-entries, items-room}
 use Rattle.rules_by_group.specs.Kept.{Within}
 use Rattle.rules_by_group.proofs.WaitingLaws.{all-kept, kept_of}
-use Rattle.stores.specs.declared.Store.{Store}
-use Rattle.stores.specs.Stores.{Area, area, Stored}
-use Rattle.stores.specs.Tags.{store_tagged, items_with}
+use Rattle.stores.specs.Tags.{items_with}
 use Rattle.stretch.specs.declared.Outcome.{Outcome}
 use Rattle.stretch.specs.declared.Outcome.TheVariants.{Done}
 use Rattle.groups.specs.Area.{groups_of}
 use Rattle.groups.specs.Laws.{groups-fit}
-use Rattle.room.specs.Rooms.{area_in, items_in}
-use Rattle.room.specs.Layout.{store_of, room_of, waiting_of, tagged, RoomWf}
-use Rattle.room.specs.LayoutLaws.{length-tags, length-items}
-use Rattle.room.specs.PlaceLaws as places
+use Rattle.room.specs.Layout.{waiting_of, tagged, RoomWf}
 use Rattle.contexts.specs.Contexts.{waiting_numbers, waiting_bytes, rest_at, context_of, Wf}
 use Rattle.contexts.specs.AreaLaws.{formed_of, area-length, area-bytes}
 use Rattle.worktable.specs.Work.{work_in}
@@ -49,16 +44,15 @@ use Rattle.worktable.specs.Calls.{Becomes, Ends}
 use Rattle.parts.specs.declared.Ending.{Ending}
 use Rattle.parts.specs.declared.Finishing.{Finishing}
 use Rattle.parts.specs.declared.Finishing.TheVariants as finishing
-use Rattle.parts.specs.ItemLaws.{few-items}
 use Rattle.parts.specs.Finishings.{finished_as, has_items}
-use Rattle.staging.specs.Staging.{long_numbers, long_bytes, Working}
+use Rattle.staging.specs.Staging.{long_numbers, long_bytes}
 use Rattle.staging.specs.StagingLaws.{working-none, working-then}
 use Rattle.staging.specs.WorkLaws.{group-room}
 use Rattle.staging.specs.Works.{Loaded, WorkedAs}
 use Rattle.staging.specs.Replays.{of_rewrite, replayed, Replayable}
 use Rattle.staging.specs.Finishings.{finished_at, PartsGiven, ending_items, ending_span, EndingGiven}
 use Rattle.staging.proofs.ReplayWays.{rest_replayable}
-use Rattle.staging.proofs.WorkWays.{long-is, long-front, long_back, lent-working, lent_back, context-groups}
+use Rattle.staging.proofs.WorkWays.{long_back, lent-working, lent_back, context-groups}
 
 -- ---- the items of two parts
 

@@ -1,8 +1,7 @@
 -- The work on one group as a whole: loaded, the part that finishes, and what is laid over. Assumes nothing.
-use mathlib.Core.Bool.{true}
 use mathlib.Core.List.{List}
 use mathlib.Core.Option.{Option, none}
-use mathlib.Core.Path.{◌≡◌, refl, sym, ap, ◌∙◌}
+use mathlib.Core.Path.{◌≡◌, sym, ap, ◌∙◌}
 use Prim.Native.Nat.{ℕ, ◌-◌}
 use lib.ListN.{length, take, drop}
 use borrow.Author.Rules.{part_to_end}
@@ -10,22 +9,21 @@ use borrow.Rule.Slice.PartMut.{put_mid}
 use Rattle.maps.specs.Maps.{lookup, numbers}
 use Rattle.rules.specs.Causes.{Result, ok, refused, and_then}
 use Rattle.rules.specs.Table.{Table}
-use Rattle.rules.specs.Context.{context, Context}
-use Rattle.rules.specs.Items.{Rewrite}
-use Rattle.rules_by_group.specs.Group.{Finished, finish_table, tombed}
+use Rattle.rules.specs.Context.{Context}
+use Rattle.rules_by_group.specs.Group.{finish_table, tombed}
 use Rattle.rules_by_group.proofs.ResultLaws.{and_then_of, and_then-refused}
 use Rattle.rules_by_group.specs.Kept.{Within}
 use Rattle.stretch.specs.declared.Outcome.{Outcome}
 use Rattle.stretch.specs.declared.Outcome.TheVariants.{Done, Refused}
 use Rattle.groups.specs.Area.{groups_of}
-use Rattle.contexts.specs.Contexts.{context_of, Wf}
+use Rattle.contexts.specs.Contexts.{context_of}
 use Rattle.contexts.specs.AreaLaws.{formed_of, area-length, area-bytes}
 use Rattle.worktable.specs.declared.Mode.{Mode}
 use Rattle.worktable.specs.Work.{work_in}
-use Rattle.worktable.specs.Calls.{Becomes, Ends, OlderFor}
+use Rattle.worktable.specs.Calls.{Ends, OlderFor}
 use Rattle.staging.specs.Staging.{long_numbers, long_bytes, Working}
 use Rattle.staging.specs.StagingLaws.{working-then, working-beside}
-use Rattle.staging.specs.Modes.{newer_kind, older_kind, group_by, Given}
+use Rattle.staging.specs.Modes.{group_by, Given}
 use Rattle.staging.specs.ModeLaws.{beside-context, beside_wf}
 use Rattle.staging.specs.Works.{laid_by, Loaded, WorkedAs}
 use Rattle.staging.specs.WorkLaws.{group-is, finishes-in, older-of}

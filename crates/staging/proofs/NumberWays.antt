@@ -1,18 +1,16 @@
 -- The ways through the functions that find a number. Assumes nothing.
-use mathlib.Core.Bool.{true, false}
-use mathlib.Core.List.{List, [], ◌∷◌}
-use mathlib.Core.Path.{◌≡◌, sym, ◌∙◌}
+use mathlib.Core.List.{List}
+use mathlib.Core.Path.{◌≡◌}
 use Prim.Native.Nat.{ℕ, ◌+◌, ◌-◌, ◌*◌, ◌≤◌, ◌<◌}
 use native.Mathlib.Nat.{add-zero}
 use native.Mathlib.Omega.{arith}
-use lib.Dec.{ltb}
 use lib.ListN.{length, get_or, take, drop}
 use borrow.Author.Tests.{lt-ltb, ne_eqb, le-ltb}
 use borrow.Author.Rules.{part_to_end}
 use Rattle.cells.specs.PartLaws.{part-is, get_or-part}
 use Rattle.stretch.specs.Layout.{stretch_width}
 use Rattle.stretch.specs.Stretch.{is_used, group_in}
-use Rattle.groups.specs.Area.{numbers_in_use, stretch_at}
+use Rattle.groups.specs.Area.{stretch_at}
 use Rattle.staging.specs.declared.Number.{Number}
 use Rattle.staging.specs.declared.Number.TheVariants as number
 use Rattle.staging.specs.Modes.{stretch_number, tombstone_number, waiting_number, number_at, numbers_of}

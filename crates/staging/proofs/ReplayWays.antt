@@ -1,18 +1,16 @@
 -- The ways of an item of a finished part on the work table, and the items one after the other. Assumes nothing.
-use mathlib.Core.Bool.{Bool, true, false, not, cond, ◌&&◌}
-use mathlib.Core.List.{List, [], ◌∷◌, ◌++◌}
-use mathlib.Core.Option.{Option, none, some}
+use mathlib.Core.Bool.{Bool, true, false, not, ◌&&◌}
+use mathlib.Core.List.{List, [], ◌∷◌}
+use mathlib.Core.Option.{Option}
 use mathlib.Core.Path.{◌≡◌, refl, sym, ap, ◌∙◌}
-use Prim.Native.Nat.{ℕ, zero, suc, ◌+◌, ◌-◌, ◌*◌, ◌/◌, ◌≤◌, ◌<◌}
-use native.Mathlib.Numerals.{add-one}
+use Prim.Native.Nat.{ℕ, ◌+◌, ◌*◌, ◌/◌, ◌≤◌, ◌<◌}
 use native.Mathlib.Omega.{arith}
 use lib.ListN.{length, get_or, drop}
-use borrow.Author.Tests.{not-true, not-false}
+use borrow.Author.Tests.{not-true}
 use Rattle.maps.specs.Lists.{every, sum}
 use Rattle.maps.specs.BoolLaws.{both_left, both_right}
 use Rattle.maps.specs.ListLaws.{every-head, every-tail}
-use Rattle.maps.specs.OrderLaws.{split}
-use Rattle.rules.specs.Causes.{Result, ok, and_then, left}
+use Rattle.rules.specs.Causes.{ok, left}
 use Rattle.rules.specs.Items as rules
 use Rattle.rules.specs.Checks.{long, is_out_of_range, is_other_queue, is_not_rewritable, is_incomplete, meets3, unless_reserved}
 use Rattle.rules.specs.Table.{Table, made, change, command_to}
@@ -29,14 +27,12 @@ use Rattle.log_batch.specs.Lent.{item_of, content_of}
 use Rattle.log_batch.specs.Judged.{call_of}
 use Rattle.log_batch.specs.OpenLaws.{Bare, opened_bare}
 use Rattle.stores.specs.declared.Store.{Store}
-use Rattle.stores.specs.Stores.{Area, store_items, Stored, ItemAt}
-use Rattle.stores.specs.StoreLaws.{length-stored}
-use Rattle.stores.specs.Tags.{Tagged, store_tagged, items_with}
-use Rattle.stores.specs.TagLaws.{length-tagged, tagged_at, with_here, with-past, with-end}
+use Rattle.stores.specs.Stores.{Area, Stored, ItemAt}
+use Rattle.stores.specs.Tags.{store_tagged, items_with}
 use Rattle.stores.specs.Written.{Lent}
 use Rattle.deeds.specs.declared.Deed as deed
 use Rattle.deeds.specs.Deeds.{rows_in, key_in, value_in, deed_of}
-use Rattle.deeds.specs.DeedLaws.{Clear, DeedSays, Changes, deed-says}
+use Rattle.deeds.specs.DeedLaws.{Clear, DeedSays, deed-says}
 use Rattle.worktable.specs.Work.{work_in, Wf}
 use Rattle.worktable.specs.Calls.{Becomes, deed_to, ReadyTo, Taken}
 use Rattle.parts.specs.ItemLaws.{here-is, past_is, end_is, an_item}

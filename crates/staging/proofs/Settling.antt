@@ -1,6 +1,6 @@
 -- The ways of one number: it is staged already, or its group is refused, or there is none, or its table fits and is put into a spare
 -- stretch, or it passes a limit. Assumes nothing.
-use mathlib.Core.Bool.{Bool, true, false, ◌&&◌, and-false}
+use mathlib.Core.Bool.{true, false, ◌&&◌, and-false}
 use mathlib.Core.List.{List, [], ◌∷◌}
 use mathlib.Core.Option.{Option, none, some}
 use mathlib.Core.Path.{◌≡◌, refl, sym, ◌∙◌}
@@ -13,7 +13,7 @@ use borrow.Author.Tests.{lt-ltb}
 use Rattle.cells.specs.Part.{part, put}
 use Rattle.cells.specs.PartLaws.{part-is, part_of-front, part_of_back}
 use Rattle.maps.specs.BoolLaws.{both}
-use Rattle.maps.specs.Maps.{Map, lookup, insert, numbers}
+use Rattle.maps.specs.Maps.{lookup, insert, numbers}
 use Rattle.maps.specs.MapLaws.{pair}
 use Rattle.maps.specs.Cells.{map_of}
 use Rattle.maps.proofs.CellLaws.{map-store-free, distinct-store-free, length-free}
@@ -21,13 +21,12 @@ use Rattle.rules.specs.Limits.{max_groups}
 use Rattle.rules.specs.Causes.{Result, ok, refused, Refusal}
 use Rattle.rules.specs.Table.{Table}
 use Rattle.rules.specs.Context.{table_fits}
-use Rattle.rules_by_group.specs.Stage.{Staged, stage_one, stage_all}
+use Rattle.rules_by_group.specs.Stage.{stage_one, stage_all}
 use Rattle.rules_by_group.proofs.StageLaws.{stage-again, stage-new, stage-none, stage-refused, stage-fits, stage-passes}
 use Rattle.stretch.specs.Layout.{stretch_width, bytes_width}
 use Rattle.stretch.specs.Stretch.{table_in}
 use Rattle.stretch.specs.Stretch as stretch
 use Rattle.groups.specs.Area.{slots, numbers_in_use, bytes_in_use, stretch_at, bytes_at, cell_at, cells, groups_of, Only, AtSlot, FreeSlot, NoSlot}
-use Rattle.groups.specs.Area as groups
 use Rattle.groups.specs.AreaLaws.{length-cells, get_or-cells, only-length, only-length-bytes, only-cells, only_wf, only-front, only-front-bytes, only-drop, only-drop-bytes}
 use Rattle.groups.specs.Laws.{lookup-found, lookup-none, groups-full, free-cell, Absent}
 use Rattle.groups.specs.PlaceLaws.{laid_if}

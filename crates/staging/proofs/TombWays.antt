@@ -1,16 +1,14 @@
 -- The ways of a tombstone on the work table, and the tombstones one after the other. Assumes nothing.
-use mathlib.Core.Bool.{Bool, true, false, cond}
+use mathlib.Core.Bool.{Bool, true}
 use mathlib.Core.List.{List, [], ◌∷◌, ◌++◌}
 use mathlib.Core.Option.{Option}
 use mathlib.Core.Path.{◌≡◌, refl, sym, ap, ◌∙◌}
-use Prim.Native.Nat.{ℕ, zero, suc, ◌+◌, ◌*◌, ◌≤◌, ◌<◌}
+use Prim.Native.Nat.{ℕ, zero, suc, ◌+◌, ◌*◌, ◌<◌}
 use native.Mathlib.Omega.{arith}
-use lib.Dec.{eqb}
 use lib.ListN.{length, get_or, drop}
 use borrow.Author.Tests.{eq-eqb, ne_eqb}
 use Rattle.maps.specs.Lists.{every}
 use Rattle.maps.specs.BoolLaws.{both_left, both_right}
-use Rattle.maps.specs.ListLaws.{every_append}
 use Rattle.rules.specs.Causes.{ok, left}
 use Rattle.rules.specs.Items as rules
 use Rattle.rules.specs.Table.{Table}
@@ -20,10 +18,10 @@ use Rattle.rules_by_group.proofs.RoomLaws.{within_more, tomb-room, tombed-room}
 use Rattle.rules_by_group.specs.Kept.{Within}
 use Rattle.log_batch.specs.declared.causes.Call as call
 use Rattle.log_batch.specs.declared.item.LogItem.{LogItem}
-use Rattle.log_batch.specs.Lent.{item_of, content_of, item_at}
+use Rattle.log_batch.specs.Lent.{item_of, content_of}
 use Rattle.log_batch.specs.OpenLaws.{item-opened}
 use Rattle.stores.specs.declared.Store.{Store}
-use Rattle.stores.specs.Stores.{Area, store_items, first_items, Stored, ItemAt}
+use Rattle.stores.specs.Stores.{Area, store_items, first_items, ItemAt}
 use Rattle.stores.specs.StoreLaws.{first-none, first_more, first_all}
 use Rattle.deeds.specs.declared.Deed.{Deed}
 use Rattle.deeds.specs.Deeds.{rows_in, key_in, value_in, deed_of}

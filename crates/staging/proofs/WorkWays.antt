@@ -3,21 +3,19 @@ use mathlib.Core.Bool.{true}
 use mathlib.Core.List.{List, []}
 use mathlib.Core.Option.{Option, none, some}
 use mathlib.Core.Path.{◌≡◌, refl, sym, ap, ◌∙◌}
-use Prim.Native.Nat.{ℕ, ◌+◌, ◌-◌, ◌*◌, ◌≤◌, ◌<◌}
+use Prim.Native.Nat.{ℕ, ◌+◌, ◌-◌, ◌*◌, ◌≤◌}
 use native.Mathlib.Omega.{arith}
 use lib.ListN.{length, get_or, take, drop, length-drop}
 use lib.Seq.{get_or-drop}
-use borrow.Author.Rules.{part_to_end}
 use borrow.Rule.Slice.PartMut.{put_mid}
-use Rattle.cells.specs.Part.{part, put}
+use Rattle.cells.specs.Part.{part}
 use Rattle.cells.specs.PartLaws.{part-is, part_back, part-drop, length-put, take_put, loan-put}
 use Rattle.maps.specs.Maps.{lookup, numbers}
-use Rattle.rules.specs.Causes.{Result, ok}
 use Rattle.rules.specs.Table.{Table}
-use Rattle.rules.specs.Context.{Context, with_groups, with_waiting}
+use Rattle.rules.specs.Context.{with_groups, with_waiting}
 use Rattle.rules_by_group.specs.Group.{tombed}
 use Rattle.rules_by_group.specs.Kept.{all_tombstones}
-use Rattle.rules_by_group.proofs.RoomLaws.{within_more, tombed-room}
+use Rattle.rules_by_group.proofs.RoomLaws.{tombed-room}
 use Rattle.rules_by_group.specs.Kept.{Within}
 use Rattle.stores.specs.declared.Store.{Store}
 use Rattle.stores.specs.Stores.{Area, area, store_items, Stored}
@@ -25,11 +23,10 @@ use Rattle.stretch.specs.declared.Outcome.{Outcome}
 use Rattle.stretch.specs.declared.Outcome.TheVariants.{Done}
 use Rattle.stretch.specs.Layout.{stretch_width, bytes_width}
 use Rattle.stretch.specs.Stretch.{table_in}
-use Rattle.stretch.specs.Changes.{outcome_as}
 use Rattle.groups.specs.declared.Slot.{Slot}
 use Rattle.groups.specs.declared.Slot.TheVariants.{At, Free, Full}
-use Rattle.groups.specs.Area.{slots, numbers_in_use, bytes_in_use, stretch_at, bytes_at, groups_of, Found, AtSlot}
-use Rattle.groups.specs.Laws.{found_at_lem, found-free, found-full, lookup-found, lookup-free, lookup-full, groups-fit}
+use Rattle.groups.specs.Area.{stretch_at, bytes_at, groups_of, Found}
+use Rattle.groups.specs.Laws.{found_at_lem, found-free, found-full, lookup-found, lookup-free, lookup-full}
 use Rattle.lists.specs.Rest.{tombstone_store, tombstone_area, tombstones_in, rest_of}
 use Rattle.contexts.specs.Contexts.{rest_at, context_of, Wf}
 use Rattle.contexts.specs.AreaLaws.{before_back, behind_back}
@@ -40,9 +37,8 @@ use Rattle.worktable.specs.WorkLaws.{becomes}
 use Rattle.worktable.specs.Moves as moves
 use Rattle.worktable.specs.Calls.{Becomes, Ends, laid_over, Layable, OlderFor}
 use Rattle.staging.specs.Staging.{long_numbers, long_bytes, Working}
-use Rattle.staging.specs.StagingLaws.{working-then}
-use Rattle.staging.specs.Modes.{newer_kind, group_by, Given}
-use Rattle.staging.specs.Works.{laid_by, Loaded, WorkedAs}
+use Rattle.staging.specs.Modes.{newer_kind}
+use Rattle.staging.specs.Works.{laid_by, Loaded}
 use Rattle.staging.specs.WorkLaws.{laid_none, laid-some, newer-of}
 
 -- ---- the long stretch, as it is lent

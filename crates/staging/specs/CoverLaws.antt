@@ -1,10 +1,10 @@
 -- The places have every number that a merge or join may give a table. Assumes nothing.
-use Rattle.std.specs.Prelude.{Bool, true, false, cond, ◌≡◌, ℕ, zero, suc, ◌+◌, ◌-◌, ◌*◌, ◌/◌, ◌≤◌, ◌<◌, eqb, leb, ltb, length, get_or, drop}
+use Rattle.std.specs.Prelude.{Bool, true, false, ◌≡◌, ℕ, zero, suc, ◌+◌, ◌-◌, ◌*◌, ◌<◌, eqb, ltb, length, get_or, drop}
 use Rattle.std.proofs.Math.Bool.{or-true}
-use mathlib.Core.List.{List, [], ◌∷◌, ◌++◌}
-use Rattle.std.proofs.Math.Option.{Option, none, some, none-ne-some, some-injective}
+use mathlib.Core.List.{List, [], ◌∷◌}
+use Rattle.std.proofs.Math.Option.{none-ne-some, some-injective}
 use Rattle.std.proofs.Math.Path.{refl, sym}
-use Rattle.std.proofs.Common.{ap, ◌∙◌, add-zero, get_or-drop}
+use Rattle.std.proofs.Common.{◌∙◌, add-zero, get_or-drop}
 use Rattle.std.proofs.Math.Decide.{dec_lt}
 use native.Mathlib.Omega.{arith}
 use borrow.Author.Tests.{lt-ltb, le-ltb, eq-eqb, ne_eqb}
@@ -12,21 +12,17 @@ use Rattle.cells.specs.Part.{part}
 use Rattle.cells.specs.PartLaws.{get_or-part}
 use Rattle.maps.specs.Lists.{any, every}
 use Rattle.maps.specs.ListLaws.{any_append, every_append}
-use Rattle.maps.specs.Maps.{Pair, Map}
 use Rattle.maps.specs.MapLaws.{pair}
 use Rattle.maps.specs.OrderLaws.{split}
-use Rattle.maps.specs.BoolLaws.{clash, both}
+use Rattle.maps.specs.BoolLaws.{both}
 use Rattle.maps.proofs.CellLaws.{every-map_of}
 use Rattle.rules.specs.Items as rules
-use Rattle.rules.specs.Table.{Table}
-use Rattle.rules.specs.Context.{Part, Context, with_groups, with_waiting}
+use Rattle.rules.specs.Context.{with_groups, with_waiting}
 use Rattle.rules_by_group.specs.Stage.{is_in, Covers}
 use Rattle.log_batch.specs.declared.item.LogItemContent.{LogItemContent}
-use Rattle.log_batch.specs.declared.open.Opened.{Opened}
 use Rattle.log_batch.specs.Lent.{item_if, opened_entries, opened_put, opened_del, opened_row, item_of, opened_of, item_at, items_from}
 use Rattle.log_batch.specs.OpenLaws.{items-snoc}
 use Rattle.stores.specs.Stores.{store_items}
-use Rattle.stores.specs.Tags.{Tagged}
 use Rattle.stretch.specs.Stretch.{is_used, group_in, table_in}
 use Rattle.groups.specs.Area.{slots, numbers_in_use, bytes_in_use, stretch_at, bytes_at, cells, groups_of}
 use Rattle.groups.specs.AreaLaws.{length-cells, get_or-cells}

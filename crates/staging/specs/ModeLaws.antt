@@ -1,8 +1,7 @@
 -- The two contexts stay while groups are worked and staged, and the places have every number that may get a table.
 -- Assumes nothing.
-use Rattle.std.specs.Prelude.{Bool, true, false, not, ◌||◌, List, [], ◌∷◌, ◌++◌, ◌≡◌, refl, ℕ, zero, suc, ◌+◌, ◌-◌, ◌*◌, ◌≤◌, ◌<◌, eqb, leb, ltb, length, take, drop, get_or}
-use Rattle.std.proofs.Math.Option.{Option, none, some}
-use Rattle.std.proofs.Common.{sym, ◌∙◌, arith, zero-add, length-drop}
+use Rattle.std.specs.Prelude.{true, false, not, ◌||◌, List, [], ◌≡◌, refl, ℕ, ◌+◌, ◌≤◌, ◌<◌, drop}
+use Rattle.std.proofs.Common.{sym, ◌∙◌, arith, length-drop}
 use Rattle.std.proofs.Math.Path.{ap}
 use Rattle.cells.specs.Part.{part}
 use Rattle.cells.specs.PartLaws.{part-drop, part-part}
@@ -16,7 +15,7 @@ use Rattle.rules_by_group.specs.Stage.{none_staged, stage_all, rest_fits, answer
 use Rattle.rules_by_group.proofs.StageLaws.{answer-clashed, answer-passed, answer_ok}
 use Rattle.rules_by_group.proofs.ByGroupLaws.{merge_by-group, merged-waiting, merged_back, join_by-group}
 use Rattle.rules_by_group.proofs.KeptLaws.{merge-kept, join_kept}
-use Rattle.groups.specs.Area.{slots, numbers_in_use, bytes_in_use, stretch_at, groups_of}
+use Rattle.groups.specs.Area.{slots, numbers_in_use, bytes_in_use, groups_of}
 use Rattle.groups.specs.AreaLaws.{Same, same-groups, same_wf, same-stretch, same_bytes}
 use Rattle.groups.specs.Undo.{live_numbers, live_bytes}
 use Rattle.lists.specs.SameLaws.{rest_same, wf_same}

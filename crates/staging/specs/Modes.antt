@@ -8,7 +8,7 @@ use Rattle.rules.specs.Context.{Kind, context, Context}
 use Rattle.rules.specs.Calls.{clash, merge, join}
 use Rattle.rules_by_group.specs.Stage.{none_staged, stage_all, merged_rest, merged_at, joined_rest, joined_at, Covers}
 use Rattle.stretch.specs.Stretch.{is_used, group_in}
-use Rattle.groups.specs.Area.{slots, numbers_in_use, stretch_at}
+use Rattle.groups.specs.Area.{numbers_in_use, stretch_at}
 use Rattle.lists.specs.declared.Counts.{Counts}
 use Rattle.contexts.specs.Contexts.{waiting_numbers, context_of, Wf}
 use Rattle.worktable.specs.declared.Mode.{Mode}

@@ -1,6 +1,6 @@
 -- The groups of a merge or join that are worked so far. They stand in the spare stretches of the older area, which are read as
 -- stretches are.
-use Rattle.std.specs.Prelude.{Bool, false, cond, List, ◌≡◌, ℕ, ◌+◌, ◌≤◌, ◌<◌, eqb, length, set, take, drop}
+use Rattle.std.specs.Prelude.{false, cond, List, ◌≡◌, ℕ, ◌+◌, ◌≤◌, ◌<◌, eqb, length, set, take, drop}
 use Rattle.std.proofs.Math.Option.{Option}
 use Rattle.cells.specs.Part.{part}
 use Rattle.rules.specs.Causes.{Result}

@@ -1,8 +1,8 @@
 -- The laws of what is staged: at the beginning nothing is, staging goes on number by number, and what a context is read from stays.
 -- Assumes nothing.
-use Rattle.std.specs.Prelude.{Bool, true, false, List, [], ◌∷◌, ◌++◌, ◌≡◌, refl, ℕ, ◌+◌, ◌*◌, ◌≤◌, ◌<◌, eqb, set, take, drop}
-use Rattle.std.proofs.Math.Option.{Option, none, some}
-use Rattle.std.proofs.Common.{sym, ap, ◌∙◌, add-zero, arith, length-set, length-drop, get_or-set_same, eqb-true}
+use Rattle.std.specs.Prelude.{true, false, List, [], ◌∷◌, ◌++◌, ◌≡◌, refl, ℕ, ◌+◌, ◌*◌, ◌≤◌, ◌<◌, eqb, set, drop}
+use Rattle.std.proofs.Math.Option.{Option}
+use Rattle.std.proofs.Common.{sym, ap, ◌∙◌, arith, length-set, length-drop, get_or-set_same, eqb-true}
 use Rattle.std.proofs.Math.ListN.{length, get_or}
 use Rattle.std.proofs.Math.Seq.{get_or-set_other}
 use Rattle.cells.specs.Part.{part, put}
@@ -10,7 +10,7 @@ use Rattle.cells.specs.PartLaws.{length_part, part_none, part-cons, part-drop, p
 use Rattle.maps.specs.OrderLaws.{split}
 use Rattle.rules.specs.Causes.{Result}
 use Rattle.rules.specs.Table.{Table}
-use Rattle.rules_by_group.specs.Stage.{Staged, none_staged, stage_all}
+use Rattle.rules_by_group.specs.Stage.{none_staged, stage_all}
 use Rattle.rules_by_group.proofs.StageLaws.{stage-append}
 use Rattle.stretch.specs.Layout.{stretch_width, bytes_width, entries_at, entry_numbers}
 use Rattle.stretch.specs.Stretch.{is_used, head_part, entry_rows}

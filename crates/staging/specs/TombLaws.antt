@@ -1,17 +1,15 @@
 -- A tombstone's deed on a group's table is what the rules say of it, and tombstones are taken one after the other. Assumes nothing.
-use Rattle.std.specs.Prelude.{Bool, true, false, cond, List, [], ◌∷◌, ◌++◌, ◌≡◌, refl, ℕ, eqb}
-use Rattle.std.proofs.Math.Option.{Option, none, some}
-use Rattle.std.proofs.Common.{sym, ap, ◌∙◌}
+use Rattle.std.specs.Prelude.{true, false, cond, List, [], ◌∷◌, ◌++◌, ◌≡◌, refl, ℕ, eqb}
+use Rattle.std.proofs.Math.Option.{Option}
 use Rattle.cells.specs.Part.{part}
 use Rattle.maps.specs.BoolLaws.{clash}
 use Rattle.maps.specs.Maps.{equal_bytes}
 use Rattle.maps.specs.OrderLaws.{split}
 use Rattle.rules.specs.Limits.{reserved_key}
-use Rattle.rules.specs.Causes.{Result, ok, and_then, left}
+use Rattle.rules.specs.Causes.{ok, and_then, left}
 use Rattle.rules.specs.Items as rules
-use Rattle.rules.specs.Table.{Table, made}
+use Rattle.rules.specs.Table.{Table}
 use Rattle.rules_by_group.specs.Group.{effect, effected, tombed}
-use Rattle.rules_by_group.proofs.RoomLaws.{tomb-room}
 use Rattle.rules_by_group.specs.Kept.{Within}
 use Rattle.log_batch.specs.declared.causes.Call as call
 use Rattle.log_batch.specs.declared.item.Command as command
@@ -22,8 +20,8 @@ use Rattle.log_batch.specs.declared.item.LogItemContent as content
 use Rattle.log_batch.specs.Lent.{content_of, key_content, key_change, change_of, command_of}
 use Rattle.stretch.specs.Changes.{rule_of, Ready}
 use Rattle.deeds.specs.declared.Deed as deed
-use Rattle.deeds.specs.Deeds.{rows_in, key_in, value_in, command_deed, clean_deed, op_deed, put_deed, deed_of}
-use Rattle.worktable.specs.Calls.{deed_to, ReadyTo, Taken}
+use Rattle.deeds.specs.Deeds.{rows_in, key_in, value_in, command_deed, op_deed, deed_of}
+use Rattle.worktable.specs.Calls.{deed_to, ReadyTo}
 
 -- ---- one tombstone
 

@@ -2,28 +2,28 @@
 use Rattle.std.specs.Prelude.{true, List, [], ◌≡◌, ℕ}
 use Rattle.std.proofs.Math.Option.{Option, none, some, none-ne-some}
 use Rattle.std.proofs.Math.Path.{refl}
-use Rattle.std.proofs.Common.{sym, ap, ◌∙◌}
+use Rattle.std.proofs.Common.{sym, ◌∙◌}
 use native.Mathlib.Omega.{arith}
 use Rattle.maps.specs.Lists.{every, last, or_else}
 use Rattle.maps.specs.Maps.{Map, lookup, numbers}
 use Rattle.maps.specs.MapLaws.{laid}
 use Rattle.maps.specs.OrderLaws.{numbers_lawful}
 use Rattle.maps.specs.MapLaws.{every-lookup}
-use Rattle.rules.specs.Causes.{Result, ok, and_then}
-use Rattle.rules.specs.Items.{Append, Rewrite, is_rewrite}
+use Rattle.rules.specs.Causes.{ok, and_then}
+use Rattle.rules.specs.Items.{Rewrite, is_rewrite}
 use Rattle.rules.specs.Table.{Table, made, empty_table}
-use Rattle.rules.specs.Context.{context, Part, Context, table_fits}
+use Rattle.rules.specs.Context.{context, Context, table_fits}
 use Rattle.rules_by_group.specs.Group.{Finished, parts_of, finished_of, finish_table, lay_over, merged_group, joined_group, tombed}
 use Rattle.rules_by_group.specs.Stage.{merged_at, joined_at}
 use Rattle.rules_by_group.specs.Kept.{entry_by, Kept}
 use Rattle.rules_by_group.proofs.KindLaws.{append-waits, own-made, queue-table}
 use Rattle.rules_by_group.proofs.EntryLaws.{tombed-meets}
 use Rattle.rules_by_group.proofs.ResultLaws.{by_option}
-use Rattle.rules_by_group.proofs.RoomLaws.{within_more, table-room, tombed-room}
+use Rattle.rules_by_group.proofs.RoomLaws.{table-room}
 use Rattle.rules_by_group.specs.Kept.{Within}
 use Rattle.worktable.specs.declared.Mode.{Mode}
 use Rattle.worktable.specs.declared.Mode.TheVariants as mode
-use Rattle.worktable.specs.Calls.{laid_over, newer_queue, AllOf, OlderFor, Layable}
+use Rattle.worktable.specs.Calls.{laid_over, newer_queue, AllOf, OlderFor}
 use Rattle.staging.specs.Modes.{older_kind, newer_kind, group_by}
 use Rattle.staging.specs.Works.{laid_by}
 use Rattle.staging.specs.Replays.{of_rewrite}

@@ -20,7 +20,7 @@ use Rattle.rules.specs.Items.{LogItem, placed_from}
 use Rattle.rules.specs.Checks.{Mark}
 use Rattle.rules.specs.Table.{Span, Table}
 use Rattle.rules.specs.Context.{Part, Context, with_groups, with_waiting, waiting_fits, limited}
-use Rattle.rules.specs.Waiting.{Accepted, finish, accept, some_parts, set_waiting, finish_group, become, accept_new_group, part_of, replay_marked}
+use Rattle.rules.specs.Waiting.{finish, accept, some_parts, set_waiting, finish_group, become, accept_new_group, part_of, replay_marked}
 use Rattle.rules_by_group.specs.Kept.{is_passed, own_items, own_parts, Kept}
 use Rattle.rules_by_group.proofs.EntryLaws.{own-passed}
 use Rattle.groups.specs.Area.{numbers_in_use, bytes_in_use, groups_of}
@@ -224,7 +224,7 @@ module _ (m : Mark) (seq : ℕ) (its : List LogItem) where
 
     pub marked_refused : (n : ℕ) (p : Position) (ys ds : List ℕ) → AnsweredKept finishes xs bs (answer.Refused n p) ys ds → Answered marked xs bs (answer.Refused n p) ys ds
     unfolding answer_as left
-    marked_refused n p ys ds a =
+    marked_refused n p zs es a =
         let r = a.answered.answers in
         let q = sym (finish-is ∙ with-refused rest-waits rest-fits (finishes (context_of xs bs)) _ (sym r)) in
         record {

@@ -2,7 +2,7 @@
 -- for these parts. And a mark among the items does nothing. Assumes nothing.
 use Rattle.std.specs.Prelude.{true, false, not, ◌&&◌, ◌≡◌, ℕ, leb, length}
 use mathlib.Core.List.{List, [], ◌∷◌}
-use Rattle.std.proofs.Math.Option.{Option, none}
+use Rattle.std.proofs.Math.Option.{Option}
 use Rattle.std.proofs.Math.Path.{refl}
 use Rattle.std.proofs.Common.{sym, ap, ◌∙◌}
 use Rattle.maps.specs.BoolLaws.{clash, both_right, and-false}

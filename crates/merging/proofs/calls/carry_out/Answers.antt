@@ -1,0 +1,13 @@
+-- `merging::calls::carry_out` meets its contract. Assumes nothing.
+use Rattle.merging.proofs.FinishWays.{begun-given, begun-is-ready, staged-given, staged_worked, carried-out}
+use Rattle.merging.proofs.calls.carry_out.Goals as goal
+
+pub stage_all-flags-requires : goal.stage_all-flags-requires
+stage_all-flags-requires c = record { given = begun-given _ _ _ _ _ _ c.requires.given c.begin.ensures; ready = begun-is-ready _ _ _ _ _ _ c.requires.given c.begin.ensures }
+
+pub finish-requires : goal.finish-requires
+finish-requires c =
+    record { plain = record { given = staged-given _ _ _ _ _ _ c.requires.given c.begin.ensures _ _ _ c.stage_all-flags.ensures; none-waits = c.requires.none-waits }; ready = c.stage_all-flags.ensures.ready; worked = staged_worked _ _ _ _ _ _ c.requires.given c.begin.ensures _ _ _ c.stage_all-flags.ensures }
+
+pub returns : goal.returns
+returns c = carried-out _ _ _ _ _ _ c.requires.given c.begin.ensures _ _ _ c.stage_all-flags.ensures _ _ _ c.finish.ensures
