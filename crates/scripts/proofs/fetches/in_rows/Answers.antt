@@ -1,0 +1,12 @@
+-- `scripts::fetches::in_rows` meets its contract. Assumes nothing.
+use Rattle.scripts.proofs.Agreeing.{not-stored, was_told}
+use Rattle.scripts.proofs.fetches.in_rows.Goals as goal
+
+pub returns-then-not-is_told : goal.returns-then-not-is_told
+returns-then-not-is_told c = not-stored _
+
+pub returns-then-n-gt-MAX_ENTRIES : goal.returns-then-n-gt-MAX_ENTRIES
+returns-then-n-gt-MAX_ENTRIES c = not-stored _
+
+pub returns : goal.returns
+returns c = was_told _ _ _ _ c.is_told.ensures c.if-not-is_told.false
