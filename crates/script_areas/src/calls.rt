@@ -2,7 +2,7 @@
 ghost use Rattle.std.specs.Prelude.{◌≤◌, length};
 ghost use Rattle.contexts.specs.Contexts.{Wf};
 
-use crate::writes::write;
+use crate::writing::write;
 use scripts::{HEAD, LISTED, Row, ask, is_listed, is_told, told_answer, told_taken};
 
 // `take_cleaned_region_logs`, with room for so many numbers.

@@ -3,6 +3,6 @@
 
 mod calls;
 mod store;
-mod writes;
+mod writing;
 
 pub use store::{ALL_BYTES, ALL_NUMBERS, fresh_all, run};

@@ -4,7 +4,7 @@ ghost use Rattle.contexts.specs.Contexts.{area_numbers, area_bytes, Wf};
 ghost use Rattle.script_areas.specs.Areas.{Areas};
 
 use crate::calls::call;
-use crate::writes::unite;
+use crate::writing::unite;
 use index::{Answer, BYTES, NUMBERS};
 use pipe_log::LogQueue;
 use scripts::{Row, is_told, row_of, told_answer};
