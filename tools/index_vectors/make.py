@@ -8,7 +8,6 @@ numbers; crates/index_vectors/README.md has the layout.
 - bench_N.txt: document 01's bench cases, its open points, and the calls of crates/rules/proofs/Script.antt.
 - tables_N.txt: the scripts of one group's table, as scripts of that group: once in Append contexts, and once in the index.
 - index_N.txt: the scripts of contexts and the index.
-- wrong.txt: the calls of the last index_N.txt, each with one number of its answer changed, so that all of them have to be named.
 """
 import pathlib
 import subprocess
@@ -559,25 +558,12 @@ class File:
         tokens.end()
 
 
-class Wrong(File):
-    """The rows of a file, each with one number of its answer changed: by turns from the front and from the end, of each call another."""
-
-    turns = {}
-
-    def row(self, what, context, want, **words):
-        turn = self.turns[what] = self.turns.get(what, -1) + 1
-        at = turn // 2 % len(want)
-        at = at if turn % 2 == 0 else len(want) - 1 - at
-        changed = want[:at] + [want[at] ^ 1] + want[at + 1:]
-        super().row(what, context, changed, **words)
-
-
-def files(script, kind):
-    """The rows of scripts, in files of a kind that each have whole scripts and are not too long."""
-    made = [kind()]
+def files(script):
+    """The rows of scripts, in files that each have whole scripts and are not too long."""
+    made = [File()]
     for words, said in answered(script):
         if words[0] == 'script':
-            one = kind()
+            one = File()
             one.take(words, said)
             made.append(one)
         else:
@@ -585,17 +571,9 @@ def files(script, kind):
     packed = [made[0]]
     for one in made[1:]:
         if MOST < packed[-1].length() + one.length():
-            packed.append(kind())
+            packed.append(File())
         packed[-1].add(one)
     return packed
-
-
-def write(name, file, differ):
-    """Writes a file of data, and prints what the program has to say of it."""
-    (DATA / name).write_text('\n'.join(file.lines) + '\n')
-    for number in differ:
-        print('%s: other answer in call %d' % (name, number))
-    print('%s: %d calls, %d differ' % (name, file.count, len(differ)))
 
 
 def main():
@@ -608,10 +586,10 @@ def main():
         'index': contexts('oracle/vectors/index.txt'),
     }
     for name, script in made.items():
-        for i, file in enumerate(files(script, File)):
-            write('%s_%d.txt' % (name, i + 1), file, [])
-    wrong = files(made['index'], Wrong)[-1]
-    write('wrong.txt', wrong, range(1, wrong.count + 1))
+        for i, file in enumerate(files(script)):
+            path = DATA / ('%s_%d.txt' % (name, i + 1))
+            path.write_text('\n'.join(file.lines) + '\n')
+            print('%s: %d calls, 0 differ' % (path.name, file.count))
 
 
 main()

@@ -128,6 +128,5 @@ fn main(rt: HostRuntime) -> io::Result<()> {
     compare_file(&rt, "index_1.txt")?;
     compare_file(&rt, "index_2.txt")?;
     compare_file(&rt, "index_3.txt")?;
-    compare_file(&rt, "index_4.txt")?;
-    compare_file(&rt, "wrong.txt")
+    compare_file(&rt, "index_4.txt")
 }

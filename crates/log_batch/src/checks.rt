@@ -142,6 +142,7 @@ pub fn mark_for(call: Call, items: &[u64], entries: &[u64], bytes: &[u8]) -> Fir
 }
 
 // The lesser number, and of the same number the earlier place.
+#[tactic(auto, unfolding(crate::specs::Judged::lesser_of))]
 fn lesser(best: Best, number: u64, place: usize) -> Best
     ensures { result ≡ lesser_of best number place }
 {

@@ -68,9 +68,9 @@ module _ (s : step.Step) where
 -- ---- the oldest part of a cell
 
 module _ (us : List ℕ) (j : ℕ) (l : j < 16) where
-  pub oldest-one : get_or us (2 + j * 10) 0 ≡ 1 → 2 + j * 10 + 2 ≡ 2 + j * 10 + oldest_at (head_at j (part 2 160 us))
+  pub oldest_one : get_or us (2 + j * 10) 0 ≡ 1 → 2 + j * 10 + 2 ≡ 2 + j * 10 + oldest_at (head_at j (part 2 160 us))
   unfolding oldest_at
-  oldest-one e = rw (count-is us j l, e)
+  oldest_one e = rw (count-is us j l, e)
 
   pub oldest_two : (get_or us (2 + j * 10) 0 ≡ 1 → ⊥) → 2 + j * 10 + 6 ≡ 2 + j * 10 + oldest_at (head_at j (part 2 160 us))
   unfolding oldest_at

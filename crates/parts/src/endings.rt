@@ -30,6 +30,7 @@ fn is_finish(step: Step) -> bool
 }
 
 // Where the tag of the oldest part of cell j stands; status, start and end stand behind it.
+#[tactic(auto, using(crate::proofs::PartWays::oldest_one, crate::proofs::PartWays::oldest_two))]
 fn oldest_at(us: &[u64], j: usize) -> usize
     requires { (length us.now ≡ 3490) × (j < 16) }
     ensures value { result ≡ 2 + j * 10 + oldest_at (head_at j (part 2 160 us.now)) }

@@ -1,22 +1,20 @@
 -- The input byte by byte. Assumes nothing.
-use mathlib.Core.Bool.{Bool, true, false}
+use mathlib.Core.Bool.{true, false}
 use mathlib.Core.List.{List, [], ◌∷◌, ◌++◌, append-nil}
-use mathlib.Core.Option.{Option, some}
+use mathlib.Core.Option.{some}
 use mathlib.Core.Path.{◌≡◌, refl, sym, ap, ◌∙◌}
-use Prim.Native.Nat.{ℕ, suc, ◌+◌, ◌≤◌}
+use Prim.Native.Nat.{ℕ, suc, ◌+◌}
 use native.Mathlib.Numerals.{add-one}
 use native.Mathlib.Omega.{arith}
-use lib.Dec.{eqb}
 use lib.ListN.{length, take}
-use borrow.Author.Tests.{eq-eqb, ne_eqb}
-use Rattle.rules.specs.Context.{Context}
+use borrow.Author.Tests.{ne_eqb}
 use Rattle.contexts.specs.Contexts.{context_of}
 use Rattle.takes_lines.specs.declared.reader.Answer as line
 use Rattle.takes_lines.specs.declared.reader.LineReader.{LineReader}
-use Rattle.takes_rules.specs.Lines.{Line, line_of}
+use Rattle.takes_rules.specs.Lines.{line_of}
 use Rattle.takes_lines.specs.Reading.{read_bytes, begin, end_line}
 use Rattle.takes_lines.specs.Reads.{line_read, read_more}
-use Rattle.takes_lines.specs.Views.{read_of, Sound, Started, Feeds, Finishes, answer_line}
+use Rattle.takes_lines.specs.Views.{Started, Feeds, Finishes, answer_line}
 use Rattle.takes_rules.specs.Program.{Takes, take_line}
 use Rattle.takes_lines.specs.Answers.{is_newline, take-answer}
 use Rattle.takes_lines.specs.Bytes.{Reached, end_of_line, take_byte}

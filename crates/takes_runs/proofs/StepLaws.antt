@@ -1,9 +1,9 @@
 -- A line on the two runs, by the contracts of the calls. Assumes nothing.
-use mathlib.Core.List.{List, [], ◌++◌, append-nil}
+use mathlib.Core.List.{List, [], append-nil}
 use mathlib.Core.Path.{◌≡◌, refl, sym, ap, ◌∙◌}
 use Prim.Native.Nat.{ℕ, ◌≤◌}
 use native.Mathlib.Omega.{arith}
-use lib.ListN.{length, take, length-take}
+use lib.ListN.{length, length-take}
 use Rattle.pipe_log.specs.declared.FileId.{FileId}
 use Rattle.rules.specs.Causes.{Refusal, Result, ok, refused, left}
 use Rattle.rules.specs.Items.{Append, Batch}
@@ -14,9 +14,9 @@ use Rattle.contexts.specs.declared.Answer.{Answer}
 use Rattle.contexts.specs.declared.Answer.TheVariants.{Accepted, Refused}
 use Rattle.contexts.specs.declared.Position.{Position}
 use Rattle.contexts.specs.Contexts.{context_of, answer_as, position_of, Called, FreshArea}
-use Rattle.takes_rules.specs.Lines.{Line, malformed, next_run, batch}
+use Rattle.takes_rules.specs.Lines.{malformed, next_run, batch}
 use Rattle.takes_rules.specs.Output.{refusal_line, malformed_line}
-use Rattle.takes_rules.specs.Program.{Takes, replayed, merged_as, merge_run, take_line}
+use Rattle.takes_rules.specs.Program.{replayed, merged_as, merge_run, take_line}
 use Rattle.takes_lines.specs.Written.{Written}
 use Rattle.takes_runs.specs.Steps.{AppendArea, said_of, Says, Takes-line, TookLine, ReplayedRun, MergedRun}
 use Rattle.takes_runs.proofs.KindLaws.{replay-area, merge-area, fresh-area}

@@ -9,7 +9,7 @@ use Rattle.contexts.specs.declared.Answer.TheVariants.{Accepted, Refused}
 use Rattle.contexts.specs.Contexts.{context_of, Wf}
 use Rattle.takes_rules.specs.Lines.{Line, next_run, batch}
 use Rattle.takes_rules.specs.Output.{refusal_line}
-use Rattle.takes_rules.specs.Program.{Takes, take_line}
+use Rattle.takes_rules.specs.Program.{take_line}
 
 -- what is printed of an answer to line n
 unfoldable pub said_of : ℕ → Answer → List ℕ
