@@ -1,5 +1,5 @@
 -- Answers to queries as numbers: the number that is returned, and what stands in what is lent at exit.
-use Rattle.std.specs.Prelude.{Bool, cond, List, [], ◌∷◌, ◌≡◌, ℕ, leb, length}
+use Rattle.std.specs.Prelude.{Bool, cond, List, ◌≡◌, ℕ, leb, length}
 use Rattle.std.proofs.Math.Option.{Option, none, some}
 use Rattle.cells.specs.Part.{put}
 use Rattle.rules.specs.Causes.{Result, ok, refused, refuse, list_too_short, and_then}

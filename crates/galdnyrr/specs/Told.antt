@@ -1,8 +1,8 @@
 -- Answers, files and gates as numbers.
-use Rattle.std.specs.Prelude.{Bool, cond, List, ◌≡◌, ℕ, ◌-◌, ◌^◌}
+use Rattle.std.specs.Prelude.{Bool, cond, List, ◌≡◌, ℕ}
 use Rattle.std.proofs.Math.Option.{Option, none, some}
 use Rattle.maps.specs.Lists.{or_else}
-use Rattle.rules.specs.Causes.{Refusal, Result, ok, refused, left}
+use Rattle.rules.specs.Causes.{Result, ok, refused, left}
 use Rattle.rules.specs.Items.{FileId}
 use Rattle.rules.specs.Context.{Context}
 use Rattle.pipe_log.specs.Rows.{queue_at}

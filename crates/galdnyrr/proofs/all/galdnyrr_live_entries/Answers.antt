@@ -1,0 +1,5 @@
+-- `galdnyrr::all::galdnyrr_live_entries` meets its contract. Assumes nothing.
+use Rattle.galdnyrr.proofs.all.galdnyrr_live_entries.Goals as goal
+
+pub returns : goal.returns
+returns c = rw (← c.queue_at.ensures) c.live_entries.ensures

@@ -1,0 +1,6 @@
+-- `galdnyrr::calls::galdnyrr_join` meets its contract. Assumes nothing.
+use Rattle.galdnyrr.proofs.ToldLaws.{told}
+use Rattle.galdnyrr.proofs.calls.galdnyrr_join.Goals as goal
+
+pub returns : goal.returns
+returns c = told _ _ _ _ _ _ _ c.tell.ensures _ c.join-answer.ensures
