@@ -13,8 +13,8 @@ slice_bounds-write_all-end-2 g c = omega (arith, c.take_block-step.ensures.stepp
 
 pub returns-in-Ok : goal.returns-in-Ok
 returns-in-Ok g c =
-    record { fit_2 = fits_after _ _ _ _ _ _ _ _ _ _ _ _ _ _ _ _ _ _ c.requires.fit c.take_block-step.ensures.stepped (omega (arith)) (omega (arith)) (omega (arith)); lines_bound = omega (arith, c.take_block-step.ensures.lines_bound, c.requires.block_len_bound.0) }
+    record { fit_2 = fits_after _ _ _ _ _ _ _ _ _ _ _ _ _ _ _ _ _ _ c.requires.fit c.take_block-step.ensures.stepped (omega arith) (omega arith) (omega arith); lines_bound = omega (arith, c.take_block-step.ensures.lines_bound, c.requires.block_len_bound.0) }
 
 pub returns-in-Err : goal.returns-in-Err
 returns-in-Err g c =
-    record { fit_2 = fits_after _ _ _ _ _ _ _ _ _ _ _ _ _ _ _ _ _ _ c.requires.fit c.take_block-step.ensures.stepped (omega (arith)) (omega (arith)) (omega (arith)); lines_bound = omega (arith, c.take_block-step.ensures.lines_bound, c.requires.block_len_bound.0) }
+    record { fit_2 = fits_after _ _ _ _ _ _ _ _ _ _ _ _ _ _ _ _ _ _ c.requires.fit c.take_block-step.ensures.stepped (omega arith) (omega arith) (omega arith); lines_bound = omega (arith, c.take_block-step.ensures.lines_bound, c.requires.block_len_bound.0) }
