@@ -6,4 +6,5 @@ mod copies;
 mod fetch;
 mod slices;
 
+pub use copies::copy_rows;
 pub use fetch::{fetch_entries_to, fetch_entry_indexes_before, fetch_rewritten_entry_indexes};

@@ -6,25 +6,11 @@ use Rattle.std.proofs.Math.Path.{ap}
 use Rattle.std.proofs.Math.Option.{Option, none, some}
 use Rattle.maps.specs.Lists.{first, map_option, or_else}
 use Rattle.maps.specs.OrderLaws.{split}
-use Rattle.rules.specs.Causes.{Result, ok, refuse, and_then, above_last}
+use Rattle.rules.specs.Causes.{ok, refuse, and_then, above_last}
 use Rattle.rules.specs.Items.{LogQueue, Append, Rewrite, EntryIndex}
-use Rattle.rules.specs.Table.{Span, Table, made, with_entries, with_keys, with_span, first_index_of, over, appended, replayed_rewrite, over_keys, span_goes_back, spanned}
+use Rattle.rules.specs.Table.{Span, Table, made, with_entries, with_keys, with_span, first_index_of, over, appended, replayed_rewrite, span_goes_back, spanned}
 use Rattle.rules.specs.Calls.{clashes, clash, over_of, merge_table, join_table}
-use Rattle.rules_by_group.specs.Group.{lay_over}
-
--- a newer table's keys laid over t
-unfoldable pub keys_over : Table → Table → Table
-keys_over newer t = with_keys (over_keys t.keys newer.keys) t
-
--- a newer table's span, if it has one, replaces t's
-unfoldable pub span_over : Option Span → Table → Table
-span_over none t = t
-span_over (some s) t = with_span (some s) t
-
--- or is refused, if files go back
-unfoldable pub spanned_by : Option Span → Table → Result Table
-spanned_by none t = ok t
-spanned_by (some s) t = spanned s t
+use Rattle.rules_by_group.specs.Group.{lay_over, keys_over, span_over, spanned_by}
 
 -- a newer table laid over: entries, keys, span
 merged_by_lem : (q : LogQueue) (newer : Table) (o : Option Table) (s : Option Span) → newer.span ≡ s → merge_table q o newer ≡ span_over newer.span (keys_over newer (over_of q (made o) newer))

@@ -6,7 +6,7 @@ use Rattle.rules.specs.Causes.{Result, ok, refuse, and_then, left, files_go_back
 use Rattle.maps.specs.Lists.{last, or_else}
 use Rattle.maps.specs.MapLaws.{laid}
 use Rattle.rules.specs.Items.{LogQueue, clean, compact, put, del, Content, entries, command, kv, LogItem, is_reserved, is_clean, is_tombstone, Call, replay_rewrite}
-use Rattle.rules.specs.Table.{Span, Table, made, compacted, delete_key, spanned, change}
+use Rattle.rules.specs.Table.{Span, Table, made, with_keys, with_span, over_keys, compacted, delete_key, spanned, change}
 use Rattle.rules.specs.Context.{Part}
 use Rattle.rules.specs.Waiting.{Accepted, wait, finish, back, accept, some_parts}
 use Rattle.rules.specs.Calls.{clashes, clash, merge_table, join_table}
@@ -103,3 +103,17 @@ merged_group q g f tombs newer older = and_then (finish_table f older) (λ o. la
 -- group g of a join, which is never refused: the Append tombstones, the Append and the Rewrite table. A table is adopted if there is none after the tombstones.
 unfoldable pub joined_group : ℕ → List LogItem → Option Table → Option Table → Option Table
 joined_group g tombs newer older = laid join_table (tombed g tombs older) newer
+
+-- a newer table's keys laid over t
+unfoldable pub keys_over : Table → Table → Table
+keys_over newer t = with_keys (over_keys t.keys newer.keys) t
+
+-- a newer table's span, if it has one, replaces t's
+unfoldable pub span_over : Option Span → Table → Table
+span_over none t = t
+span_over (some s) t = with_span (some s) t
+
+-- or is refused, if files go back
+unfoldable pub spanned_by : Option Span → Table → Result Table
+spanned_by none t = ok t
+spanned_by (some s) t = spanned s t

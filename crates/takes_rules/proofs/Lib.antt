@@ -2,5 +2,6 @@
 pub mod Texts
 pub mod Opened
 pub mod Examples
+pub mod Inputs
 pub mod LineSentences
 pub mod PrintSentences

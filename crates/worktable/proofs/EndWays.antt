@@ -12,7 +12,7 @@ use Rattle.rules.specs.Causes.{ok, and_then}
 use Rattle.rules.specs.Table.{Span, Table, made, spanned}
 use Rattle.rules.specs.Context.{table_fits}
 use Rattle.rules_by_group.specs.Kept.{Within}
-use Rattle.rules_by_group.proofs.TableLaws.{spanned_by}
+use Rattle.rules_by_group.specs.Group.{spanned_by}
 use Rattle.kvs.specs.RowLaws as rows
 use Rattle.memtable.specs.Views.{table_of}
 use Rattle.memtable.specs.WindowLaws.{length-window}

@@ -12,7 +12,7 @@ use Rattle.rules.specs.Causes.{ok, refused, and_then}
 use Rattle.rules.specs.Table.{Table, uncounted}
 use Rattle.rules_by_group.proofs.RoomLaws.{table-room}
 use Rattle.rules_by_group.specs.Kept.{Within}
-use Rattle.rules_by_group.proofs.TableLaws.{keys_over, span_over, spanned_by}
+use Rattle.rules_by_group.specs.Group.{keys_over, span_over, spanned_by}
 use Rattle.memtable.specs.Views.{table_of}
 use Rattle.stretch.specs.declared.Outcome.{Outcome}
 use Rattle.stretch.specs.declared.Outcome.TheVariants.{Done, Refused}

@@ -10,7 +10,7 @@ use Rattle.rules.specs.Table.{Span, Table, made, appended, replayed_rewrite}
 use Rattle.rules.specs.Calls.{join_table}
 use Rattle.rules_by_group.specs.Group.{lay_over}
 use Rattle.rules_by_group.specs.Kept.{Within}
-use Rattle.rules_by_group.proofs.TableLaws.{keys_over, span_over, spanned_by}
+use Rattle.rules_by_group.specs.Group.{keys_over, span_over, spanned_by}
 use Rattle.stretch.specs.declared.Outcome.{Outcome}
 use Rattle.memtable.specs.declared.Head.{Head}
 use Rattle.stretch.specs.Stretch.{head_part, entry_rows, table_at}

@@ -23,7 +23,8 @@ use Rattle.rules.specs.Table.{Held, Span, Table, made, with_entries, with_keys, 
 use Rattle.rules.specs.Calls.{over_of, merge_table, join_table}
 use Rattle.rules_by_group.proofs.RoomLaws.{laid-room}
 use Rattle.rules_by_group.specs.Kept.{Within}
-use Rattle.rules_by_group.proofs.TableLaws.{keys_over, span_over, spanned_by, lay-append, lay-rewrite, join-over}
+use Rattle.rules_by_group.specs.Group.{keys_over, span_over, spanned_by}
+use Rattle.rules_by_group.proofs.TableLaws.{lay-append, lay-rewrite, join-over}
 use Rattle.memtable.specs.declared.Head.{Head}
 use Rattle.memtable.specs.Appends.{Lent}
 use Rattle.memtable.specs.Views.{Row, Rows}

@@ -1,5 +1,5 @@
 -- `worktable::laying::lay_span` meets its contract. Assumes nothing.
-use Rattle.rules_by_group.proofs.TableLaws.{span_over, spanned_by}
+use Rattle.rules_by_group.specs.Group.{span_over, spanned_by}
 use Rattle.memtable.specs.Views.{span_of}
 use Rattle.stretch.specs.Laws.{unchanged}
 use Rattle.worktable.specs.Calls.{span_laid}
