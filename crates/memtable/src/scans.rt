@@ -21,6 +21,7 @@ pub fn count_before(part: &[u64], from: usize, count: usize, gate: u64) -> usize
 }
 
 // Whether a record of length `len` is one too many after lengths that sum to `sum`.
+#[tactic(auto, unfolding(crate::specs::Scans::stops))]
 fn over_size(size: u64, sum: u64, len: u64) -> bool
     ensures { result ≡ stops size sum len }
 {

