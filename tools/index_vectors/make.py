@@ -16,7 +16,7 @@ ROOT = pathlib.Path(__file__).resolve().parents[2]
 ORACLE = ROOT / 'oracle' / 'target' / 'release' / 'oracle'
 DATA = ROOT / 'crates' / 'index_vectors' / 'data'
 
-# the bytes of a file: the program reads files below 262,144 bytes
+# the bytes of a file at most
 MOST = 260000
 
 # ---- scripts

@@ -9,19 +9,16 @@ use borrow.Rule.Slice.PartMut.{put_mid}
 use Rattle.groups.specs.Undo.{Begun, Undone}
 use Rattle.lists.specs.Rest.{cut_to}
 use Rattle.lists.specs.Rest as lists
-use mathlib.Core.Option.{none, some}
+use Rattle.std.specs.Prelude.{None, Some}
 use lib.Dec.{eqb}
 use lib.ListN.{get_or}
 use borrow.Author.Tests.{ne_eqb}
-use Rattle.rules.specs.Causes.{left}
+use Rattle.rules.specs.Causes.{Cause, Ok, Err, left}
 use Rattle.rules.specs.Items.{LogItem, Call, placed_from}
 use Rattle.rules.specs.Checks.{checks}
 use Rattle.rules.specs.Context.{limited, run}
 use Rattle.log_batch.specs.Lent.{row_count_of, item_at, items_of}
-use Rattle.stretch.specs.declared.Outcome.TheVariants.{Done, Refused}
-use Rattle.contexts.specs.declared.Answer.TheVariants as answer
-use Rattle.contexts.specs.declared.Position.TheVariants as position
-use Rattle.contexts.specs.Contexts.{context_of, Formed, answer_as, position_of, Answered}
+use Rattle.contexts.specs.Contexts.{context_of, Formed, answer_as, Answered}
 use Rattle.batches.specs.Runs.{Keeping, Stepped, Going, WentBack}
 use Rattle.batches.specs.OwnLaws.{keeping_step, item-clear}
 use Rattle.batches.specs.BatchLaws.{begun-formed, begun-context, begun-going, going_on, gone_back, run_from, run-start, run_end, run-done, run-refused}
@@ -61,33 +58,33 @@ module _ (c : Call) (items es bs : List ℕ) (n : ℕ) where
     abbrev here : LogItem
     here = item_at es bs (drop (i * 9) items)
 
-    pub under_more : n ≡ row_count_of items → checks c (items_of items es bs) ≡ none → (zs gs : List ℕ) → Stepped c here (eqb (i + 1) n) xs fs Done zs gs → Under c items es bs n t m ys ds (i + 1) zs gs
+    pub under_more : n ≡ row_count_of items → checks c (items_of items es bs) ≡ None → (zs gs : List ℕ) → Stepped c here (eqb (i + 1) n) xs fs (Ok tt) zs gs → Under c items es bs n t m ys ds (i + 1) zs gs
     under_more q p zs gs s =
         record {
-          rest = sym (run-done c items es bs n i (context_of xs fs) (context_of zs gs) l (sym (s.rule (some i)))) ∙ u.rest;
+          rest = sym (run-done c items es bs n i (context_of xs fs) (context_of zs gs) l (sym (s.rule (Some i)))) ∙ u.rest;
           formed = s.formed;
           going = λ k. going_on t m (context_of ys ds) xs fs zs gs (u.going l) (s.kept (ne_eqb (i + 1) n (λ e. omega arith)));
           inside = omega arith;
-          own = keeping_step c (record { item = here; place = some i }) (context_of xs fs) (context_of zs gs) (item-clear c items es bs i p (rw q at l)) u.own (sym (s.rule (some i)));
+          own = keeping_step c (record { item = here; place = Some i }) (context_of xs fs) (context_of zs gs) (item-clear c items es bs i p (rw q at l)) u.own (sym (s.rule (Some i)));
         }
 
     -- refused: the area can go back
-    pub under_back : (k : ℕ) (zs gs : List ℕ) → Stepped c here (eqb (i + 1) n) xs fs (Refused k) zs gs → Going t m (context_of ys ds) zs gs
+    pub under_back : (k : Cause) (zs gs : List ℕ) → Stepped c here (eqb (i + 1) n) xs fs (Err k) zs gs → Going t m (context_of ys ds) zs gs
     under_back k zs gs s = going_on t m (context_of ys ds) xs fs zs gs (u.going l) (s.left k refl)
 
     -- and has gone back
-    pub under-refused : (k : ℕ) (zs gs vs hs : List ℕ) → Stepped c here (eqb (i + 1) n) xs fs (Refused k) zs gs → WentBack t m zs gs vs hs → (xs₁ bs₁ : List ℕ) → context_of ys ds ≡ context_of xs₁ bs₁ → n ≡ row_count_of items → Answered (run limited c (placed_from 0 (items_of items es bs))) xs₁ bs₁ (answer.Refused k (position.At i)) vs hs
-    unfolding answer_as position_of left
+    pub under-refused : (k : Cause) (zs gs vs hs : List ℕ) → Stepped c here (eqb (i + 1) n) xs fs (Err k) zs gs → WentBack t m zs gs vs hs → (xs₁ bs₁ : List ℕ) → context_of ys ds ≡ context_of xs₁ bs₁ → n ≡ row_count_of items → Answered (run limited c (placed_from 0 (items_of items es bs))) xs₁ bs₁ (Err (record { cause = k; place = (Some i) })) vs hs
+    unfolding answer_as left
     under-refused k zs gs vs hs s b xs₁ bs₁ e q =
         let going = under_back k zs gs s in
-        let r = sym (run-refused c items es bs n i (context_of xs fs) _ l (sym (s.rule (some i)))) ∙ u.rest ∙ run-start c items es bs n (context_of ys ds) q in
+        let r = sym (run-refused c items es bs n i (context_of xs fs) _ l (sym (s.rule (Some i)))) ∙ u.rest ∙ run-start c items es bs n (context_of ys ds) q in
         record {
           answers = r ∙ ap (run limited c (placed_from 0 (items_of items es bs))) e;
           leaves = b.context-is ∙ going.back ∙ e ∙ ap (left (context_of xs₁ bs₁)) (r ∙ ap (run limited c (placed_from 0 (items_of items es bs))) e);
           formed = b.formed;
         }
 
-  pub under_all : (t m : ℕ) (ys ds : List ℕ) (i : ℕ) (xs fs : List ℕ) → Under c items es bs n t m ys ds i xs fs → n ≤ i → (xs₁ bs₁ : List ℕ) → context_of ys ds ≡ context_of xs₁ bs₁ → n ≡ row_count_of items → Answered (run limited c (placed_from 0 (items_of items es bs))) xs₁ bs₁ answer.Accepted xs fs
+  pub under_all : (t m : ℕ) (ys ds : List ℕ) (i : ℕ) (xs fs : List ℕ) → Under c items es bs n t m ys ds i xs fs → n ≤ i → (xs₁ bs₁ : List ℕ) → context_of ys ds ≡ context_of xs₁ bs₁ → n ≡ row_count_of items → Answered (run limited c (placed_from 0 (items_of items es bs))) xs₁ bs₁ (Ok tt) xs fs
   unfolding answer_as left
   under_all t m ys ds i xs fs u l xs₁ bs₁ e q =
       let r = sym (run_end c items es bs n i (context_of xs fs) l) ∙ u.rest ∙ run-start c items es bs n (context_of ys ds) q ∙ ap (run limited c (placed_from 0 (items_of items es bs))) e in

@@ -5,10 +5,8 @@ use Rattle.std.proofs.Math.Path.{ap}
 use Rattle.maps.specs.BoolLaws.{clash}
 use Rattle.maps.specs.Maps.{lookup, remove, numbers}
 use Rattle.maps.specs.Cells.{map_of}
-use Rattle.rules.specs.Causes.{Result, ok}
+use Rattle.rules.specs.Causes.{Cause, ByCause, Err, Result, Ok}
 use Rattle.rules.specs.Table.{Table, made}
-use Rattle.stretch.specs.declared.Outcome.{Outcome}
-use Rattle.stretch.specs.declared.Outcome.TheVariants.{Done, Refused}
 use Rattle.stretch.specs.Changes.{rule_of, Ready}
 use Rattle.groups.specs.declared.Slot.{Slot}
 use Rattle.groups.specs.Area.{groups_of, Wf, Found, OnlySlot}
@@ -46,10 +44,10 @@ secured_by last asked xs bs ys ds s =
     }
 
 -- done is no refusal
-pub done-not-refused : (n : ℕ) → Done ≡ Refused n → ⊥
+pub done-not-refused : (n : Cause) → ◌≡◌ {A = ByCause (Unit {0})} (Ok tt) (Err n) → ⊥
 done-not-refused n e = let z : ◌≡◌ {A = ℕ} 0 1 = cc in omega arith
 
-pub skipped : (last : Bool) (xs bs : List ℕ) → Wf xs bs → Undoable xs bs → Acted (λ m. ok m) last xs bs Done xs bs
+pub skipped : (last : Bool) (xs bs : List ℕ) → Wf xs bs → Undoable xs bs → Acted (λ m. Ok m) last xs bs (Ok tt) xs bs
 skipped last xs bs w u =
     record {
       rule = refl;
@@ -83,11 +81,11 @@ module _ (g : ℕ) (slot : Slot) (last : Bool) (asked : List ℕ → Type 0) (xs
   ready-still P r = rw groups_stay r
 
 module _ (g : ℕ) (slot : Slot) (last : Bool) (xs bs ys ds : List ℕ) (f : Found g xs slot) where
-  pub acted-clean : SecuredUnless last (ReadyToGo slot) xs bs ys ds → (zs : List ℕ) → RemovedGroup g slot ys ds zs → Acted (λ m. ok (remove numbers g m)) last xs bs Done zs ds
+  pub acted-clean : SecuredUnless last (ReadyToGo slot) xs bs ys ds → (zs : List ℕ) → RemovedGroup g slot ys ds zs → Acted (λ m. Ok (remove numbers g m)) last xs bs (Ok tt) zs ds
   acted-clean s zs r =
       let found = found-still g slot last (ReadyToGo slot) xs bs ys ds f s in
       record {
-        rule = ap ok (r.rule ∙ ap (remove numbers g) (groups_stay g slot last (ReadyToGo slot) xs bs ys ds f s));
+        rule = ap Ok (r.rule ∙ ap (remove numbers g) (groups_stay g slot last (ReadyToGo slot) xs bs ys ds f s));
         left = λ n e. absurd (done-not-refused n e);
         left-undo = λ n e. absurd (done-not-refused n e);
         kept =
@@ -98,7 +96,7 @@ module _ (g : ℕ) (slot : Slot) (last : Bool) (xs bs ys ds : List ℕ) (f : Fou
         wf = r.wf;
       }
 
-  pub acted-change : (c : Change) (by : Table → Result Table) → SecuredUnless last (ReadyFor c slot) xs bs ys ds → (r : Outcome) (zs es : List ℕ) → ChangedGroup by g slot ys ds r zs es → LeavesSlot c slot ys ds r zs es → Acted (on_group by g) last xs bs r zs es
+  pub acted-change : (c : Change) (by : Table → Result Table) → SecuredUnless last (ReadyFor c slot) xs bs ys ds → (r : ByCause (Unit {0})) (zs es : List ℕ) → ChangedGroup by g slot ys ds r zs es → LeavesSlot c slot ys ds r zs es → Acted (on_group by g) last xs bs r zs es
   acted-change c by s r zs es a v =
       let found = found-still g slot last (ReadyFor c slot) xs bs ys ds f s in
       let p = s.wf.numbers_fit in
@@ -120,12 +118,12 @@ module _ (g : ℕ) (slot : Slot) (last : Bool) (xs bs ys ds : List ℕ) (f : Fou
 
 -- ---- by the deed
 
-module _ (last : Bool) (g : ℕ) (rows key value xs bs ys ds : List ℕ) (r : Outcome) where
-  pub act-skip : (d : deed.Deed) → d ≡ deed.TheVariants.Skip → Acted (λ m. ok m) last xs bs r ys ds → Acted (deed_on d g rows key value) last xs bs r ys ds
+module _ (last : Bool) (g : ℕ) (rows key value xs bs ys ds : List ℕ) (r : ByCause (Unit {0})) where
+  pub act-skip : (d : deed.Deed) → d ≡ deed.TheVariants.Skip → Acted (λ m. Ok m) last xs bs r ys ds → Acted (deed_on d g rows key value) last xs bs r ys ds
   unfolding deed_on
   act-skip d e a = rw e a
 
-  pub act-clean : (d : deed.Deed) → d ≡ deed.TheVariants.Clean → Acted (λ m. ok (remove numbers g m)) last xs bs r ys ds → Acted (deed_on d g rows key value) last xs bs r ys ds
+  pub act-clean : (d : deed.Deed) → d ≡ deed.TheVariants.Clean → Acted (λ m. Ok (remove numbers g m)) last xs bs r ys ds → Acted (deed_on d g rows key value) last xs bs r ys ds
   unfolding deed_on
   act-clean d e a = rw e a
 

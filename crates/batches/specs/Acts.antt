@@ -1,10 +1,8 @@
 -- What an item's deed does to the groups of an area, and what a refused batch can still go back to.
 use Rattle.std.specs.Prelude.{Bool, false, List, ◌≡◌, ℕ, take, drop}
 use Rattle.maps.specs.Maps.{Map, remove, numbers}
-use Rattle.rules.specs.Causes.{Result, ok}
+use Rattle.rules.specs.Causes.{Cause, ByCause, Err, Result, Ok}
 use Rattle.rules.specs.Table.{Table}
-use Rattle.stretch.specs.declared.Outcome.{Outcome}
-use Rattle.stretch.specs.declared.Outcome.TheVariants.{Refused}
 use Rattle.stretch.specs.Changes.{outcome_as, rule_of}
 use Rattle.groups.specs.Area.{numbers_in_use, bytes_in_use, cells, groups_of}
 use Rattle.groups.specs.Area as groups
@@ -14,8 +12,8 @@ use Rattle.deeds.specs.declared.Deed as deed
 
 -- what a deed does to the groups
 unfoldable pub deed_on : deed.Deed → ℕ → List ℕ → List ℕ → List ℕ → Map ℕ Table → Result (Map ℕ Table)
-deed_on deed.TheVariants.Skip g rows key value m = ok m
-deed_on deed.TheVariants.Clean g rows key value m = ok (remove numbers g m)
+deed_on deed.TheVariants.Skip g rows key value m = Ok m
+deed_on deed.TheVariants.Clean g rows key value m = Ok (remove numbers g m)
 deed_on (deed.TheVariants.Change ch) g rows key value m = on_group (rule_of ch rows key value) g m
 
 -- what the stretches go back to is as it was
@@ -38,11 +36,11 @@ pub record SecuredUnless (last : Bool) (asked : List ℕ → Type 0) (xs bs xs' 
   pub behind : BehindKept xs bs xs' bs'
   pub wf : groups.Wf xs' bs'
 
--- the groups are changed by a rule. Refused, they are as they were; and unless it was the last item, the batch can go back.
-pub record Acted (to : Map ℕ Table → Result (Map ℕ Table)) (last : Bool) (xs bs : List ℕ) (r : Outcome) (xs' bs' : List ℕ) : Type 0 where
+-- the groups are changed by a rule. Err, they are as they were; and unless it was the last item, the batch can go back.
+pub record Acted (to : Map ℕ Table → Result (Map ℕ Table)) (last : Bool) (xs bs : List ℕ) (r : ByCause (Unit {0})) (xs' bs' : List ℕ) : Type 0 where
   pub rule : outcome_as r (groups_of xs' bs') ≡ to (groups_of xs bs)
-  pub left : (n : ℕ) → r ≡ Refused n → cells xs' bs' ≡ cells xs bs
-  pub left-undo : (n : ℕ) → r ≡ Refused n → UndoKept xs bs xs' bs'
+  pub left : (n : Cause) → r ≡ Err n → cells xs' bs' ≡ cells xs bs
+  pub left-undo : (n : Cause) → r ≡ Err n → UndoKept xs bs xs' bs'
   pub kept : last ≡ false → UndoKept xs bs xs' bs'
   pub behind : BehindKept xs bs xs' bs'
   pub wf : groups.Wf xs' bs'

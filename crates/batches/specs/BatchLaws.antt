@@ -1,6 +1,7 @@
 -- A batch on an area: how it begins, goes on item by item, and goes back. Assumes nothing.
+use Rattle.log_batch.specs.Lent.{Opened}
 use mathlib.Core.List.{List}
-use Rattle.std.proofs.Math.Option.{none, some}
+use Rattle.std.specs.Prelude.{None, Some}
 use Rattle.std.specs.Prelude.{◌≡◌, refl, length, get_or, take, drop}
 use Rattle.std.proofs.Common.{sym, ◌∙◌, arith}
 use Rattle.std.proofs.Math.Path.{ap}
@@ -8,13 +9,12 @@ use Prim.Native.Nat.{ℕ, ◌+◌, ◌-◌, ◌*◌, ◌/◌, ◌≤◌, ◌<◌
 use Rattle.std.proofs.Math.Numerals.{add-one}
 use Rattle.maps.specs.Cells.{map_of}
 use Rattle.maps.specs.Maps.{Map}
-use Rattle.rules.specs.Causes.{Result, ok, refused, and_then, in_order}
+use Rattle.rules.specs.Causes.{Result, Ok, Err, and_then, in_order}
 use Rattle.rules.specs.Items.{Call, Placed, placed_from}
 use Rattle.rules.specs.Checks.{checks}
 use Rattle.rules.specs.Table.{Table}
 use Rattle.rules.specs.Context.{Part, Context, with_groups, with_waiting, limited, step, run}
 use Rattle.log_batch.specs.declared.item.LogItem as lent
-use Rattle.log_batch.specs.declared.open.Opened.{Opened, TheVariants.Item, TheVariants.Refused as Refused'}
 use Rattle.log_batch.specs.Lent.{row_count_of, opened_row, item_at, items_from, items_of, item_of}
 use Rattle.log_batch.specs.OpenLaws.{opened_bare, refused-item}
 use Rattle.log_batch.specs.PassedLaws.{Passed, passed-opens}
@@ -35,10 +35,10 @@ use Rattle.batches.specs.Runs.{ItemReady, back_to, BackKept, Going, WentBack}
 
 -- ---- an item of a batch that passed the checks
 
-same_item : (o : Opened) (x y : lent.LogItem) → o ≡ Item x → o ≡ Item y → x ≡ y
+same_item : (o : Opened) (x y : lent.LogItem) → o ≡ Ok x → o ≡ Ok y → x ≡ y
 same_item o x y p q = cc
 
-pub opened-ready : (c : Call) (xs es bs : List ℕ) (i : ℕ) (it : lent.LogItem) → checks c (items_of xs es bs) ≡ none → i < row_count_of xs → opened_row (drop (i * 9) xs) (length es / 8) (length bs) ≡ Item it → ItemReady c it es bs
+pub opened-ready : (c : Call) (xs es bs : List ℕ) (i : ℕ) (it : lent.LogItem) → checks c (items_of xs es bs) ≡ None → i < row_count_of xs → opened_row (drop (i * 9) xs) (length es / 8) (length bs) ≡ Ok it → ItemReady c it es bs
 opened-ready c xs es bs i it p h e =
     let o = passed-opens c xs es bs p i h in
     let s : o.item ≡ it = same_item _ o.item it o.opens e in
@@ -50,7 +50,7 @@ opened-ready c xs es bs i it p h e =
     }
 
 -- no row is refused
-pub opened-never : {P : Type 0} (c : Call) (xs es bs : List ℕ) (i g : ℕ) → checks c (items_of xs es bs) ≡ none → i < row_count_of xs → opened_row (drop (i * 9) xs) (length es / 8) (length bs) ≡ Refused' g → P
+pub opened-never : {P : Type 0} (c : Call) (xs es bs : List ℕ) (i g : ℕ) → checks c (items_of xs es bs) ≡ None → i < row_count_of xs → opened_row (drop (i * 9) xs) (length es / 8) (length bs) ≡ Err (record { raft_group_id = g }) → P
 opened-never c xs es bs i g p h e = let o = passed-opens c xs es bs p i h in refused-item g o.item (sym e ∙ o.opens)
 
 -- ---- under way
@@ -139,18 +139,18 @@ module _ (c : Call) (items es bs : List ℕ) where
   run-start n x e = rw (e, ← items-start es bs (row_count_of items) items)
 
   module _ (n i : ℕ) where
-    pub run_end : (x : Context) → n ≤ i → run_from c items es bs n i x ≡ ok x
+    pub run_end : (x : Context) → n ≤ i → run_from c items es bs n i x ≡ Ok x
     unfolding run_from in_order placed_from
     run_end x h = rw (items-end es bs n i items h)
 
     -- the item that is next, at its place
     abbrev next : Placed
-    next = record { item = item_at es bs (drop (i * 9) items); place = some i }
+    next = record { item = item_at es bs (drop (i * 9) items); place = Some i }
 
-    pub run-done : (x y : Context) → i < n → step limited c next x ≡ ok y → run_from c items es bs n i x ≡ run_from c items es bs n (i + 1) y
+    pub run-done : (x y : Context) → i < n → step limited c next x ≡ Ok y → run_from c items es bs n i x ≡ run_from c items es bs n (i + 1) y
     unfolding run_from in_order placed_from and_then
     run-done x y h e = rw (items_more es bs n i items h, e, add-one i)
 
-    pub run-refused : (x : Context) (r : _) → i < n → step limited c next x ≡ refused r → run_from c items es bs n i x ≡ refused r
+    pub run-refused : (x : Context) (r : _) → i < n → step limited c next x ≡ Err r → run_from c items es bs n i x ≡ Err r
     unfolding run_from in_order placed_from and_then
     run-refused x r h e = rw (items_more es bs n i items h, e)

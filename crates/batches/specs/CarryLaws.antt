@@ -1,4 +1,5 @@
 -- An item with places carried out on an area: each way through it, as the rules' step. Assumes nothing.
+use Rattle.rules.specs.Causes.{Cause, LimitPassed, ByCause, Ok, Err}
 use Rattle.std.specs.Prelude.{Bool, true, false, ◌&&◌, List, ◌≡◌, ℕ, ◌-◌, length, get_or, take, drop}
 use Rattle.std.proofs.Common.{sym, ◌∙◌}
 use borrow.Author.Rules.{part_to_end}
@@ -9,8 +10,6 @@ use Rattle.log_batch.specs.declared.causes.Call as call
 use Rattle.log_batch.specs.declared.item.LogItem as lent
 use Rattle.log_batch.specs.Lent.{item_of}
 use Rattle.log_batch.specs.Judged.{call_of}
-use Rattle.stretch.specs.declared.Outcome.{Outcome}
-use Rattle.stretch.specs.declared.Outcome.TheVariants.{Done, Refused}
 use Rattle.groups.specs.Area.{numbers_in_use, bytes_in_use, groups_of}
 use Rattle.groups.specs.Undo.{Undoable}
 use Rattle.lists.specs.Rest as lists
@@ -64,10 +63,10 @@ module _ (c : call.Call) (it : lent.LogItem) (es ds : List ℕ) (ready : ItemRea
         room-is (call_of c) item (drop numbers_in_use xs) (drop bytes_in_use bs) (groups_of xs bs) (waiting_of (waiting_numbers xs) (waiting_bytes bs)) w.rest
         ∙ rw (← et, ← en) (sym room_told)
 
-    pub carried_no-room : r ≡ false → Stepped (call_of c) item last xs bs (Refused 18) xs bs
+    pub carried_no-room : r ≡ false → Stepped (call_of c) item last xs bs (Err LimitPassed) xs bs
     carried_no-room f = stepped_no-room (call_of c) item last rows key value does xs bs w u says (room_of_lem ∙ f)
 
-    module _ (y : r ≡ true) (o : Outcome) (ys fs : List ℕ) (a : Acted (deed_on does it.raft_group_id rows key value) last xs bs o ys fs) where
+    module _ (y : r ≡ true) (o : ByCause (Unit {0})) (ys fs : List ℕ) (a : Acted (deed_on does it.raft_group_id rows key value) last xs bs o ys fs) where
       pub lists-wf : lists.Wf (drop numbers_in_use ys) (drop bytes_in_use fs)
       lists-wf = rw (a.behind.numbers, a.behind.bytes) w.rest
 
@@ -83,12 +82,12 @@ module _ (c : call.Call) (it : lent.LogItem) (es ds : List ℕ) (ready : ItemRea
             no-entries = λ q. no-entries (call_of c) it es ds (sym et ∙ q);
           })
 
-      pub carried-refused : (k : ℕ) → o ≡ Refused k → Stepped (call_of c) item last xs bs (Refused k) ys fs
+      pub carried-refused : (k : Cause) → o ≡ Err k → Stepped (call_of c) item last xs bs (Err k) ys fs
       unfolding item_of
       carried-refused k e =
           stepped-refused (call_of c) item last rows key value does xs bs w u says (room_of_lem ∙ y) ys fs k (rw e at a)
 
-      pub carried-done : o ≡ Done → (zs gs : List ℕ) → AreaGrown t n item ys fs zs gs → Stepped (call_of c) item last xs bs Done zs gs
+      pub carried-done : o ≡ (Ok tt) → (zs gs : List ℕ) → AreaGrown t n item ys fs zs gs → Stepped (call_of c) item last xs bs (Ok tt) zs gs
       unfolding item_of
       carried-done e zs gs g =
           stepped-done (call_of c) item last rows key value does xs bs w u says (room_of_lem ∙ y) ys fs (rw e at a) zs gs (rw (et, en) at g)

@@ -1,12 +1,12 @@
 -- One item of a batch by its deed: where the lists have room the deed decides, and otherwise it is refused by 18. Assumes nothing.
 use Rattle.std.specs.Prelude.{Bool, true, false, ◌&&◌, List, ◌≡◌, refl, ℕ, length}
-use Rattle.std.proofs.Math.Option.{Option}
+use Rattle.std.specs.Prelude.{Option}
 use Rattle.std.proofs.Common.{sym, ◌∙◌}
 use Rattle.maps.specs.BoolLaws.{clash, both_right}
 use Rattle.maps.specs.OrderLaws.{split}
 use Rattle.maps.specs.Maps.{lookup, numbers}
 use Rattle.rules.specs.Limits.{max_tombstones, max_cleaned}
-use Rattle.rules.specs.Causes.{ok, refuse_at, and_then, placed, limit_passed}
+use Rattle.rules.specs.Causes.{Ok, refuse_at, and_then, placed, LimitPassed}
 use Rattle.rules.specs.Items.{LogItem, Call, is_tombstone}
 use Rattle.rules.specs.Table.{Table, made}
 use Rattle.rules.specs.Context.{Context, with_groups, fits, limited, keeps, step}
@@ -38,14 +38,14 @@ module _ (call : Call) (it : LogItem) (p : Option ℕ) (c : Context) (h : fits c
       (λ t. absurd (clash (sym k ∙ adds_to (adds_cleaned call it) (length c.cleaned) max_cleaned (and-false-right a b e t))))
       (λ f. both_right (keeps call) (is_tombstone it.content) (adds_to (adds_tombstone call it) (length c.tombstones) max_tombstones f))
 
-  pub step_room : (d : deed.Deed) → DeedSays d call it.content rows key value → lists_have_room call it c ≡ true → step limited call (record { item = it; place = p }) c ≡ placed p (and_then (deed_on d it.group rows key value c.groups) (λ m. ok (grown call it (with_groups m c))))
+  pub step_room : (d : deed.Deed) → DeedSays d call it.content rows key value → lists_have_room call it c ≡ true → step limited call (record { item = it; place = p }) c ≡ placed p (and_then (deed_on d it.group rows key value c.groups) (λ m. Ok (grown call it (with_groups m c))))
   unfolding DeedSays deed_on and_then placed with_groups
   step_room deed.TheVariants.Skip s y = step_skip call it p c h s ∙ rw y
   step_room deed.TheVariants.Clean s y = step-clean call it p c h s.0 s.1 ∙ rw y
   step_room (deed.TheVariants.Change ch) s y =
       step-change call it p c h (rule_of ch rows key value) s.not-reserved (s.rule (lookup numbers it.group c.groups)) y
 
-  pub step_no-room : (d : deed.Deed) → DeedSays d call it.content rows key value → lists_have_room call it c ≡ false → step limited call (record { item = it; place = p }) c ≡ refuse_at limit_passed p
+  pub step_no-room : (d : deed.Deed) → DeedSays d call it.content rows key value → lists_have_room call it c ≡ false → step limited call (record { item = it; place = p }) c ≡ refuse_at LimitPassed p
   unfolding DeedSays adds_cleaned
   step_no-room deed.TheVariants.Skip s y = step_skip call it p c h s ∙ rw y
   step_no-room deed.TheVariants.Clean s y = step-clean call it p c h s.0 s.1 ∙ rw y

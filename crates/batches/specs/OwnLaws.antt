@@ -1,12 +1,12 @@
 -- A Rewrite replay item by item: the context keeps what a Rewrite context keeps, so that each group has Rewrite entries alone.
 -- Assumes nothing.
 use Rattle.std.specs.Prelude.{true, false, not, List, ◌≡◌, refl, ℕ, ◌*◌, ◌<◌, drop}
-use Rattle.std.proofs.Math.Option.{none}
+use Rattle.std.specs.Prelude.{None}
 use Rattle.std.proofs.Common.{sym, ap, ◌∙◌}
 use Rattle.maps.specs.BoolLaws.{clash, neither_left}
 use Rattle.maps.specs.Lists.{any}
 use Rattle.maps.specs.Maps.{lookup, numbers}
-use Rattle.rules.specs.Causes.{ok}
+use Rattle.rules.specs.Causes.{Ok}
 use Rattle.rules.specs.Items.{Rewrite, has_file, Content, entries, command, kv, Placed, is_reserved, Call, replay_append, replay_rewrite, live_append, live_rewrite, writes}
 use Rattle.rules.specs.Checks.{consecutive, is_incomplete, is_other_queue, is_rewrite_replay, checks}
 use Rattle.rules.specs.Table.{made}
@@ -52,7 +52,7 @@ clear-own (command c) k = refl
 clear-own (kv y c) k = refl
 
 -- one item that is taken
-pub keeping_step : (c : Call) (x : Placed) (y z : Context) → (is_rewrite_replay c ≡ true → is_reserved x.item.content ≡ false → Clear replay_rewrite x.item.content) → Keeping c y → step limited c x y ≡ ok z → Keeping c z
+pub keeping_step : (c : Call) (x : Placed) (y z : Context) → (is_rewrite_replay c ≡ true → is_reserved x.item.content ≡ false → Clear replay_rewrite x.item.content) → Keeping c y → step limited c x y ≡ Ok z → Keeping c z
 keeping_step c x y z k h e =
     record {
       own = λ r.
@@ -60,7 +60,7 @@ keeping_step c x y z k h e =
     }
 
 -- item i of a batch that passed the checks
-pub item-clear : (c : Call) (items es bs : List ℕ) (i : ℕ) → checks c (items_of items es bs) ≡ none → i < row_count_of items → is_rewrite_replay c ≡ true → is_reserved (item_at es bs (drop (i * 9) items)).content ≡ false → Clear replay_rewrite (item_at es bs (drop (i * 9) items)).content
+pub item-clear : (c : Call) (items es bs : List ℕ) (i : ℕ) → checks c (items_of items es bs) ≡ None → i < row_count_of items → is_rewrite_replay c ≡ true → is_reserved (item_at es bs (drop (i * 9) items)).content ≡ false → Clear replay_rewrite (item_at es bs (drop (i * 9) items)).content
 item-clear c items es bs i p h r =
     let o = passed-opens c items es bs p i h in
     let e = item-opened es bs _ o.item o.opens in

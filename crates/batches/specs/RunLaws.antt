@@ -4,11 +4,10 @@ use Rattle.std.proofs.Common.{sym, ◌∙◌}
 use Rattle.std.proofs.Math.Path.{ap}
 use Prim.Native.Nat.{ℕ}
 use Rattle.maps.specs.Maps.{Map}
-use Rattle.rules.specs.Causes.{ok, and_then, placed}
+use Rattle.rules.specs.Causes.{Cause, LimitPassed, Err, Ok, and_then, placed}
 use Rattle.rules.specs.Items.{LogItem, Call}
 use Rattle.rules.specs.Table.{Table}
 use Rattle.rules.specs.Context.{Part, Context, with_groups, with_waiting}
-use Rattle.stretch.specs.declared.Outcome.TheVariants.{Done, Refused}
 use Rattle.groups.specs.Area.{numbers_in_use, bytes_in_use, groups_of}
 use Rattle.groups.specs.Undo.{Undoable}
 use Rattle.groups.specs.Laws.{front-groups, front_wf, front-undone, front-undoable}
@@ -49,7 +48,7 @@ behind-context xs bs ys ds b =
 module _ (c : Call) (it : LogItem) (last : Bool) (rows key value : List ℕ) (d : deed.Deed) (xs bs : List ℕ) (w : Formed xs bs) (u : Undoable xs bs)
     (says : DeedSays d c it.content rows key value) where
   -- no room in the lists
-  pub stepped_no-room : lists_have_room c it (context_of xs bs) ≡ false → Stepped c it last xs bs (Refused 18) xs bs
+  pub stepped_no-room : lists_have_room c it (context_of xs bs) ≡ false → Stepped c it last xs bs (Err LimitPassed) xs bs
   stepped_no-room n =
       let same : BackKept xs bs xs bs = record { undo = record { undone = refl; undoable = u }; lists-keep = keeps_all _ _; room = room_all xs bs } in
       record {
@@ -61,7 +60,7 @@ module _ (c : Call) (it : LogItem) (last : Bool) (rows key value : List ℕ) (d 
 
   module _ (y : lists_have_room c it (context_of xs bs) ≡ true) (ys ds : List ℕ) where
     -- the group refuses
-    pub stepped-refused : (n : ℕ) → Acted (deed_on d it.group rows key value) last xs bs (Refused n) ys ds → Stepped c it last xs bs (Refused n) ys ds
+    pub stepped-refused : (n : Cause) → Acted (deed_on d it.group rows key value) last xs bs (Err n) ys ds → Stepped c it last xs bs (Err n) ys ds
     unfolding placed and_then context_of with_groups
     stepped-refused n a =
         let room = room-stays xs bs ys ds a.behind in
@@ -74,7 +73,7 @@ module _ (c : Call) (it : LogItem) (last : Bool) (rows key value : List ℕ) (d 
         }
 
     -- the groups are changed, and the lists grow
-    module _ (a : Acted (deed_on d it.group rows key value) last xs bs Done ys ds) (zs es : List ℕ)
+    module _ (a : Acted (deed_on d it.group rows key value) last xs bs (Ok tt) ys ds) (zs es : List ℕ)
         (g : AreaGrown (adds_tombstone c it) (adds_cleaned c it) it ys ds zs es) where
       changed-groups : groups_of zs es ≡ groups_of ys ds
       changed-groups = front-groups zs es ys ds g.front g.front_bytes
@@ -107,12 +106,12 @@ module _ (c : Call) (it : LogItem) (last : Bool) (rows key value : List ℕ) (d 
             room = room-then xs bs ys ds zs es b.room (lists-room ys ds zs es g.lists-grown.behind);
           }
 
-      pub stepped-done : Stepped c it last xs bs Done zs es
+      pub stepped-done : Stepped c it last xs bs (Ok tt) zs es
       unfolding placed and_then context_of with_groups
       stepped-done =
           record {
             rule = λ p.
-                ap ok changed-context
+                ap Ok changed-context
                 ∙ rw (step_room c it p (context_of xs bs) (context-fits xs bs w) rows key value d says y, ← a.rule);
             left = λ n e. absurd (done-not-refused n e);
             kept = λ f. after-act (record { undo = a.kept f; lists-keep = lists_stay xs bs ys ds a.behind; room = room-stays xs bs ys ds a.behind });

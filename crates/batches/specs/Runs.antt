@@ -1,8 +1,8 @@
 -- A batch on an area, item by item: what one item does, and the context that a refused batch goes back to.
 use Rattle.std.specs.Prelude.{Bool, true, false, List, ◌≡◌, ℕ, ◌≤◌, drop, get_or, length}
-use Rattle.std.proofs.Math.Option.{Option}
+use Rattle.std.specs.Prelude.{Option}
 use Rattle.maps.specs.Cells.{map_of}
-use Rattle.rules.specs.Causes.{Result, ok, refused}
+use Rattle.rules.specs.Causes.{Cause, ByCause, Result, Ok, Err}
 use Rattle.rules.specs.Items.{Rewrite, LogItem, Call, is_reserved}
 use Rattle.rules.specs.Checks.{is_rewrite_replay}
 use Rattle.rules.specs.Context.{context, Context, with_groups, with_waiting, limited, step}
@@ -11,8 +11,6 @@ use Rattle.log_batch.specs.declared.item.LogItem as lent
 use Rattle.log_batch.specs.Lent.{item_of}
 use Rattle.log_batch.specs.OpenLaws.{Bare}
 use Rattle.stores.specs.Written.{Lent}
-use Rattle.stretch.specs.declared.Outcome.{Outcome}
-use Rattle.stretch.specs.declared.Outcome.TheVariants.{Done, Refused}
 use Rattle.groups.specs.Area.{numbers_in_use, bytes_in_use}
 use Rattle.groups.specs.Undo.{undone_cells, Undoable}
 use Rattle.lists.specs.Rest.{rest_of, cut_to}
@@ -34,9 +32,9 @@ pub record Keeping (c : Call) (x : Context) : Type 0 where
   pub own : is_rewrite_replay c ≡ true → KeptAt (context Rewrite) x
 
 -- the result of an item at its place
-abbrev pub outcome_at : Option ℕ → Outcome → Context → Result Context
-outcome_at p Done c = ok c
-outcome_at p (Refused n) c = refused (record { number = n; place = p })
+abbrev pub outcome_at : Option ℕ → ByCause (Unit {0}) → Context → Result Context
+outcome_at p (Ok _) c = Ok c
+outcome_at p (Err n) c = Err (record { cause = n; place = p })
 
 -- the context that an area goes back to, with t tombstones and n cleaned numbers
 unfoldable pub back_to : ℕ → ℕ → List ℕ → List ℕ → Context
@@ -50,10 +48,10 @@ pub record BackKept (xs bs xs' bs' : List ℕ) : Type 0 where
   pub lists-keep : Keeps (drop numbers_in_use xs) (drop bytes_in_use bs) (drop numbers_in_use xs') (drop bytes_in_use bs')
   pub room : RoomKept xs bs xs' bs'
 
--- one item: the rules' step. Refused, the context is as it was; and unless it was the last item, the batch can go back.
-pub record Stepped (c : Call) (it : LogItem) (last : Bool) (xs bs : List ℕ) (r : Outcome) (xs' bs' : List ℕ) : Type 0 where
+-- one item: the rules' step. Err, the context is as it was; and unless it was the last item, the batch can go back.
+pub record Stepped (c : Call) (it : LogItem) (last : Bool) (xs bs : List ℕ) (r : ByCause (Unit {0})) (xs' bs' : List ℕ) : Type 0 where
   pub rule : (p : Option ℕ) → outcome_at p r (context_of xs' bs') ≡ step limited c (record { item = it; place = p }) (context_of xs bs)
-  pub left : (n : ℕ) → r ≡ Refused n → BackKept xs bs xs' bs'
+  pub left : (n : Cause) → r ≡ Err n → BackKept xs bs xs' bs'
   pub kept : last ≡ false → BackKept xs bs xs' bs'
   pub formed : Formed xs' bs'
 

@@ -1,6 +1,6 @@
 -- The only item of a batch, and a batch of one list of entries or one Put. Assumes nothing.
 use Rattle.std.specs.Prelude.{Bool, true, false, cond, not, ◌&&◌, List, [], ◌∷◌, ◌≡◌, leb, ltb, length}
-use Rattle.std.proofs.Math.Option.{Option, none, some}
+use Rattle.std.specs.Prelude.{Option, None, Some}
 use Rattle.std.proofs.Math.Path.{refl, sym, ap}
 use Rattle.std.proofs.Common.{◌∙◌, arith}
 use Prim.Native.Nat.{ℕ, ◌+◌, ◌*◌, ◌/◌, ◌≤◌, ◌<◌}
@@ -14,27 +14,23 @@ use Rattle.maps.specs.Maps.{Map, lookup, numbers, equal_bytes}
 use Rattle.maps.specs.Cells.{map_of}
 use Rattle.pipe_log.specs.Numbers.{queue_number}
 use Rattle.rules.specs.Limits.{reserved_key}
-use Rattle.rules.specs.Causes.{ok, and_then, placed, left}
+use Rattle.rules.specs.Causes.{Cause, ByCause, Err, Ok, and_then, placed, left}
 use Rattle.rules.specs.Items.{LogQueue, Append, Rewrite, same_queue, LogItem, placed_from, is_reserved, is_tombstone, is_clean, writes, is_live_rewrite, mark_byte}
 use Rattle.rules.specs.Checks.{Mark, first_mark, long, long_change, lacks_value, lacks_file, other_file, is_incomplete, is_out_of_range, is_other_queue, is_not_rewritable, is_rewrite_replay, meets7}
 use Rattle.rules.specs.Table.{Table, made}
 use Rattle.rules.specs.Context.{Context, with_groups, keeps, limited, run}
 use Rattle.log_batch.specs.declared.causes.Call as call
-use Rattle.log_batch.specs.declared.item.KeyFile as file
 use Rattle.log_batch.specs.declared.item.LogItem as lent
-use Rattle.log_batch.specs.declared.open.Opened.{TheVariants.Item}
-use Rattle.log_batch.specs.Lent.{row_count_of, RowsWithin, item_if, value_fits, value_at, file_at, opened_entries, opened_put, opened_row, value_of, key_file_of, change_of, key_change, key_content, content_of, item_of, item_at, items_from, items_of}
+use Rattle.log_batch.specs.Lent.{row_count_of, RowsWithin, item_if, value_fits, value_at, file_at, opened_entries, opened_put, opened_row, value_of, change_of, key_change, key_content, content_of, item_of, item_at, items_from, items_of}
 use Rattle.log_batch.specs.OpenLaws.{item-opened, length-entries}
 use Rattle.log_batch.specs.Judged.{call_of, mark_for, least_content, least_mark, least_of, lesser_of}
 use Rattle.log_batch.specs.Plain.{plain_list, plain_content}
-use Rattle.log_batch.proofs.ItemLaws.{key-other}
+use Rattle.log_batch.proofs.ItemLaws.{key_other}
 use Rattle.log_batch.proofs.PlainLaws.{plain-least}
-use Rattle.log_batch.proofs.LeastLaws.{least-rest}
+use Rattle.log_batch.proofs.LeastLaws.{least_by}
 use Rattle.log_batch.proofs.CheckLaws.{scan-start, scan-more, passed_at-end}
 use Rattle.stretch.specs.declared.Change as change
 use Rattle.stretch.specs.declared.Change.{Change}
-use Rattle.stretch.specs.declared.Outcome.{Outcome}
-use Rattle.stretch.specs.declared.Outcome.TheVariants.{Done, Refused}
 use Rattle.stretch.specs.Changes.{rule_of, Ready}
 use Rattle.groups.specs.declared.Slot.{Slot}
 use Rattle.groups.specs.declared.Slot.TheVariants.{At}
@@ -45,9 +41,7 @@ use Rattle.groups.specs.Laws.{slot-behind}
 use Rattle.deeds.specs.declared.Deed as deed
 use Rattle.deeds.specs.Deeds.{rows_in, key_in, value_in, entries_change, deed_of}
 use Rattle.deeds.specs.DeedLaws.{DeedSays, deed-says}
-use Rattle.contexts.specs.declared.Answer.TheVariants as answer
-use Rattle.contexts.specs.declared.Position.TheVariants as position
-use Rattle.contexts.specs.Contexts.{context_of, Formed, answer_as, position_of, Answered}
+use Rattle.contexts.specs.Contexts.{context_of, Formed, answer_as, Answered}
 use Rattle.contexts.specs.AreaLaws.{room_wf, context-fits}
 use Rattle.batches.specs.Steps.{adds_tombstone, adds_cleaned, one_more_if, grown, room_if, lists_have_room}
 use Rattle.batches.specs.Acts.{deed_on, BehindKept}
@@ -69,17 +63,17 @@ module _ (g : ℕ) (slot : Slot) (xs bs : List ℕ) (w : groups.Wf xs bs) (f : F
       record { numbers = b.numbers; bytes = b.bytes }
 
   module _ (d : deed.Deed) (rows key value : List ℕ) where
-    pub alone-changed : (ch : Change) → d ≡ deed.TheVariants.Change ch → (r : Outcome) (ys fs : List ℕ) → ChangedGroup (rule_of ch rows key value) g slot xs bs r ys fs → ActedAlone (deed_on d g rows key value) xs bs r ys fs
+    pub alone-changed : (ch : Change) → d ≡ deed.TheVariants.Change ch → (r : ByCause (Unit {0})) (ys fs : List ℕ) → ChangedGroup (rule_of ch rows key value) g slot xs bs r ys fs → ActedAlone (deed_on d g rows key value) xs bs r ys fs
     unfolding deed_on groups_of
     alone-changed ch e r ys fs a =
         record { rule = rw e a.rule; left = λ n k. ap map_of (a.left n k); behind = behind-slot ys fs a.only; wf = a.wf }
 
-    pub alone-removed : d ≡ deed.TheVariants.Clean → (ys : List ℕ) → RemovedGroup g slot xs bs ys → ActedAlone (deed_on d g rows key value) xs bs Done ys bs
+    pub alone-removed : d ≡ deed.TheVariants.Clean → (ys : List ℕ) → RemovedGroup g slot xs bs ys → ActedAlone (deed_on d g rows key value) xs bs (Ok tt) ys bs
     unfolding deed_on
     alone-removed e ys r =
-        record { rule = rw e (ap ok r.rule); left = λ n k. absurd (done-not-refused n k); behind = behind-slot ys bs r.only; wf = r.wf }
+        record { rule = rw e (ap Ok r.rule); left = λ n k. absurd (done-not-refused n k); behind = behind-slot ys bs r.only; wf = r.wf }
 
-pub alone-skipped : (d : deed.Deed) (g : ℕ) (rows key value xs bs : List ℕ) → d ≡ deed.TheVariants.Skip → groups.Wf xs bs → ActedAlone (deed_on d g rows key value) xs bs Done xs bs
+pub alone-skipped : (d : deed.Deed) (g : ℕ) (rows key value xs bs : List ℕ) → d ≡ deed.TheVariants.Skip → groups.Wf xs bs → ActedAlone (deed_on d g rows key value) xs bs (Ok tt) xs bs
 unfolding deed_on
 alone-skipped d g rows key value xs bs e w =
     record { rule = rw e; left = λ n k. refl; behind = record { numbers = refl; bytes = refl }; wf = w }
@@ -118,33 +112,33 @@ module _ (c : call.Call) (it : lent.LogItem) (es ds : List ℕ) (ready : ItemRea
   unfolding grown one_more_if
   not-grown x = rw (n.no-tombstone, n.no-cleaned)
 
-  module _ (r : Outcome) (ys fs : List ℕ) (a : ActedAlone (deed_on does group rows key value) xs bs r ys fs) where
+  module _ (r : ByCause (Unit {0})) (ys fs : List ℕ) (a : ActedAlone (deed_on does group rows key value) xs bs r ys fs) where
     formed : Formed ys fs
     formed = record { groups = a.wf; rest = rest_wf xs bs ys fs a.behind w.rest; waiting = room_wf xs bs ys fs (room-stays xs bs ys fs a.behind) w.waiting }
 
-  alone-done : (ys fs : List ℕ) → ActedAlone (deed_on does group rows key value) xs bs Done ys fs → Alone (call_of c) item xs bs Done ys fs
+  alone-done : (ys fs : List ℕ) → ActedAlone (deed_on does group rows key value) xs bs (Ok tt) ys fs → Alone (call_of c) item xs bs (Ok tt) ys fs
   unfolding placed and_then context_of with_groups item_of
   alone-done ys fs a =
       record {
         rule = λ p.
-            ap ok (behind-context xs bs ys fs a.behind ∙ sym (not-grown _))
+            ap Ok (behind-context xs bs ys fs a.behind ∙ sym (not-grown _))
             ∙ rw (step_room (call_of c) item p (context_of xs bs) (context-fits xs bs w) rows key value does says room, ← a.rule);
         left = λ k e. absurd (done-not-refused k e);
-        formed = formed Done ys fs a;
+        formed = formed (Ok tt) ys fs a;
       }
 
-  alone-refused : (k : ℕ) (ys fs : List ℕ) → ActedAlone (deed_on does group rows key value) xs bs (Refused k) ys fs → Alone (call_of c) item xs bs (Refused k) ys fs
+  alone-refused : (k : Cause) (ys fs : List ℕ) → ActedAlone (deed_on does group rows key value) xs bs (Err k) ys fs → Alone (call_of c) item xs bs (Err k) ys fs
   unfolding placed and_then context_of with_groups item_of
   alone-refused k ys fs a =
       record {
         rule = λ p. rw (step_room (call_of c) item p (context_of xs bs) (context-fits xs bs w) rows key value does says room, ← a.rule);
         left = λ m e. behind-context xs bs ys fs a.behind ∙ ap (λ (g : Map ℕ Table). with_groups g (context_of xs bs)) (a.left k refl);
-        formed = formed (Refused k) ys fs a;
+        formed = formed (Err k) ys fs a;
       }
 
-  pub alone : (r : Outcome) (ys fs : List ℕ) → ActedAlone (deed_on does group rows key value) xs bs r ys fs → Alone (call_of c) item xs bs r ys fs
-  alone Done ys fs a = alone-done ys fs a
-  alone (Refused k) ys fs a = alone-refused k ys fs a
+  pub alone : (r : ByCause (Unit {0})) (ys fs : List ℕ) → ActedAlone (deed_on does group rows key value) xs bs r ys fs → Alone (call_of c) item xs bs r ys fs
+  alone (Ok _) ys fs a = alone-done ys fs a
+  alone (Err k) ys fs a = alone-refused k ys fs a
 
 -- ---- a batch of one item
 
@@ -163,45 +157,45 @@ module _ (c : call.Call) (it : lent.LogItem) (items es ds xs bs ys fs : List ℕ
   is-item : item_at es ds items ≡ item_of it es ds
   is-item = item-opened es ds items it s.opens
 
-  single-done : Alone (call_of c) (item_of it es ds) xs bs Done ys fs → Answered (run limited (call_of c) (placed_from 0 (items_of items es ds))) xs bs answer.Accepted ys fs
+  single-done : Alone (call_of c) (item_of it es ds) xs bs (Ok tt) ys fs → Answered (run limited (call_of c) (placed_from 0 (items_of items es ds))) xs bs (Ok tt) ys fs
   unfolding answer_as left
   single-done a =
-      let r : run limited (call_of c) (placed_from 0 (items_of items es ds)) (context_of xs bs) ≡ ok (context_of ys fs) = runs (context_of xs bs) ∙ run-done (call_of c) items es ds 1 0 (context_of xs bs) (context_of ys fs) (omega arith) (rw is-item (sym (a.rule (some 0)))) ∙ run_end (call_of c) items es ds 1 1 (context_of ys fs) (omega arith) in
+      let r : run limited (call_of c) (placed_from 0 (items_of items es ds)) (context_of xs bs) ≡ Ok (context_of ys fs) = runs (context_of xs bs) ∙ run-done (call_of c) items es ds 1 0 (context_of xs bs) (context_of ys fs) (omega arith) (rw is-item (sym (a.rule (Some 0)))) ∙ run_end (call_of c) items es ds 1 1 (context_of ys fs) (omega arith) in
       record { answers = sym r; leaves = sym (ap (left (context_of xs bs)) r); formed = a.formed }
 
-  single-refused : (k : ℕ) → Alone (call_of c) (item_of it es ds) xs bs (Refused k) ys fs → Answered (run limited (call_of c) (placed_from 0 (items_of items es ds))) xs bs (answer.Refused k (position.At 0)) ys fs
-  unfolding answer_as position_of left
+  single-refused : (k : Cause) → Alone (call_of c) (item_of it es ds) xs bs (Err k) ys fs → Answered (run limited (call_of c) (placed_from 0 (items_of items es ds))) xs bs (Err (record { cause = k; place = (Some 0) })) ys fs
+  unfolding answer_as left
   single-refused k a =
-      let r = runs (context_of xs bs) ∙ run-refused (call_of c) items es ds 1 0 (context_of xs bs) (record { number = k; place = some 0 }) (omega arith) (rw is-item (sym (a.rule (some 0)))) in
+      let r = runs (context_of xs bs) ∙ run-refused (call_of c) items es ds 1 0 (context_of xs bs) (record { cause = k; place = Some 0 }) (omega arith) (rw is-item (sym (a.rule (Some 0)))) in
       record { answers = sym r; leaves = a.left k refl ∙ sym (ap (left (context_of xs bs)) r); formed = a.formed }
 
-  pub single-answer : (r : Outcome) → Alone (call_of c) (item_of it es ds) xs bs r ys fs → Answered (run limited (call_of c) (placed_from 0 (items_of items es ds))) xs bs (answer_of r) ys fs
+  pub single-answer : (r : ByCause (Unit {0})) → Alone (call_of c) (item_of it es ds) xs bs r ys fs → Answered (run limited (call_of c) (placed_from 0 (items_of items es ds))) xs bs (answer_of r) ys fs
   unfolding answer_of
-  single-answer Done a = single-done a
-  single-answer (Refused k) a = single-refused k a
+  single-answer (Ok _) a = single-done a
+  single-answer (Err k) a = single-refused k a
 
 -- ---- an item that meets none of the checks
 
-never : (b : Bool) → ◌≡◌ {A = Option Mark} (cond b none none) none
+never : (b : Bool) → ◌≡◌ {A = Option Mark} (cond b None None) None
 never true = refl
 never false = refl
 
-module _ (c : call.Call) (it : lent.LogItem) (items es ds : List ℕ) (n : length items ≡ 9) (opens : opened_row items (length es / 8) (length ds) ≡ Item it)
-    (plain : is_reserved (item_of it es ds).content ≡ false) (short : long (item_of it es ds).content ≡ false) (least : least_content (call_of c) (item_of it es ds).content ≡ 7)
-    (bare : mark_byte (item_of it es ds).content ≡ none) where
+module _ (c : call.Call) (it : lent.LogItem) (items es ds : List ℕ) (n : length items ≡ 9) (opens : opened_row items (length es / 8) (length ds) ≡ Ok it)
+    (plain : is_reserved (item_of it es ds).content ≡ false) (short : long (item_of it es ds).content ≡ false) (least : least_content (call_of c) (item_of it es ds).content ≡ None)
+    (bare : mark_byte (item_of it es ds).content ≡ None) where
   one-item : items_of items es ds ≡ item_of it es ds ∷ []
   unfolding items_of items_from
   one-item = rw (one-row items n, item-opened es ds items it opens)
 
-  no-mark : mark_for (call_of c) (items_of items es ds) ≡ none
+  no-mark : mark_for (call_of c) (items_of items es ds) ≡ None
   unfolding mark_for first_mark or_else
   no-mark = rw (one-item, bare) (never (is_rewrite_replay (call_of c)))
 
-  meets-none : 8 ≡ least_of (call_of c) none 0 (item_at es ds items)
+  meets-none : None ≡ least_of (call_of c) None 0 (item_at es ds items)
   unfolding least_mark meets7 or_else
   meets-none =
       rw (item-opened es ds items it opens)
-      (rw and-false at (least-rest (call_of c) none 0 (item_of it es ds) (λ e. omega arith) short plain 7 (sym least) (omega arith)))
+      (sym (least_by (call_of c) None 0 (item_of it es ds) ∙ rw (short, plain, least, and-false (is_rewrite_replay (call_of c)))))
 
   single_of : AddsNothing (call_of c) (item_of it es ds) → Single c it items es ds
   unfolding lesser_of
@@ -211,11 +205,8 @@ module _ (c : call.Call) (it : lent.LogItem) (items es ds : List ℕ) (n : lengt
         opens = opens;
         passes =
             sym
-            (passed_at-end (call_of c) none items es ds 1 (record { number = 8; place = 0 }) 1
-            (scan-more (call_of c) none items es ds 1 (record { number = 8; place = 0 }) 0 (omega arith) (scan-start (call_of c) none items es ds 1 (record { number = 8; place = 0 }) (sym (one-row items n)) refl) 8 (record { number = 8; place = 0 }) meets-none refl)
-            (sym no-mark)
-            (omega arith)
-            refl);
+            (passed_at-end (call_of c) None items es ds 1 1 (sym no-mark) (omega arith)
+            (scan-more (call_of c) None items es ds 1 0 (omega arith) None None None (scan-start (call_of c) None items es ds 1 (sym (one-row items n))) meets-none refl));
         unmarked = no-mark;
         adds = a;
       }
@@ -229,7 +220,7 @@ list-adds c items es ds =
 
 module _ (c : call.Call) (items es ds : List ℕ) (n : length items ≡ 9) (t : get_or items 1 0 ≡ 0) (few : get_or items 3 0 ≤ 32) (fits : get_or items 2 0 + get_or items 3 0 ≤ length es / 8)
     (plain : plain_content (writes (call_of c)) (list_item items).content es ≡ true) where
-  list-opens : opened_row items (length es / 8) (length ds) ≡ Item (list_item items)
+  list-opens : opened_row items (length es / 8) (length ds) ≡ Ok (list_item items)
   unfolding opened_row opened_entries item_if
   list-opens = rw (n, eq-eqb (get_or items 1 0) 0 t, le-leb (get_or items 2 0 + get_or items 3 0) (length es / 8) fits)
 
@@ -292,7 +283,7 @@ module _ (c : call.Call) (items es ds : List ℕ) (s : SingleList c items es ds)
     list-ready k =
         change-ready _ ch list_rows [] [] _ list_deed (does-ready c (list_item items) es ds list-is _ (keeping-table (call_of c) xs bs k _))
 
-    pub list-answer : (k : ℕ) (r : Outcome) (ys : List ℕ) → Found (get_or items 0 0) xs (At k) → ChangedGroup (rule_of ch list_rows [] []) (get_or items 0 0) (At k) xs bs r ys bs → Answered (run limited (call_of c) (placed_from 0 (items_of items es ds))) xs bs (answer_of r) ys bs
+    pub list-answer : (k : ℕ) (r : ByCause (Unit {0})) (ys : List ℕ) → Found (get_or items 0 0) xs (At k) → ChangedGroup (rule_of ch list_rows [] []) (get_or items 0 0) (At k) xs bs r ys bs → Answered (run limited (call_of c) (placed_from 0 (items_of items es ds))) xs bs (answer_of r) ys bs
     list-answer k r ys f a =
         single-answer c (list_item items) items es ds xs bs ys bs s.single r
         (alone c (list_item items) es ds list-is s.single.adds xs bs w r ys bs
@@ -300,7 +291,7 @@ module _ (c : call.Call) (items es ds : List ℕ) (s : SingleList c items es ds)
 
 -- ---- a Put, told by its row
 
-file_by : (row : List ℕ) (q : LogQueue) → get_or row 7 0 ≡ queue_number q → file_at row ≡ file.TheVariants.Of (record { queue = q; seq = get_or row 8 0 })
+file_by : (row : List ℕ) (q : LogQueue) → get_or row 7 0 ≡ queue_number q → file_at row ≡ Some (record { queue = q; seq = get_or row 8 0 })
 unfolding file_at
 file_by row Append e = rw e
 file_by row Rewrite e = rw e
@@ -330,9 +321,9 @@ module _ (c : call.Call) (row es ds : List ℕ) (n : length row ≡ 9) (t : get_
   value-length = length_part (get_or row 5 0) (get_or row 6 0) ds (bytes-within (get_or row 5 0) (get_or row 6 0) (length ds) w)
 
   not-reserved : equal_bytes held reserved_key ≡ false
-  not-reserved = key-other held (λ e. other (sym key-length ∙ e))
+  not-reserved = key_other held (λ e. other (sym key-length ∙ e))
 
-  put-opens : opened_row row (length es / 8) (length ds) ≡ Item (put_item c row)
+  put-opens : opened_row row (length es / 8) (length ds) ≡ Ok (put_item c row)
   unfolding opened_row opened_put item_if value_fits value_at
   put-opens =
       rw (
@@ -354,8 +345,8 @@ module _ (c : call.Call) (row es ds : List ℕ) (n : length row ≡ 9) (t : get_
         le-ltb 32 (get_or row 6 0) (few_bytes (get_or row 5 0) (get_or row 6 0) (length ds) w),
       )
 
-  put-least : least_content (call_of c) (item_of (put_item c row) es ds).content ≡ 7
-  unfolding item_of content_of key_content key_change change_of value_of key_file_of least_content is_incomplete is_out_of_range is_other_queue is_not_rewritable is_tombstone lacks_value lacks_file other_file or_else
+  put-least : least_content (call_of c) (item_of (put_item c row) es ds).content ≡ None
+  unfolding item_of content_of key_content key_change change_of value_of least_content is_incomplete is_out_of_range is_other_queue is_not_rewritable is_tombstone lacks_value lacks_file other_file or_else
   put-least = rw (own-queue (writes (call_of c)), and-false (not (is_live_rewrite (call_of c))), and-false (is_live_rewrite (call_of c)))
 
   put-adds : AddsNothing (call_of c) (item_of (put_item c row) es ds)

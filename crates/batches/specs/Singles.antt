@@ -1,8 +1,8 @@
 -- A batch of one list of entries or one Put, and what the only item of a batch does to an area.
-use Rattle.std.specs.Prelude.{Bool, true, false, List, ◌≡◌, ℕ, ◌/◌, ◌<◌, get_or, length}
-use Rattle.std.proofs.Math.Option.{Option, none}
+use Rattle.std.specs.Prelude.{Some, Bool, true, false, List, ◌≡◌, ℕ, ◌/◌, ◌<◌, get_or, length}
+use Rattle.std.specs.Prelude.{Option, None}
 use Rattle.maps.specs.Maps.{Map}
-use Rattle.rules.specs.Causes.{Result}
+use Rattle.rules.specs.Causes.{Cause, ByCause, Ok, Err, Result}
 use Rattle.rules.specs.Items.{LogItem, Call, writes}
 use Rattle.rules.specs.Checks.{checks}
 use Rattle.rules.specs.Table.{Table}
@@ -11,19 +11,11 @@ use Rattle.log_batch.specs.declared.causes.Call as call
 use Rattle.log_batch.specs.declared.item.LogItem as lent
 use Rattle.log_batch.specs.declared.item.LogItemContent.{TheVariants.EntryIndexes, TheVariants.Kv}
 use Rattle.log_batch.specs.declared.item.OpType as op
-use Rattle.log_batch.specs.declared.item.Value as value
-use Rattle.log_batch.specs.declared.item.KeyFile as file
-use Rattle.log_batch.specs.declared.open.Opened.{TheVariants.Item}
 use Rattle.log_batch.specs.Lent.{opened_row, item_of, items_of}
 use Rattle.log_batch.specs.Judged.{call_of, mark_for}
-use Rattle.stretch.specs.declared.Outcome.{Outcome}
-use Rattle.stretch.specs.declared.Outcome.TheVariants.{Done, Refused}
 use Rattle.stretch.specs.Changes.{outcome_as}
 use Rattle.groups.specs.Area.{groups_of}
 use Rattle.groups.specs.Area as groups
-use Rattle.contexts.specs.declared.Answer.{Answer}
-use Rattle.contexts.specs.declared.Answer.TheVariants as answer
-use Rattle.contexts.specs.declared.Position.TheVariants as position
 use Rattle.contexts.specs.Contexts.{context_of, Formed}
 use Rattle.batches.specs.Steps.{adds_tombstone, adds_cleaned}
 use Rattle.batches.specs.Acts.{BehindKept}
@@ -44,8 +36,8 @@ put_item c row =
             op_type = op.TheVariants.Put;
             key_at = get_or row 2 0;
             key_len = get_or row 3 0;
-            value = value.TheVariants.At (get_or row 5 0) (get_or row 6 0);
-            file_id = file.TheVariants.Of (record { queue = writes (call_of c); seq = get_or row 8 0 });
+            value = Some (record { at = (get_or row 5 0); len = (get_or row 6 0) });
+            file_id = Some (record { queue = writes (call_of c); seq = get_or row 8 0 });
           });
     }
 
@@ -57,9 +49,9 @@ pub record AddsNothing (c : Call) (it : LogItem) : Type 0 where
 -- a batch that is one item, meets none of the checks and adds nothing to the lists
 pub record Single (c : call.Call) (it : lent.LogItem) (items es bs : List ℕ) : Type 0 where
   pub nine : length items ≡ 9
-  pub opens : opened_row items (length es / 8) (length bs) ≡ Item it
-  pub passes : checks (call_of c) (items_of items es bs) ≡ none
-  pub unmarked : mark_for (call_of c) (items_of items es bs) ≡ none
+  pub opens : opened_row items (length es / 8) (length bs) ≡ Ok it
+  pub passes : checks (call_of c) (items_of items es bs) ≡ None
+  pub unmarked : mark_for (call_of c) (items_of items es bs) ≡ None
   pub adds : AddsNothing (call_of c) (item_of it es bs)
 
 -- such a batch that is a list of at least one entry
@@ -72,20 +64,20 @@ unfoldable pub append_call : Bool → call.Call
 append_call true = call.TheVariants.LiveAppend
 append_call false = call.TheVariants.ReplayAppend
 
--- the groups are changed by a rule, with nothing to go back to. Refused, they are as they were.
-pub record ActedAlone (to : Map ℕ Table → Result (Map ℕ Table)) (xs bs : List ℕ) (r : Outcome) (xs' bs' : List ℕ) : Type 0 where
+-- the groups are changed by a rule, with nothing to go back to. Err, they are as they were.
+pub record ActedAlone (to : Map ℕ Table → Result (Map ℕ Table)) (xs bs : List ℕ) (r : ByCause (Unit {0})) (xs' bs' : List ℕ) : Type 0 where
   pub rule : outcome_as r (groups_of xs' bs') ≡ to (groups_of xs bs)
-  pub left : (n : ℕ) → r ≡ Refused n → groups_of xs' bs' ≡ groups_of xs bs
+  pub left : (n : Cause) → r ≡ Err n → groups_of xs' bs' ≡ groups_of xs bs
   pub behind : BehindKept xs bs xs' bs'
   pub wf : groups.Wf xs' bs'
 
--- one item: the rules' step. Refused, the context is as it was.
-pub record Alone (c : Call) (it : LogItem) (xs bs : List ℕ) (r : Outcome) (xs' bs' : List ℕ) : Type 0 where
+-- one item: the rules' step. Err, the context is as it was.
+pub record Alone (c : Call) (it : LogItem) (xs bs : List ℕ) (r : ByCause (Unit {0})) (xs' bs' : List ℕ) : Type 0 where
   pub rule : (p : Option ℕ) → outcome_at p r (context_of xs' bs') ≡ step limited c (record { item = it; place = p }) (context_of xs bs)
-  pub left : (n : ℕ) → r ≡ Refused n → context_of xs' bs' ≡ context_of xs bs
+  pub left : (n : Cause) → r ≡ Err n → context_of xs' bs' ≡ context_of xs bs
   pub formed : Formed xs' bs'
 
 -- the answer to a batch of one item
-unfoldable pub answer_of : Outcome → Answer
-answer_of Done = answer.Accepted
-answer_of (Refused n) = answer.Refused n (position.At 0)
+unfoldable pub answer_of : ByCause (Unit {0}) → Result (Unit {0})
+answer_of (Ok _) = (Ok tt)
+answer_of (Err n) = Err (record { cause = n; place = (Some 0) })

@@ -2,7 +2,7 @@
 -- Assumes nothing.
 use Rattle.std.specs.Prelude.{Bool, not, ◌&&◌, ◌||◌, List, [], ◌∷◌, ◌++◌, ◌≡◌, ℕ, ◌+◌, ltb, length}
 use Rattle.std.proofs.Math.Bool.{true, false, cond}
-use Rattle.std.proofs.Math.Option.{Option, some}
+use Rattle.std.specs.Prelude.{Option, Some}
 use Rattle.std.proofs.Math.Path.{refl, ap}
 use Rattle.std.proofs.Common.{sym, ◌∙◌, arith, length-append, leb-true, le-leb, ltb-true, ltb-false}
 use Rattle.std.proofs.Math.Dec.{leb}
@@ -13,7 +13,7 @@ use Rattle.maps.specs.Lists.{every}
 use Rattle.maps.specs.Maps.{Pair, Map, lookup, insert, remove, store, numbers}
 use Rattle.maps.specs.MapLaws.{lookup-insert_same, every-lookup, every-insert, every-remove, length-remove-le}
 use Rattle.rules.specs.Limits.{max_groups, max_tombstones, max_cleaned}
-use Rattle.rules.specs.Causes.{Refusal, Result, ok, refused, refuse, refuse_at, and_then, placed, limit_passed}
+use Rattle.rules.specs.Causes.{Refusal, Result, Ok, Err, refuse, refuse_at, and_then, placed, LimitPassed}
 use Rattle.rules.specs.Items.{Append, same_queue, Content, entries, command, kv, clean, LogItem, Placed, is_reserved, is_clean, is_tombstone, writes, is_live_rewrite, Call}
 use Rattle.rules.specs.Table.{Table, made, change, command_to}
 use Rattle.rules.specs.Context.{Context, with_groups, with_cleaned, with_tombstones, table_fits, waiting_fits, fits, limited, keeps, add_cleaned, add_tombstone, act, step}
@@ -172,12 +172,12 @@ fits-removed g m h =
 
 -- ---- the steps
 
-pub limited_by : (p : Option ℕ) (c : Context) (b : Bool) → fits c ≡ b → limited p c ≡ cond b (ok c) (refuse_at limit_passed p)
+pub limited_by : (p : Option ℕ) (c : Context) (b : Bool) → fits c ≡ b → limited p c ≡ cond b (Ok c) (refuse_at LimitPassed p)
 unfolding limited
 limited_by p c b e = rw e
 
 -- a state judged by the limits: the lists decide where the groups fit
-judged : (call : Call) (it : LogItem) (p : Option ℕ) (m : Map ℕ Table) (c : Context) → fits c ≡ true → groups_fit m ≡ true → limited p (grown call it (with_groups m c)) ≡ cond (lists_have_room call it c) (ok (grown call it (with_groups m c))) (refuse_at limit_passed p)
+judged : (call : Call) (it : LogItem) (p : Option ℕ) (m : Map ℕ Table) (c : Context) → fits c ≡ true → groups_fit m ≡ true → limited p (grown call it (with_groups m c)) ≡ cond (lists_have_room call it c) (Ok (grown call it (with_groups m c))) (refuse_at LimitPassed p)
 judged call it p m c h g =
     limited_by p (grown call it (with_groups m c)) (lists_have_room call it c) (fits-grown call it m c h ∙ ap (λ (b : Bool). b && lists_have_room call it c) g)
 
@@ -191,7 +191,7 @@ module _ (call : Call) (it : LogItem) (p : Option ℕ) (c : Context) (h : fits c
   abbrev x : Placed
   x = record { item = it; place = p }
 
-  step_of : (d : Context) → act call it c ≡ ok d → step limited call x c ≡ limited p (add_tombstone call it d)
+  step_of : (d : Context) → act call it c ≡ Ok d → step limited call x c ≡ limited p (add_tombstone call it d)
   unfolding step placed and_then
   step_of d e = rw e
 
@@ -200,7 +200,7 @@ module _ (call : Call) (it : LogItem) (p : Option ℕ) (c : Context) (h : fits c
   uncleaned d k = rw k
 
   -- a reserved item is skipped; as a Del it is kept as a tombstone all the same
-  pub step_skip : is_reserved it.content ≡ true → step limited call x c ≡ cond (lists_have_room call it c) (ok (grown call it c)) (refuse_at limit_passed p)
+  pub step_skip : is_reserved it.content ≡ true → step limited call x c ≡ cond (lists_have_room call it c) (Ok (grown call it c)) (refuse_at LimitPassed p)
   unfolding act adds_cleaned with_groups
   step_skip r =
       let k : adds_cleaned call it ≡ false = rw (reserved-not-clean it.content r) (and-false (same_queue (writes call) Append)) in
@@ -208,12 +208,12 @@ module _ (call : Call) (it : LogItem) (p : Option ℕ) (c : Context) (h : fits c
       ∙ ap (limited p) (ap (add_tombstone call it) (sym (uncleaned c k)) ∙ grows call it c)
       ∙ judged call it p c.groups c h (groups-fit c h)
 
-  cleans : it.content ≡ command clean → is_live_rewrite call ≡ false → act call it c ≡ ok (add_cleaned call it (with_groups (remove numbers it.group c.groups) c))
+  cleans : it.content ≡ command clean → is_live_rewrite call ≡ false → act call it c ≡ Ok (add_cleaned call it (with_groups (remove numbers it.group c.groups) c))
   unfolding act and_then is_reserved change command_to store
   cleans e l = rw (e, l)
 
   -- Clean removes the group
-  pub step-clean : it.content ≡ command clean → is_live_rewrite call ≡ false → step limited call x c ≡ cond (lists_have_room call it c) (ok (grown call it (with_groups (remove numbers it.group c.groups) c))) (refuse_at limit_passed p)
+  pub step-clean : it.content ≡ command clean → is_live_rewrite call ≡ false → step limited call x c ≡ cond (lists_have_room call it c) (Ok (grown call it (with_groups (remove numbers it.group c.groups) c))) (refuse_at LimitPassed p)
   step-clean e l =
       step_of (add_cleaned call it (with_groups (remove numbers it.group c.groups) c)) (cleans e l)
       ∙ ap (limited p) (grows call it (with_groups (remove numbers it.group c.groups) c))
@@ -221,42 +221,42 @@ module _ (call : Call) (it : LogItem) (p : Option ℕ) (c : Context) (h : fits c
 
   -- any other item changes its group's table by a rule
   module _ (by : Table → Result Table) (n : is_reserved it.content ≡ false)
-      (e : change call it.content (lookup numbers it.group c.groups) ≡ and_then (by (made (lookup numbers it.group c.groups))) (λ t. ok (some t))) where
+      (e : change call it.content (lookup numbers it.group c.groups) ≡ and_then (by (made (lookup numbers it.group c.groups))) (λ t. Ok (Some t))) where
     -- the groups and the context with the changed table
     abbrev with : Table → Map ℕ Table
     with t = insert numbers it.group t c.groups
 
-    inserts : (t : Table) → by (made (lookup numbers it.group c.groups)) ≡ ok t → act call it c ≡ ok (add_cleaned call it (with_groups (with t) c))
+    inserts : (t : Table) → by (made (lookup numbers it.group c.groups)) ≡ Ok t → act call it c ≡ Ok (add_cleaned call it (with_groups (with t) c))
     unfolding act and_then store
     inserts t q = rw (n, e, q)
 
-    taken : (t : Table) → by (made (lookup numbers it.group c.groups)) ≡ ok t → step limited call x c ≡ cond (groups_fit (with t) && lists_have_room call it c) (ok (grown call it (with_groups (with t) c))) (refuse_at limit_passed p)
+    taken : (t : Table) → by (made (lookup numbers it.group c.groups)) ≡ Ok t → step limited call x c ≡ cond (groups_fit (with t) && lists_have_room call it c) (Ok (grown call it (with_groups (with t) c))) (refuse_at LimitPassed p)
     taken t q =
         step_of (add_cleaned call it (with_groups (with t) c)) (inserts t q)
         ∙ ap (limited p) (grows call it (with_groups (with t) c))
         ∙ limited_by p (grown call it (with_groups (with t) c)) (groups_fit (with t) && lists_have_room call it c) (fits-grown call it (with t) c h)
 
     -- a table of the rule, and whether it fits
-    accepted : lists_have_room call it c ≡ true → (t : Table) → by (made (lookup numbers it.group c.groups)) ≡ ok t → step limited call x c ≡ placed p (and_then (on_group by it.group c.groups) (λ m. ok (grown call it (with_groups m c))))
+    accepted : lists_have_room call it c ≡ true → (t : Table) → by (made (lookup numbers it.group c.groups)) ≡ Ok t → step limited call x c ≡ placed p (and_then (on_group by it.group c.groups) (λ m. Ok (grown call it (with_groups m c))))
     unfolding on_group and_then placed
     accepted y t q =
         taken t q
         ∙ rw (q, y, fits-inserted it.group t c.groups (groups-fit c h)) (by-fit (table_fits t && leb (length (with t)) max_groups))
       where
-        by-fit : (b : Bool) → cond (b && true) (ok (grown call it (with_groups (with t) c))) (refuse_at limit_passed p) ≡ placed p (and_then (cond b (ok (with t)) (refuse limit_passed)) (λ m. ok (grown call it (with_groups m c))))
+        by-fit : (b : Bool) → cond (b && true) (Ok (grown call it (with_groups (with t) c))) (refuse_at LimitPassed p) ≡ placed p (and_then (cond b (Ok (with t)) (refuse LimitPassed)) (λ m. Ok (grown call it (with_groups m c))))
         by-fit true = refl
         by-fit false = refl
 
-    refuses : (f : Refusal) → by (made (lookup numbers it.group c.groups)) ≡ refused f → step limited call x c ≡ placed p (and_then (on_group by it.group c.groups) (λ m. ok (grown call it (with_groups m c))))
+    refuses : (f : Refusal) → by (made (lookup numbers it.group c.groups)) ≡ Err f → step limited call x c ≡ placed p (and_then (on_group by it.group c.groups) (λ m. Ok (grown call it (with_groups m c))))
     unfolding step act on_group and_then placed
     refuses f q = rw (n, e, q)
 
-    pub step-change : lists_have_room call it c ≡ true → step limited call x c ≡ placed p (and_then (on_group by it.group c.groups) (λ m. ok (grown call it (with_groups m c))))
+    pub step-change : lists_have_room call it c ≡ true → step limited call x c ≡ placed p (and_then (on_group by it.group c.groups) (λ m. Ok (grown call it (with_groups m c))))
     step-change y = by_result (by (made (lookup numbers it.group c.groups))) refl
       where
-        by_result : (r : Result Table) → by (made (lookup numbers it.group c.groups)) ≡ r → step limited call x c ≡ placed p (and_then (on_group by it.group c.groups) (λ m. ok (grown call it (with_groups m c))))
-        by_result (ok t) q = accepted y t q
-        by_result (refused f) q = refuses f q
+        by_result : (r : Result Table) → by (made (lookup numbers it.group c.groups)) ≡ r → step limited call x c ≡ placed p (and_then (on_group by it.group c.groups) (λ m. Ok (grown call it (with_groups m c))))
+        by_result (Ok t) q = accepted y t q
+        by_result (Err f) q = refuses f q
 
-    pub step-full : lists_have_room call it c ≡ false → (t : Table) → by (made (lookup numbers it.group c.groups)) ≡ ok t → step limited call x c ≡ refuse_at limit_passed p
+    pub step-full : lists_have_room call it c ≡ false → (t : Table) → by (made (lookup numbers it.group c.groups)) ≡ Ok t → step limited call x c ≡ refuse_at LimitPassed p
     step-full y t q = taken t q ∙ rw (y, and-false (groups_fit (with t)))

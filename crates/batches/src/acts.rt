@@ -1,7 +1,7 @@
 // What an item does to its group, over the stretches of an area. `last`: no item follows whose refusal would undo it, so nothing
 // is copied to go back to.
 ghost use Rattle.maps.specs.Maps.{lookup, numbers, remove};
-ghost use Rattle.rules.specs.Causes.{ok};
+ghost use Rattle.rules.specs.Causes.{Ok};
 ghost use Rattle.rules.specs.Table.{made};
 ghost use Rattle.stretch.specs.Changes.{rule_of, Ready};
 ghost use Rattle.groups.specs.Area.{groups_of, Found};
@@ -13,7 +13,8 @@ ghost use Rattle.deeds.specs.Deeds.{DeedReady};
 
 use deeds::Deed;
 use groups::Slot;
-use stretch::{Change, Outcome};
+use pipe_log::Cause;
+use stretch::Change;
 
 // Makes sure that what a change overwrites at a slot can be gone back to, unless no item follows.
 fn secure_unless(last: bool, xs: &mut [u64], bs: &mut [u8], slot: Slot, group: u64, change: Change)
@@ -42,40 +43,15 @@ fn secure_removal_unless(last: bool, xs: &mut [u64], bs: &[u8], slot: Slot, grou
 }
 
 // Removes a group.
-fn clean(xs: &mut [u64], bs: &mut [u8], group: u64, last: bool) -> Outcome
+fn clean(xs: &mut [u64], bs: &mut [u8], group: u64, last: bool) -> Result<(), Cause>
     requires wf { groups·area.Wf xs.old bs.old }
     requires undoable { Undoable xs.old bs.old }
-    ensures { Acted (λ m. ok (remove numbers group m)) last xs.old bs.old result xs.new bs.new }
+    ensures { Acted (λ m. Ok (remove numbers group m)) last xs.old bs.old result xs.new bs.new }
 {
     let slot = groups::find(xs, group);
     secure_removal_unless(last, xs, bs, slot, group);
     groups::remove(xs, slot, group);
-    Outcome::Done
-}
-
-// Carries out a change on a group at the slot where it was found, and makes its answer anew: an answer that is handed on as it is
-// would be copied by parts that overlap.
-pub fn change_found(
-    xs: &mut [u64],
-    bs: &mut [u8],
-    slot: Slot,
-    group: u64,
-    change: Change,
-    rows: &[u64],
-    key: &[u8],
-    value: &[u8],
-) -> Outcome
-    requires wf { groups·area.Wf xs.old bs.old }
-    requires found { Found group xs.old slot }
-    requires ready { Ready change rows.now key.now value.now (made (lookup numbers group (groups_of xs.old bs.old))) }
-    ensures changed_group { ChangedGroup (rule_of change rows.now key.now value.now) group slot xs.old bs.old result xs.new bs.new }
-    ensures leaves_slot { LeavesSlot change slot xs.old bs.old result xs.new bs.new }
-{
-    let answer = groups::apply(xs, bs, slot, group, change, rows, key, value);
-    match answer {
-        Outcome::Done => Outcome::Done,
-        Outcome::Refused(number) => Outcome::Refused(number),
-    }
+    Ok(())
 }
 
 // Changes a group, which is made if it is absent.
@@ -88,7 +64,7 @@ fn change_group(
     key: &[u8],
     value: &[u8],
     last: bool,
-) -> Outcome
+) -> Result<(), Cause>
     requires wf { groups·area.Wf xs.old bs.old }
     requires undoable { Undoable xs.old bs.old }
     requires ready { Ready change rows.now key.now value.now (made (lookup numbers group (groups_of xs.old bs.old))) }
@@ -96,7 +72,7 @@ fn change_group(
 {
     let slot = groups::find(xs, group);
     secure_unless(last, xs, bs, slot, group, change);
-    change_found(xs, bs, slot, group, change, rows, key, value)
+    groups::apply(xs, bs, slot, group, change, rows, key, value)
 }
 
 // Carries out a deed on a group.
@@ -109,14 +85,14 @@ pub fn act(
     key: &[u8],
     value: &[u8],
     last: bool,
-) -> Outcome
+) -> Result<(), Cause>
     requires wf { groups·area.Wf xs.old bs.old }
     requires undoable { Undoable xs.old bs.old }
     requires deed_ready { DeedReady deed rows.now key.now value.now (made (lookup numbers group (groups_of xs.old bs.old))) }
     ensures { Acted (deed_on deed group rows.now key.now value.now) last xs.old bs.old result xs.new bs.new }
 {
     match deed {
-        Deed::Skip => Outcome::Done,
+        Deed::Skip => Ok(()),
         Deed::Clean => clean(xs, bs, group, last),
         Deed::Change(change) => change_group(xs, bs, group, change, rows, key, value, last),
     }

@@ -1,5 +1,5 @@
 // A batch on an area: its items in order, and back to where it began if one is refused.
-ghost use Rattle.std.proofs.Math.Option.{none};
+ghost use Rattle.std.specs.Prelude.{None};
 ghost use Rattle.std.specs.Prelude.{◌≡◌, ◌<◌, ◌*◌, drop};
 ghost use Rattle.rules.specs.Items.{placed_from};
 ghost use Rattle.rules.specs.Checks.{checks};
@@ -13,11 +13,10 @@ ghost use Rattle.contexts.specs.Contexts.{context_of, Formed, Answered};
 ghost use Rattle.batches.specs.Runs.{Keeping, Stepped, WentBack};
 
 use crate::items::carry_out;
-use contexts::{Answer, Position};
 use lists::Counts;
 use log_batch::Call;
-use log_batch::open::{Opened, open_item, row_count};
-use stretch::Outcome;
+use log_batch::open::{open_item, row_count};
+use pipe_log::{Cause, Refusal};
 
 // Carries out item i of a batch that passed the checks.
 pub fn turn(
@@ -29,17 +28,17 @@ pub fn turn(
     bytes: &[u8],
     i: usize,
     last: bool,
-) -> Outcome
+) -> Result<(), Cause>
     requires formed { Formed xs.old bs.old }
     requires undoable { Undoable xs.old bs.old }
     requires i_bound { i < row_count_of items.now }
-    requires bytes_value { checks (call_of call) (items_of items.now entries.now bytes.now) ≡ none }
+    requires bytes_value { checks (call_of call) (items_of items.now entries.now bytes.now) ≡ None }
     requires keeping { Keeping (call_of call) (context_of xs.old bs.old) }
     ensures { Stepped (call_of call) (item_at entries.now bytes.now (drop (i * 9) items.now)) last xs.old bs.old result xs.new bs.new }
 {
     let opened = open_item(items, entries, bytes, i);
-    let Opened::Item(item) = opened else {
-        return Outcome::Done;
+    let Ok(item) = opened else {
+        return Ok(());
     };
     carry_out(xs, bs, call, item, entries, bytes, last)
 }
@@ -64,9 +63,9 @@ pub fn run_items(
     items: &[u64],
     entries: &[u64],
     bytes: &[u8],
-) -> Answer
+) -> Result<(), Refusal>
     requires formed { Formed xs.old bs.old }
-    requires bytes_value { checks (call_of call) (items_of items.now entries.now bytes.now) ≡ none }
+    requires bytes_value { checks (call_of call) (items_of items.now entries.now bytes.now) ≡ None }
     requires keeping { Keeping (call_of call) (context_of xs.old bs.old) }
     ensures { Answered (run limited (call_of call) (placed_from 0 (items_of items.now entries.now bytes.now))) xs.old bs.old result xs.new bs.new }
 {
@@ -77,14 +76,14 @@ pub fn run_items(
     let mut i = 0;
     while i < n {
         let answer = turn(xs, bs, call, items, entries, bytes, i, i + 1 == n);
-        if let Outcome::Refused(number) = answer {
+        if let Err(cause) = answer {
             go_back(xs, bs, counts);
-            return Answer::Refused {
-                number,
-                place: Position::At(i),
-            };
+            return Err(Refusal {
+                cause,
+                place: Some(i),
+            });
         }
         i += 1;
     }
-    Answer::Accepted
+    Ok(())
 }

@@ -14,8 +14,7 @@ use crate::growth::{adds_cleaned, adds_tombstone, grow, have_room};
 use deeds::{deed_of, key_in, rows_in, value_in};
 use log_batch::Call;
 use log_batch::item::LogItem;
-use pipe_log::causes::LIMIT_PASSED;
-use stretch::Outcome;
+use pipe_log::Cause;
 
 // Carries out what an item does to its group.
 fn act_item(
@@ -26,7 +25,7 @@ fn act_item(
     entries: &[u64],
     bytes: &[u8],
     last: bool,
-) -> Outcome
+) -> Result<(), Cause>
     requires wf { groups·area.Wf xs.old bs.old }
     requires undoable { Undoable xs.old bs.old }
     requires item_ready { ItemReady (call_of call) item entries.now bytes.now }
@@ -51,7 +50,7 @@ pub fn carry_out(
     entries: &[u64],
     bytes: &[u8],
     last: bool,
-) -> Outcome
+) -> Result<(), Cause>
     requires formed { Formed xs.old bs.old }
     requires undoable { Undoable xs.old bs.old }
     requires item_ready { ItemReady (call_of call) item entries.now bytes.now }
@@ -62,14 +61,9 @@ pub fn carry_out(
     let cleaned = adds_cleaned(call, item);
     let a = groups::NUMBERS;
     if !have_room(&xs[a..], tombstone, cleaned) {
-        return Outcome::Refused(LIMIT_PASSED);
+        return Err(Cause::LimitPassed);
     }
-    let answer = act_item(xs, bs, call, item, entries, bytes, last);
-    match answer {
-        Outcome::Done => {
-            grow(xs, bs, tombstone, cleaned, item, entries, bytes);
-            Outcome::Done
-        }
-        Outcome::Refused(number) => Outcome::Refused(number),
-    }
+    act_item(xs, bs, call, item, entries, bytes, last)?;
+    grow(xs, bs, tombstone, cleaned, item, entries, bytes);
+    Ok(())
 }

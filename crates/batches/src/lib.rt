@@ -7,7 +7,6 @@ mod growth;
 mod items;
 mod singles;
 
-pub use acts::change_found;
 pub use batches::{go_back, run_items, turn};
 pub use items::carry_out;
 pub use singles::{

@@ -15,18 +15,15 @@ ghost use Rattle.batches.specs.Acts.{deed_on};
 ghost use Rattle.batches.specs.Runs.{Keeping};
 ghost use Rattle.batches.specs.Singles.{list_item, put_item, Single, SingleList, append_call, ActedAlone, answer_of};
 
-use crate::acts::change_found;
-use contexts::{Answer, Position};
 use deeds::{Deed, deed_of, key_in, rows_in, value_in};
 use groups::Slot;
 use log_batch::Call;
 use log_batch::causes::{MAX_BYTES, MAX_LIST_ENTRIES};
-use log_batch::item::{EntryIndexes, KeyFile, KeyValue, LogItemContent, OpType, Value};
+use log_batch::item::{Bytes, EntryIndexes, KeyValue, LogItemContent, OpType};
 use log_batch::mark::RESERVED_LEN;
 use log_batch::open::{HAS_VALUE, ITEM_WIDTH, LIST, PUT};
 use log_batch::plain::is_plain_of;
-use pipe_log::{ENTRY_WIDTH, FileId, Gate, LogQueue};
-use stretch::Outcome;
+use pipe_log::{Cause, ENTRY_WIDTH, FileId, LogQueue, Refusal};
 
 // Whether a batch is one list of entries of a queue that meets none of the checks.
 pub fn is_single_list(items: &[u64], entries: &[u64], queue: LogQueue) -> bool
@@ -77,7 +74,7 @@ fn is_plain_put(call: Call, row: &[u64], bytes: &[u8]) -> bool
     if row[4] != HAS_VALUE {
         return false;
     }
-    if row[7] != call.writes().to_u64() {
+    if row[7] != u64::from(call.writes()) {
         return false;
     }
     if key_len == RESERVED_LEN {
@@ -118,12 +115,12 @@ fn put_content(call: Call, row: &[u64]) -> LogItemContent
     requires { length row.now ≡ 9 }
     ensures { result ≡ (put_item call row.now).content }
 {
-    let value = Value::At {
+    let value = Some(Bytes {
         at: row[5] as usize,
         len: row[6] as usize,
-    };
+    });
     let queue = call.writes();
-    let file_id = KeyFile::Of(FileId { queue, seq: row[8] });
+    let file_id = Some(FileId { queue, seq: row[8] });
     LogItemContent::Kv(KeyValue {
         op_type: OpType::Put,
         key_at: row[2] as usize,
@@ -142,36 +139,34 @@ fn act_alone(
     rows: &[u64],
     key: &[u8],
     value: &[u8],
-) -> Outcome
+) -> Result<(), Cause>
     requires wf { groups·area.Wf xs.old bs.old }
     requires deed_ready { DeedReady deed rows.now key.now value.now (made (lookup numbers group (groups_of xs.old bs.old))) }
     ensures { ActedAlone (deed_on deed group rows.now key.now value.now) xs.old bs.old result xs.new bs.new }
 {
     match deed {
-        Deed::Skip => Outcome::Done,
+        Deed::Skip => Ok(()),
         Deed::Clean => {
             let slot = groups::find(xs, group);
             groups::remove(xs, slot, group);
-            Outcome::Done
+            Ok(())
         }
         Deed::Change(change) => {
             let slot = groups::find(xs, group);
-            change_found(xs, bs, slot, group, change, rows, key, value)
+            groups::apply(xs, bs, slot, group, change, rows, key, value)
         }
     }
 }
 
 // The answer to a batch of one item.
-fn told(answer: Outcome) -> Answer
+#[tactic(auto, unfolding(crate::specs::Singles::answer_of))]
+fn told(answer: Result<(), Cause>) -> Result<(), Refusal>
     ensures { result ≡ answer_of answer }
 {
-    match answer {
-        Outcome::Done => Answer::Accepted,
-        Outcome::Refused(number) => Answer::Refused {
-            number,
-            place: Position::At(0),
-        },
-    }
+    answer.map_err(|cause| Refusal {
+        cause,
+        place: Some(0),
+    })
 }
 
 // Carries out a batch of one such list. It and `run_put` know what kind of item they have where its deed is told.
@@ -182,7 +177,7 @@ pub fn run_list(
     items: &[u64],
     entries: &[u64],
     bytes: &[u8],
-) -> Answer
+) -> Result<(), Refusal>
     requires formed { Formed xs.old bs.old }
     requires single { Single call (list_item items.now) items.now entries.now bytes.now }
     requires keeping { Keeping (call_of call) (context_of xs.old bs.old) }
@@ -216,7 +211,7 @@ pub fn append_list(
     items: &[u64],
     entries: &[u64],
     bytes: &[u8],
-) -> Answer
+) -> Result<(), Refusal>
     requires formed { Formed xs.old bs.old }
     requires single_list { SingleList (append_call live) items.now entries.now bytes.now }
     requires keeping { Keeping (call_of (append_call live)) (context_of xs.old bs.old) }
@@ -235,12 +230,12 @@ pub fn append_list(
 pub fn rewrite_list(
     xs: &mut [u64],
     bs: &mut [u8],
-    gate: Gate,
+    gate: Option<u64>,
     seq: u64,
     items: &[u64],
     entries: &[u64],
     bytes: &[u8],
-) -> Answer
+) -> Result<(), Refusal>
     requires formed { Formed xs.old bs.old }
     requires single_list { SingleList (Call.LiveRewrite gate seq) items.now entries.now bytes.now }
     requires keeping { Keeping (call_of (Call.LiveRewrite gate seq)) (context_of xs.old bs.old) }
@@ -270,7 +265,7 @@ pub fn run_put(
     items: &[u64],
     entries: &[u64],
     bytes: &[u8],
-) -> Answer
+) -> Result<(), Refusal>
     requires formed { Formed xs.old bs.old }
     requires single { Single call (put_item call items.now) items.now entries.now bytes.now }
     requires keeping { Keeping (call_of call) (context_of xs.old bs.old) }

@@ -1,10 +1,10 @@
 -- The order of two runs of bytes, and bytes as one number. Assumes nothing.
 use Rattle.std.specs.Prelude.{ℕ, zero, suc, ◌+◌, ◌*◌, ◌^◌, cond, List, [], ◌∷◌, ltb, get_or}
-use Rattle.cells.specs.declared.order.Order.{Order}
-use Rattle.cells.specs.declared.order.Order.TheVariants.{Less, Equal, Greater}
+use Rattle.std.specs.declared.cmp.Ordering.{Ordering}
+use Rattle.std.specs.declared.cmp.Ordering.TheVariants.{Less, Equal, Greater}
 
 -- by the first byte that differs, and a prefix first
-unfoldable pub byte_order : List ℕ → List ℕ → Order
+unfoldable pub byte_order : List ℕ → List ℕ → Ordering
 byte_order [] [] = Equal
 byte_order [] (y ∷ ys) = Less
 byte_order (x ∷ xs) [] = Greater

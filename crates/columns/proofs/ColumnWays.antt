@@ -14,9 +14,8 @@ use Rattle.cells.proofs.Steps.{Laid, laid_none, laid-snoc}
 use borrow.Author.Tests.{le-leb, lt-leb}
 use Rattle.pipe_log.specs.Numbers.{queue_number, compression_number}
 use Rattle.pipe_log.specs.Rows.{window}
-use Rattle.rules.specs.Causes.{ok, and_then}
+use Rattle.rules.specs.Causes.{ListTooShort, Err, Ok, and_then}
 use Rattle.rules.specs.Items.{EntryIndex, file_of}
-use Rattle.memtable.specs.declared.Fetched.{TheVariants.Done, TheVariants.ListTooShort}
 use Rattle.memtable.specs.declared.Head.{Head}
 use Rattle.memtable.specs.Views.{AnyRow, Wf}
 use Rattle.memtable.specs.RowLaws.{row-queue, row-seq, row-offset, row_len, row-compression, row_entry-offset, row_entry_len}
@@ -122,7 +121,7 @@ module _ (h : Head) (xs : List ℕ) (w : Wf h xs) (from m : ℕ) (b : from + m �
     right-asked = (rows-held, room_in s.len, room_in s.compression, room_in s.entry_offset, room_in s.entry_len)
 
 module _ (f n : ℕ) (ys : List ℕ) (out : Columns) where
-  pub rows_short : length out.index < n → Answered (ok (window f n ys)) out ListTooShort out
+  pub rows_short : length out.index < n → Answered (Ok (window f n ys)) out (Err ListTooShort) out
   unfolding judged columns_after and_then
   rows_short l =
       record {
@@ -163,11 +162,11 @@ module _ (f n : ℕ) (ys : List ℕ) (out : Columns) where
         → exits.compression ≡ put out.compression 0 (column 5 n ys)
         → exits.entry_offset ≡ put out.entry_offset 0 (column 6 n ys)
         → exits.entry_len ≡ put out.entry_len 0 (column 7 n ys)
-        → Answered (ok (window f n ys)) out (Done n) exits
+        → Answered (Ok (window f n ys)) out (Ok n) exits
     unfolding judged columns_after and_then
     rows-done exits e0 e1 e2 e3 e4 e5 e6 e7 =
         record {
-          number = rw (length-window f n ys, le-leb n (length out.index) l) (ap ok (sym (length-window f n ys)));
+          number = rw (length-window f n ys, le-leb n (length out.index) l) (ap Ok (sym (length-window f n ys)));
           slices =
               rw (length-window f n ys, le-leb n (length out.index) l)
               (◌∙◌ {A = Columns} (λ i. columns (e0 i) (e1 i) (e2 i) (e3 i) (e4 i) (e5 i) (e6 i) (e7 i)) laid);

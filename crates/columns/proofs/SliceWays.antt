@@ -1,7 +1,10 @@
 -- Each way through the functions that answer records in eight lent slices gives what its contract says. Assumes nothing.
+use Rattle.memtable.specs.declared.RowRange.{RowRange}
+use Rattle.std.specs.Prelude.{IsErrAnd}
+use Rattle.std.proofs.lemmas.Result.{err_from_is_err_and}
 use mathlib.Core.List.{List, ◌++◌, map}
 use mathlib.Core.Path.{◌≡◌, refl, sym, ◌∙◌}
-use Prim.Native.Nat.{ℕ, ◌+◌, ◌*◌, ◌≤◌, ◌<◌, min}
+use Prim.Native.Nat.{ℕ, ◌+◌, ◌*◌, ◌≤◌, ◌<◌}
 use native.Mathlib.Decide.{dec_le}
 use native.Mathlib.Omega.{arith}
 use borrow.Author.Tests.{le-leb, lt-leb}
@@ -11,35 +14,24 @@ use Rattle.cells.specs.Part.{put}
 use Rattle.cells.specs.PartLaws.{loan-front-in}
 use Rattle.pipe_log.specs.Numbers.{queue_number, compression_number}
 use Rattle.pipe_log.specs.Rows.{window}
-use Rattle.rules.specs.Causes.{Cause, Result, ok, refuse, and_then, group_absent}
+use Rattle.rules.specs.Causes.{ByCause, Cause, Result, Ok, refuse, and_then}
 use Rattle.rules.specs.Items.{EntryIndex, file_of}
 use Rattle.rules.specs.Table.{Table}
 use Rattle.rules.specs.Queries.{in_group, answered, lent_after}
-use Rattle.memtable.specs.declared.Fetched as memtable·fetched
 use Rattle.memtable.specs.declared.Head.{Head}
-use Rattle.memtable.specs.declared.Range.{Range}
 use Rattle.memtable.specs.Views.{AnyRow, Wf}
 use Rattle.memtable.specs.RowLaws.{held-row, any-drop}
 use Rattle.memtable.specs.WindowLaws.{length-window}
-use Rattle.memtable.specs.Columns.{Columns, columns, block_offset, block_len, laid_into, judged, columns_after, fetched_of, SameLength, Answered}
+use Rattle.memtable.specs.Columns.{Columns, columns, block_offset, block_len, laid_into, judged, columns_after, SameLength, Answered}
 use Rattle.memtable.specs.Fetches.{entries_at, range_of, RangeAnswer}
 use Rattle.stretch.specs.Stretch.{head_part, entry_rows}
 use Rattle.groups.specs.Area.{stretch_at}
 use Rattle.contexts.specs.Contexts.{context_of}
-use Rattle.queries.specs.declared.Fetched.{Fetched}
-use Rattle.queries.specs.declared.Fetched.TheVariants as answer
-use Rattle.queries.specs.Answers.{fetched_as}
 use Rattle.queries.specs.Places.{StandsAt}
 use Rattle.queries.proofs.Ways.{by_entries_lem}
 use Rattle.columns.specs.Fetches.{EntriesFetched}
-use Rattle.columns.specs.Slices.{least_of, Least, records_in}
-use Rattle.columns.specs.SliceLaws.{least-is, length-records, records-left}
-
--- ---- `least_of`
-
-pub least_by : (a b c d e f g h : ℕ) (ab cd ef gh front back r : ℕ) → ab ≡ min a b → cd ≡ min c d → front ≡ min ab cd → ef ≡ min e f → gh ≡ min g h → back ≡ min ef gh → r ≡ min front back → Least a b c d e f g h r
-unfolding least_of
-least_by a b c d e f g h ab cd ef gh front back r p q s t u v w = rw (w, s, v, p, q, t, u) (least-is a b c d e f g h)
+use Rattle.columns.specs.Slices.{Least, records_in}
+use Rattle.columns.specs.SliceLaws.{length-records, records-left}
 
 -- ---- `answer_rows`
 
@@ -123,7 +115,7 @@ module _ (out : Columns) (n : ℕ) (b : Least (length out.index) (length out.que
   judged-cut r = rw (length_cut, length-records out, ← b.is)
 
   module _ (f m : ℕ) (ys : List ℕ) where
-    slices-left : joined n (columns_after (cut n out) (answered (records_in out) (ok (window f m ys)))) out ≡ columns_after out (answered (records_in out) (ok (window f m ys)))
+    slices-left : joined n (columns_after (cut n out) (answered (records_in out) (Ok (window f m ys)))) out ≡ columns_after out (answered (records_in out) (Ok (window f m ys)))
     unfolding answered and_then columns_after
     slices-left =
         elim (dec_le m n) [
@@ -131,38 +123,29 @@ module _ (out : Columns) (n : ℕ) (b : Least (length out.index) (length out.que
           | no l ↦ rw (length-window f m ys, length-records out, ← b.is, lt-leb m n (omega arith)) joined_same
         ]
 
-    pub rows-answered : ((i : ℕ) → i < m → AnyRow ys i) → (lent : Columns) (a : memtable·fetched.Fetched) (r : Fetched) → Answered (ok (window f m ys)) (cut n out) a lent → fetched_as r ≡ fetched_of a → EntriesFetched (ok (window f m ys)) out r (joined n lent out)
-    rows-answered h lent a r d e =
-        let s : joined n lent out ≡ columns_after out (answered (records_in out) (ok (window f m ys))) = rw (d.slices, judged-cut (ok (window f m ys))) slices-left in
+    pub rows-answered : ((i : ℕ) → i < m → AnyRow ys i) → (lent : Columns) (r : ByCause ℕ) → Answered (Ok (window f m ys)) (cut n out) r lent → EntriesFetched (Ok (window f m ys)) out r (joined n lent out)
+    rows-answered h lent r d =
+        let s : joined n lent out ≡ columns_after out (answered (records_in out) (Ok (window f m ys))) = rw (d.slices, judged-cut (Ok (window f m ys))) slices-left in
         record {
-          number = e ∙ rw (judged-cut (ok (window f m ys))) at d.number;
+          number = rw (judged-cut (Ok (window f m ys))) at d.number;
           slices = s;
           records-are = rw s (records-left f m ys out h);
         }
 
   -- the same of entries of a head
-  pub held-answered : (h : Head) (xs : List ℕ) → Wf h xs → (from m : ℕ) → from + m ≤ h.len → (lent : Columns) (a : memtable·fetched.Fetched) (r : Fetched) → Answered (ok (entries_at from m h xs)) (cut n out) a lent → fetched_as r ≡ fetched_of a → EntriesFetched (ok (entries_at from m h xs)) out r (joined n lent out)
+  pub held-answered : (h : Head) (xs : List ℕ) → Wf h xs → (from m : ℕ) → from + m ≤ h.len → (lent : Columns) (r : ByCause ℕ) → Answered (Ok (entries_at from m h xs)) (cut n out) r lent → EntriesFetched (Ok (entries_at from m h xs)) out r (joined n lent out)
   unfolding entries_at
   held-answered h xs w from m l =
       rows-answered (h.first_index + from) m (drop (from * 8) xs) (λ i k. any-drop xs from i (held-row h xs w (from + i) (omega arith)))
-
--- ---- `answer_range`
-
-pub range_fetched : (h : Head) (xs : List ℕ) {range told : Range} {out : Columns} {r : Fetched} {exits : Columns} → range ≡ told → EntriesFetched (range_of told h xs) out r exits → EntriesFetched (range_of range h xs) out r exits
-range_fetched h xs e a = rw e a
-
--- a refused fetch leaves the slices
-pub refused_fetched : (cause : Cause) (out : Columns) (r : Fetched) → fetched_as r ≡ refuse cause → EntriesFetched (refuse cause) out r out
-unfolding answered and_then columns_after lent_after
-refused_fetched cause out r e = record { number = e; slices = refl; records-are = refl }
 
 -- ---- the fetches
 
 -- a range of the entries of a group that stands at stretch k, answered in lent slices, is the group's answer
 module _ {g : ℕ} {xs bs : List ℕ} {k : ℕ} (s : StandsAt g xs bs k) {h : Head} (e : h ≡ head_part (stretch_at k xs)) where
-  pub range-there : (query : Table → Result (List EntryIndex)) {rows : List ℕ} → rows ≡ entry_rows (stretch_at k xs) → (range : Range) → RangeAnswer h rows query range → {out : Columns} {r : Fetched} {exits : Columns} → EntriesFetched (range_of range h rows) out r exits → EntriesFetched (in_group g query (context_of xs bs)) out r exits
+  pub range-there : (query : Table → Result (List EntryIndex)) {rows : List ℕ} → rows ≡ entry_rows (stretch_at k xs) → (range : ByCause RowRange) → RangeAnswer h rows query range → {out : Columns} {r : (ByCause ℕ)} {exits : Columns} → EntriesFetched (range_of range h rows) out r exits → EntriesFetched (in_group g query (context_of xs bs)) out r exits
   range-there query {rows} d range a b = rw (← by_entries_lem s e query d (range_of range h rows) a.rule) b
 
--- a group that is absent: 9, and the slices are as they were
-pub fetched-absent : {a : Result (List EntryIndex)} {out : Columns} → refuse group_absent ≡ a → EntriesFetched a out answer.GroupAbsent out
-fetched-absent {out = out} e = rw (← e) (refused_fetched group_absent out answer.GroupAbsent refl)
+-- a refusal that a `?` passes on leaves the slices
+pub fetched-refused : {a : Result (List EntryIndex)} {out : Columns} {cause : Cause} → refuse cause ≡ a → (r : ByCause ℕ) → IsErrAnd r (λ y. y ≡ cause) → EntriesFetched a out r out
+unfolding answered and_then columns_after lent_after
+fetched-refused e r p = let q = err_from_is_err_and r p in rw (q.1, q.2, ← e) (record { number = refl; slices = refl; records-are = refl })

@@ -11,7 +11,7 @@ use Rattle.cells.specs.Part.{put}
 use Rattle.cells.specs.PartLaws.{put-nil, length-put}
 use Rattle.pipe_log.specs.Numbers.{queue_number, compression_number}
 use Rattle.pipe_log.specs.Rows.{compression_at, is_record, block_at, entry_of, with_index, window}
-use Rattle.rules.specs.Causes.{ok, and_then}
+use Rattle.rules.specs.Causes.{Ok, and_then}
 use Rattle.rules.specs.Items.{EntryIndex, file_of}
 use Rattle.rules.specs.Queries.{answered, lent_after}
 use Rattle.memtable.specs.Views.{row_at, AnyRow}
@@ -201,7 +201,7 @@ module _ (f n : ℕ) (ys : List ℕ) (out : Columns) (r : (i : ℕ) → i < n �
       rw (shortest-laid out (window f n ys) (omega arith)) (rw e at (records-laid f n (shortest out - n) ys out r))
 
   -- the slices after the call are the rules' list after the call
-  pub records-left : records_in (columns_after out (answered (records_in out) (ok (window f n ys)))) ≡ lent_after (records_in out) (answered (records_in out) (ok (window f n ys)))
+  pub records-left : records_in (columns_after out (answered (records_in out) (Ok (window f n ys)))) ≡ lent_after (records_in out) (answered (records_in out) (Ok (window f n ys)))
   unfolding answered and_then columns_after lent_after
   records-left =
       elim (dec_le n (shortest out)) [

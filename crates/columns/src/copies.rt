@@ -1,13 +1,13 @@
 // Rows copied into parallel slices, one for each field.
 ghost use Rattle.std.specs.Prelude.{◌≡◌, ◌+◌, ◌*◌, ◌≤◌, ◌<◌, ◌^◌, length, drop};
 ghost use Rattle.cells.specs.Part.{put};
-ghost use Rattle.rules.specs.Causes.{ok};
+ghost use Rattle.rules.specs.Causes.{Ok};
 ghost use Rattle.memtable.specs.Views.{Wf};
 ghost use Rattle.memtable.specs.Fetches.{entries_at};
 ghost use Rattle.memtable.specs.Columns.{columns, SameLength, Answered, column, up_from};
 
-use memtable::{Fetched, Head};
-use pipe_log::ENTRY_WIDTH;
+use memtable::Head;
+use pipe_log::{Cause, ENTRY_WIDTH};
 
 // How far the next three rows are from a row.
 const NEXT: usize = ENTRY_WIDTH;
@@ -126,17 +126,17 @@ pub fn copy_rows(
     compression: &mut [u64],
     entry_offset: &mut [u64],
     entry_len: &mut [u64],
-) -> Fetched
+) -> Result<usize, Cause>
     requires wf { Wf head part.now }
     requires count_bound { from + count ≤ head.len }
     requires same_length { SameLength (columns index.old queue.old seq.old offset.old len.old compression.old entry_offset.old entry_len.old) }
-    ensures { Answered (ok (entries_at from count head part.now)) (columns index.old queue.old seq.old offset.old len.old compression.old entry_offset.old entry_len.old) result (columns index.new queue.new seq.new offset.new len.new compression.new entry_offset.new entry_len.new) }
+    ensures { Answered (Ok (entries_at from count head part.now)) (columns index.old queue.old seq.old offset.old len.old compression.old entry_offset.old entry_len.old) result (columns index.new queue.new seq.new offset.new len.new compression.new entry_offset.new entry_len.new) }
 {
     if index.len() < count {
-        return Fetched::ListTooShort;
+        return Err(Cause::ListTooShort);
     }
     let first = head.first_index + from as u64;
     copy_left(part, from, first, count, index, queue, seq, offset);
     copy_right(part, from, count, len, compression, entry_offset, entry_len);
-    Fetched::Done(count)
+    Ok(count)
 }

@@ -1,15 +1,14 @@
 // Fetches of a group's records into lent slices, one for each field of a row. The lent list is as long as the shortest of them.
-ghost use Rattle.pipe_log.specs.Numbers.{bound_of};
-ghost use Rattle.rules.specs.Causes.{ok};
+ghost use Rattle.rules.specs.Causes.{Ok};
 ghost use Rattle.rules.specs.TableQueries.{fetch_entries_to, fetch_entry_indexes_before, fetch_rewritten_entry_indexes};
 ghost use Rattle.rules.specs.Queries.{in_group};
 ghost use Rattle.memtable.specs.Columns.{columns};
 ghost use Rattle.contexts.specs.Contexts.{context_of, Wf};
 ghost use Rattle.columns.specs.Fetches.{EntriesFetched};
 
-use crate::slices::answer_range;
-use pipe_log::Bound;
-use queries::{Fetched, Place, entry_rows, head_at, place_of};
+use crate::slices::answer_rows;
+use pipe_log::Cause;
+use queries::{entry_rows, head_at, place_of};
 
 // Fetches a group's entries with indexes in [begin, end), up to a size.
 pub fn fetch_entries_to(
@@ -18,7 +17,7 @@ pub fn fetch_entries_to(
     group: u64,
     begin: u64,
     end: u64,
-    max_size: Bound,
+    max_size: Option<u64>,
     index: &mut [u64],
     queue: &mut [u64],
     seq: &mut [u64],
@@ -27,17 +26,15 @@ pub fn fetch_entries_to(
     compression: &mut [u64],
     entry_offset: &mut [u64],
     entry_len: &mut [u64],
-) -> Fetched
+) -> Result<usize, Cause>
     requires { Wf xs.now bs.now }
-    ensures { EntriesFetched (in_group group (fetch_entries_to begin end (bound_of max_size)) (context_of xs.now bs.now)) (columns index.old queue.old seq.old offset.old len.old compression.old entry_offset.old entry_len.old) result (columns index.new queue.new seq.new offset.new len.new compression.new entry_offset.new entry_len.new) }
+    ensures { EntriesFetched (in_group group (fetch_entries_to begin end max_size) (context_of xs.now bs.now)) (columns index.old queue.old seq.old offset.old len.old compression.old entry_offset.old entry_len.old) result (columns index.new queue.new seq.new offset.new len.new compression.new entry_offset.new entry_len.new) }
 {
-    let Place::At(k) = place_of(xs, group) else {
-        return Fetched::GroupAbsent;
-    };
+    let k = place_of(xs, group)?;
     let head = head_at(xs, k);
     let rows = entry_rows(xs, k);
-    let range = head.range_to(rows, begin, end, max_size);
-    answer_range(
+    let range = head.range_to(rows, begin, end, max_size)?;
+    answer_rows(
         head,
         rows,
         range,
@@ -66,17 +63,15 @@ pub fn fetch_entry_indexes_before(
     compression: &mut [u64],
     entry_offset: &mut [u64],
     entry_len: &mut [u64],
-) -> Fetched
+) -> Result<usize, Cause>
     requires { Wf xs.now bs.now }
-    ensures { EntriesFetched (in_group group (λ t. ok (fetch_entry_indexes_before gate t)) (context_of xs.now bs.now)) (columns index.old queue.old seq.old offset.old len.old compression.old entry_offset.old entry_len.old) result (columns index.new queue.new seq.new offset.new len.new compression.new entry_offset.new entry_len.new) }
+    ensures { EntriesFetched (in_group group (λ t. Ok (fetch_entry_indexes_before gate t)) (context_of xs.now bs.now)) (columns index.old queue.old seq.old offset.old len.old compression.old entry_offset.old entry_len.old) result (columns index.new queue.new seq.new offset.new len.new compression.new entry_offset.new entry_len.new) }
 {
-    let Place::At(k) = place_of(xs, group) else {
-        return Fetched::GroupAbsent;
-    };
+    let k = place_of(xs, group)?;
     let head = head_at(xs, k);
     let rows = entry_rows(xs, k);
-    let range = head.range_before(rows, gate);
-    answer_range(
+    let range = head.range_before(rows, gate)?;
+    answer_rows(
         head,
         rows,
         range,
@@ -104,17 +99,15 @@ pub fn fetch_rewritten_entry_indexes(
     compression: &mut [u64],
     entry_offset: &mut [u64],
     entry_len: &mut [u64],
-) -> Fetched
+) -> Result<usize, Cause>
     requires { Wf xs.now bs.now }
-    ensures { EntriesFetched (in_group group (λ t. ok (fetch_rewritten_entry_indexes t)) (context_of xs.now bs.now)) (columns index.old queue.old seq.old offset.old len.old compression.old entry_offset.old entry_len.old) result (columns index.new queue.new seq.new offset.new len.new compression.new entry_offset.new entry_len.new) }
+    ensures { EntriesFetched (in_group group (λ t. Ok (fetch_rewritten_entry_indexes t)) (context_of xs.now bs.now)) (columns index.old queue.old seq.old offset.old len.old compression.old entry_offset.old entry_len.old) result (columns index.new queue.new seq.new offset.new len.new compression.new entry_offset.new entry_len.new) }
 {
-    let Place::At(k) = place_of(xs, group) else {
-        return Fetched::GroupAbsent;
-    };
+    let k = place_of(xs, group)?;
     let head = head_at(xs, k);
     let rows = entry_rows(xs, k);
-    let range = head.range_rewritten();
-    answer_range(
+    let range = head.range_rewritten()?;
+    answer_rows(
         head,
         rows,
         range,

@@ -7,7 +7,7 @@ use borrow.Rule.Slice.PartMut.{put_mid}
 use Rattle.cells.specs.PartLaws.{part-drop, part_of_back}
 use Rattle.maps.specs.BoolLaws.{both}
 use Rattle.maps.specs.Lists.{sum}
-use Rattle.rules.specs.Causes.{Result, ok}
+use Rattle.rules.specs.Causes.{Result, Ok}
 use Rattle.rules.specs.Context.{Context, with_groups, with_waiting, waiting_fits, fits}
 use Rattle.rules_by_group.specs.Kept.{Kept}
 use Rattle.rules_by_group.proofs.KeptLaws.{left-kept}
@@ -17,7 +17,6 @@ use Rattle.lists.specs.Calls.{Behind}
 use Rattle.lists.specs.Laws.{lengths}
 use Rattle.room.specs.Layout.{context_cells, waiting_of, ContextRoom, Empty}
 use Rattle.contexts.specs.Contexts.{rest_at, context_of, waiting_numbers, waiting_bytes, Formed, Wf, RoomKept, Answered, Called}
-use Rattle.contexts.specs.declared.Answer.{Answer}
 
 -- what is lent from a on comes back behind what lies before it
 pub before_back : (a : ℕ) (d s : List ℕ) → a ≤ length d → take a (put_mid a (length d - a) d s) ≡ take a d
@@ -38,7 +37,7 @@ pub wf_of : (xs bs : List ℕ) → Formed xs bs → Kept (context_of xs bs) → 
 wf_of xs bs f k = record { groups = f.groups; rest = f.rest; waiting = f.waiting; kept = k }
 
 -- a call keeps what every context keeps
-pub answered-called : (call : Context → Result Context) (xs bs : List ℕ) (r : Answer) (xs' bs' : List ℕ) → Wf xs bs → ((d : Context) → call (context_of xs bs) ≡ ok d → Kept d) → Answered call xs bs r xs' bs' → Called call xs bs r xs' bs'
+pub answered-called : (call : Context → Result Context) (xs bs : List ℕ) (r : Result (Unit {0})) (xs' bs' : List ℕ) → Wf xs bs → ((d : Context) → call (context_of xs bs) ≡ Ok d → Kept d) → Answered call xs bs r xs' bs' → Called call xs bs r xs' bs'
 answered-called call xs bs r xs' bs' w k a =
     record {
       answers = a.answers;

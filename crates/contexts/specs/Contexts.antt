@@ -1,7 +1,6 @@
 -- An area read as the rules' context or index, what holds of it between calls, and what the calls promise.
 use Rattle.std.specs.Prelude.{List, ◌≡◌, ℕ, ◌*◌, ◌<◌, drop, get_or, length}
-use Rattle.std.proofs.Math.Option.{Option, none, some}
-use Rattle.rules.specs.Causes.{Result, ok, refused, left}
+use Rattle.rules.specs.Causes.{Result, Ok, Err, left}
 use Rattle.rules.specs.Items.{LogQueue}
 use Rattle.rules.specs.Context.{Context, fresh, with_groups, with_waiting}
 use Rattle.rules_by_group.specs.Kept.{Kept}
@@ -11,9 +10,6 @@ use Rattle.groups.specs.Area as groups
 use Rattle.lists.specs.Rest.{rest_of}
 use Rattle.lists.specs.Rest as lists
 use Rattle.room.specs.Layout.{waiting_of, ContextRoom}
-use Rattle.contexts.specs.declared.Answer.{Answer}
-use Rattle.contexts.specs.declared.Answer.TheVariants as answer
-use Rattle.contexts.specs.declared.Position as position
 
 -- the numbers and the bytes of an area
 abbrev pub area_numbers : ℕ
@@ -58,23 +54,19 @@ pub record RoomKept (xs bs xs' bs' : List ℕ) : Type 0 where
 
 -- ---- answers
 
-unfoldable pub position_of : position.Position → Option ℕ
-position_of position.TheVariants.None = none
-position_of (position.TheVariants.At i) = some i
-
--- the rules' result for each answer: the state that the call ends with, or 01's number and position
-unfoldable pub answer_as : Answer → Context → Result Context
-answer_as answer.Accepted c = ok c
-answer_as (answer.Refused n p) c = refused (record { number = n; place = position_of p })
+-- the rules' result for each answer: the state that the call ends with, or the refusal
+unfoldable pub answer_as : Result (Unit {0}) → Context → Result Context
+answer_as (Ok _) c = Ok c
+answer_as (Err r) c = Err r
 
 -- the answer is the rules', the area stands for the state that the rules leave, and it is formed
-pub record Answered (call : Context → Result Context) (xs bs : List ℕ) (r : Answer) (xs' bs' : List ℕ) : Type 0 where
+pub record Answered (call : Context → Result Context) (xs bs : List ℕ) (r : Result (Unit {0})) (xs' bs' : List ℕ) : Type 0 where
   pub answers : answer_as r (context_of xs' bs') ≡ call (context_of xs bs)
   pub leaves : context_of xs' bs' ≡ left (context_of xs bs) (call (context_of xs bs))
   pub formed : Formed xs' bs'
 
 -- a call that writes: the answer is the rules', and the area stands for the state that the rules leave
-pub record Called (call : Context → Result Context) (xs bs : List ℕ) (r : Answer) (xs' bs' : List ℕ) : Type 0 where
+pub record Called (call : Context → Result Context) (xs bs : List ℕ) (r : Result (Unit {0})) (xs' bs' : List ℕ) : Type 0 where
   pub answers : answer_as r (context_of xs' bs') ≡ call (context_of xs bs)
   pub leaves : context_of xs' bs' ≡ left (context_of xs bs) (call (context_of xs bs))
   pub wf : Wf xs' bs'

@@ -22,20 +22,6 @@ pub const WAITING_BYTES_FROM: usize = groups::BYTES + lists::ROW_BYTES;
 
 pub const WAITING_BYTES_TO: usize = WAITING_BYTES_FROM + room::BYTES;
 
-// Where a refusal was met: at no item, or at the item with this position, counted from 0.
-#[derive(Clone, Copy)]
-pub enum Position {
-    None,
-    At(usize),
-}
-
-// What a call that writes answers: accepted, or refused with document 01's number and position.
-#[derive(Clone, Copy)]
-pub enum Answer {
-    Accepted,
-    Refused { number: u64, place: Position },
-}
-
 // Marks the eight stretches as free.
 fn clear_groups(xs: &mut [u64])
     requires { length xs.old ≡ 17231 }

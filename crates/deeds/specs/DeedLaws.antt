@@ -1,7 +1,9 @@
 -- What the checks 2 to 6 say of an item that passed them, and that a deed is what the rules say of its item. Assumes nothing.
+use Rattle.pipe_log.specs.declared.FileId.{FileId}
+use Rattle.log_batch.specs.declared.item.Bytes.{Bytes}
 use Rattle.std.specs.Prelude.{Bool, not, ◌&&◌, ◌||◌, List, [], ◌∷◌, ◌≡◌, ℕ, ◌+◌, ◌*◌, ◌/◌, ◌≤◌, ◌^◌, length, get_or}
 use Rattle.std.proofs.Math.Bool.{true, false}
-use Rattle.std.proofs.Math.Option.{Option, none, some}
+use Rattle.std.specs.Prelude.{Option, None, Some}
 use Rattle.std.proofs.Math.Path.{refl}
 use Rattle.std.proofs.Common.{sym, ap, ◌∙◌, arith}
 use Rattle.std.proofs.Math.Dec.{ltb}
@@ -12,10 +14,10 @@ use Rattle.maps.specs.BoolLaws.{clash, and-false, neither_left, neither_right}
 use Rattle.maps.specs.OrderLaws.{split}
 use Rattle.maps.specs.Lists.{every, any, or_else}
 use Rattle.maps.specs.Maps.{equal_bytes}
-use Rattle.pipe_log.specs.Numbers.{queue_number, gate_of}
+use Rattle.pipe_log.specs.Numbers.{queue_number}
 use Rattle.pipe_log.specs.Rows.{entries_of, window}
 use Rattle.rules.specs.Limits.{max_bytes, reserved_key}
-use Rattle.rules.specs.Causes.{ok, and_then}
+use Rattle.rules.specs.Causes.{Ok, and_then}
 use Rattle.rules.specs.Items as rules
 use Rattle.rules.specs.Checks.{consecutive, long, long_change, lacks_value, lacks_file, is_incomplete, is_out_of_range, is_other_queue, is_not_rewritable, is_rewrite_replay, meets3, unless_reserved}
 use Rattle.rules.specs.Table.{Table, made, change, entries_to, put_to, change_to, command_to, put_held}
@@ -24,11 +26,9 @@ use Rattle.memtable.specs.BatchLaws.{entries_of-window, lent-checked}
 use Rattle.log_batch.specs.declared.causes.Call as call
 use Rattle.log_batch.specs.declared.item.Command as command
 use Rattle.log_batch.specs.declared.item.OpType as op
-use Rattle.log_batch.specs.declared.item.Value as value
-use Rattle.log_batch.specs.declared.item.KeyFile as file
 use Rattle.log_batch.specs.declared.item.EntryIndexes.{EntryIndexes}
 use Rattle.log_batch.specs.declared.item.LogItemContent as content
-use Rattle.log_batch.specs.Lent.{content_of, key_content, key_change, change_of, value_of, key_file_of, command_of, Within}
+use Rattle.log_batch.specs.Lent.{content_of, key_content, key_change, change_of, value_of, command_of, Within}
 use Rattle.log_batch.specs.Judged.{call_of}
 use Rattle.log_batch.specs.OpenLaws.{BareOp, Bare}
 use Rattle.log_batch.specs.PassedLaws.{Passed}
@@ -67,10 +67,10 @@ OnlyRewrite c t = is_rewrite_replay c ≡ true → every rules.is_rewrite t.entr
 
 pub record Changes (c : rules.Call) (x : rules.Content) (ch : change'.Change) (rows key value : List ℕ) : Type 0 where
   pub not-reserved : rules.is_reserved x ≡ false
-  pub rule : (t : Option Table) → change c x t ≡ and_then (rule_of ch rows key value (made t)) (λ u. ok (some u))
+  pub rule : (t : Option Table) → change c x t ≡ and_then (rule_of ch rows key value (made t)) (λ u. Ok (Some u))
   pub ready : (t : Table) → OnlyRewrite c t → Ready ch rows key value t
   -- a tombstone is never refused by its group
-  pub taken : rules.is_tombstone x ≡ true → (t : Table) → (u : Table) × (rule_of ch rows key value t ≡ ok u)
+  pub taken : rules.is_tombstone x ≡ true → (t : Table) → (u : Table) × (rule_of ch rows key value t ≡ Ok u)
   -- a Clean that changes its group is one of the Rewrite side
   pub not-cleaned : rules.same_queue (rules.writes c) rules.Append && rules.is_clean x ≡ false
 
@@ -148,8 +148,8 @@ module _ (es : List ℕ) (e : EntryIndexes) (w : (e.at + e.count) * 8 ≤ length
   entries_say (call.TheVariants.LiveRewrite g s) k =
       record {
         not-reserved = refl;
-        rule = λ t. rw (whole-window (rules.live_rewrite (gate_of g) s) es e w k);
-        ready = λ t o. lent_rows_lem (rules.live_rewrite (gate_of g) s) es e w k;
+        rule = λ t. rw (whole-window (rules.live_rewrite g s) es e w k);
+        ready = λ t o. lent_rows_lem (rules.live_rewrite g s) es e w k;
         taken = λ f t. absurd (clash f);
         not-cleaned = refl;
       }
@@ -183,41 +183,41 @@ module _ (key : List ℕ) (r : equal_bytes key reserved_key ≡ false) where
       record { not-reserved = r; rule = λ t. refl; ready = λ t o. tt; taken = λ f t. (_, refl); not-cleaned = and-false (rules.same_queue (rules.writes c) rules.Append) }
 
   -- a live rewrite reads neither value nor file
-  move-says : (g : _) (s : ℕ) (v : Option (List ℕ)) (f : Option _) (value : List ℕ) → Changes (rules.live_rewrite (gate_of g) s) (rules.kv key (rules.put v f)) (change'.TheVariants.RewriteKey g s) [] key value
+  move-says : (g : _) (s : ℕ) (v : Option (List ℕ)) (f : Option _) (value : List ℕ) → Changes (rules.live_rewrite g s) (rules.kv key (rules.put v f)) (change'.TheVariants.RewriteKey g s) [] key value
   unfolding rule_of Ready change change_to put_to rules.is_reserved rules.is_tombstone rules.is_clean
   move-says g s v f value =
-      record { not-reserved = r; rule = λ t. refl; ready = λ t o. tt; taken = λ f t. absurd (clash f); not-cleaned = and-false (rules.same_queue (rules.writes (rules.live_rewrite (gate_of g) s)) rules.Append) }
+      record { not-reserved = r; rule = λ t. refl; ready = λ t o. tt; taken = λ f t. absurd (clash f); not-cleaned = and-false (rules.same_queue (rules.writes (rules.live_rewrite g s)) rules.Append) }
 
   -- a Put that is read has a value and a file
   module _ (c : rules.Call) (l : rules.is_live_rewrite c ≡ false)
-      (puts : (v : Option (List ℕ)) (f : Option rules.FileId) (t : Table) → put_to c key v f t ≡ ok (put_held key v f t)) where
+      (puts : (v : Option (List ℕ)) (f : Option rules.FileId) (t : Table) → put_to c key v f t ≡ Ok (put_held key v f t)) where
     lacks : (x : rules.Change) → is_incomplete c (rules.kv key x) ≡ false → (lacks_value x || lacks_file x) ≡ false
     unfolding is_incomplete
     lacks x e = rw l at e
 
-    put-says : (v : value.Value) (f : file.KeyFile) (bs : List ℕ) → Clear c (rules.kv key (rules.put (value_of v bs) (key_file_of f))) → DeedSays (put_held_deed f) c (rules.kv key (rules.put (value_of v bs) (key_file_of f))) [] key (value_part v bs)
-    unfolding DeedSays rule_of Ready change change_to put_held and_then value_of key_file_of lacks_value lacks_file long long_change or_else rules.is_reserved rules.is_tombstone rules.is_clean
-    put-says v file.TheVariants.Absent bs k = absurd (clash (sym (neither_right (lacks_value (rules.put (value_of v bs) none)) true (lacks (rules.put (value_of v bs) none) k.complete))))
-    put-says value.TheVariants.Absent (file.TheVariants.Of f) bs k = absurd (clash (sym (neither_left true false (lacks (rules.put none (some f)) k.complete))))
-    put-says (value.TheVariants.At a n) (file.TheVariants.Of f) bs k =
+    put-says : (v : Option Bytes) (f : Option FileId) (bs : List ℕ) → Clear c (rules.kv key (rules.put (value_of v bs) f)) → DeedSays (put_held_deed f) c (rules.kv key (rules.put (value_of v bs) f)) [] key (value_part v bs)
+    unfolding DeedSays rule_of Ready change change_to put_held and_then value_of lacks_value lacks_file long long_change or_else rules.is_reserved rules.is_tombstone rules.is_clean
+    put-says v None bs k = absurd (clash (sym (neither_right (lacks_value (rules.put (value_of v bs) None)) true (lacks (rules.put (value_of v bs) None) k.complete))))
+    put-says None (Some f) bs k = absurd (clash (sym (neither_left true false (lacks (rules.put None (Some f)) k.complete))))
+    put-says (Some b) (Some f) bs k =
         let x = ltb max_bytes (length key) in
-        let y = ltb max_bytes (length (part a n bs)) in
+        let y = ltb max_bytes (length (part b.at b.len bs)) in
         record {
           not-reserved = r;
-          rule = λ t. rw (puts (some (part a n bs)) (some f) (made t));
-          ready = λ t o. (ltb-false max_bytes (length key) (neither_left x y k.short), ltb-false max_bytes (length (part a n bs)) (neither_right x y k.short));
+          rule = λ t. rw (puts (Some (part b.at b.len bs)) (Some f) (made t));
+          ready = λ t o. (ltb-false max_bytes (length key) (neither_left x y k.short), ltb-false max_bytes (length (part b.at b.len bs)) (neither_right x y k.short));
           taken = λ f t. absurd (clash f);
           not-cleaned = and-false (rules.same_queue (rules.writes c) rules.Append);
         }
 
-  put_by-call : (c : call.Call) (v : value.Value) (f : file.KeyFile) (bs : List ℕ) → Clear (call_of c) (rules.kv key (rules.put (value_of v bs) (key_file_of f))) → DeedSays (put_deed c f) (call_of c) (rules.kv key (rules.put (value_of v bs) (key_file_of f))) [] key (value_part v bs)
+  put_by-call : (c : call.Call) (v : Option Bytes) (f : Option FileId) (bs : List ℕ) → Clear (call_of c) (rules.kv key (rules.put (value_of v bs) f)) → DeedSays (put_deed c f) (call_of c) (rules.kv key (rules.put (value_of v bs) f)) [] key (value_part v bs)
   unfolding DeedSays call_of put_to rules.is_live_rewrite
   put_by-call call.TheVariants.ReplayAppend v f bs k = put-says rules.replay_append refl (λ v f t. refl) v f bs k
   put_by-call call.TheVariants.ReplayRewrite v f bs k = put-says rules.replay_rewrite refl (λ v f t. refl) v f bs k
   put_by-call call.TheVariants.LiveAppend v f bs k = put-says rules.live_append refl (λ v f t. refl) v f bs k
-  put_by-call (call.TheVariants.LiveRewrite g s) v f bs k = move-says g s (value_of v bs) (key_file_of f) (value_part v bs)
+  put_by-call (call.TheVariants.LiveRewrite g s) v f bs k = move-says g s (value_of v bs) f (value_part v bs)
 
-  op-says : (c : call.Call) (o : op.OpType) (v : value.Value) (f : file.KeyFile) (bs : List ℕ) → BareOp o v → Clear (call_of c) (rules.kv key (change_of o v f bs)) → DeedSays (op_deed c o f) (call_of c) (rules.kv key (change_of o v f bs)) [] key (value_part v bs)
+  op-says : (c : call.Call) (o : op.OpType) (v : Option Bytes) (f : Option FileId) (bs : List ℕ) → BareOp o v → Clear (call_of c) (rules.kv key (change_of o v f bs)) → DeedSays (op_deed c o f) (call_of c) (rules.kv key (change_of o v f bs)) [] key (value_part v bs)
   unfolding DeedSays change_of
   op-says c op.TheVariants.Put v f bs d k = put_by-call c v f bs k
   op-says c op.TheVariants.Del v f bs d k = rw d (delete-says (call_of c))

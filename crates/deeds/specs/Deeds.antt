@@ -1,14 +1,14 @@
 -- What an item with places does to its group in a call.
+use Rattle.pipe_log.specs.declared.FileId.{FileId}
+use Rattle.log_batch.specs.declared.item.Bytes.{Bytes}
 use mathlib.Core.Bool.{cond}
-use Rattle.std.specs.Prelude.{List, [], ℕ, ◌*◌, get_or}
+use Rattle.std.specs.Prelude.{Option, Some, None, List, [], ℕ, ◌*◌, get_or}
 use Rattle.cells.specs.Part.{part}
 use Rattle.maps.specs.Maps.{equal_bytes}
 use Rattle.rules.specs.Limits.{reserved_key}
 use Rattle.log_batch.specs.declared.causes.Call as call
 use Rattle.log_batch.specs.declared.item.Command as command
 use Rattle.log_batch.specs.declared.item.OpType as op
-use Rattle.log_batch.specs.declared.item.Value as value
-use Rattle.log_batch.specs.declared.item.KeyFile as file
 use Rattle.log_batch.specs.declared.item.KeyValue.{KeyValue}
 use Rattle.log_batch.specs.declared.item.LogItemContent as content
 use Rattle.rules.specs.Table.{Table}
@@ -27,9 +27,9 @@ key_in (content.TheVariants.EntryIndexes e) bs = []
 key_in (content.TheVariants.Command c) bs = []
 key_in (content.TheVariants.Kv k) bs = part k.key_at k.key_len bs
 
-abbrev pub value_part : value.Value → List ℕ → List ℕ
-value_part value.TheVariants.Absent bs = []
-value_part (value.TheVariants.At a n) bs = part a n bs
+abbrev pub value_part : Option Bytes → List ℕ → List ℕ
+value_part None bs = []
+value_part (Some b) bs = part b.at b.len bs
 
 abbrev pub value_in : content.LogItemContent → List ℕ → List ℕ
 value_in (content.TheVariants.EntryIndexes e) bs = []
@@ -54,17 +54,17 @@ command_deed c command.TheVariants.Clean = clean_deed c
 command_deed c (command.TheVariants.Compact i) = deed.TheVariants.Change (change.TheVariants.Compact i)
 
 -- a Put without a file meets 3 where it is read, and is never reached
-abbrev pub put_held_deed : file.KeyFile → deed.Deed
-put_held_deed file.TheVariants.Absent = deed.TheVariants.Skip
-put_held_deed (file.TheVariants.Of f) = deed.TheVariants.Change (change.TheVariants.Put f.queue f.seq)
+abbrev pub put_held_deed : Option FileId → deed.Deed
+put_held_deed None = deed.TheVariants.Skip
+put_held_deed (Some f) = deed.TheVariants.Change (change.TheVariants.Put f.queue f.seq)
 
-abbrev pub put_deed : call.Call → file.KeyFile → deed.Deed
+abbrev pub put_deed : call.Call → Option FileId → deed.Deed
 put_deed call.TheVariants.ReplayAppend f = put_held_deed f
 put_deed call.TheVariants.ReplayRewrite f = put_held_deed f
 put_deed call.TheVariants.LiveAppend f = put_held_deed f
 put_deed (call.TheVariants.LiveRewrite gate seq) f = deed.TheVariants.Change (change.TheVariants.RewriteKey gate seq)
 
-abbrev pub op_deed : call.Call → op.OpType → file.KeyFile → deed.Deed
+abbrev pub op_deed : call.Call → op.OpType → Option FileId → deed.Deed
 op_deed c op.TheVariants.Put f = put_deed c f
 op_deed c op.TheVariants.Del f = deed.TheVariants.Change change.TheVariants.Delete
 

@@ -6,10 +6,9 @@ ghost use Rattle.log_batch.specs.Lent.{RowsWithin, ValueWithin, BytesWithin, Wit
 ghost use Rattle.deeds.specs.Deeds.{rows_in, key_in, value_part, value_in, entries_change, command_deed, put_held_deed, put_deed, key_deed, deed_of};
 
 use log_batch::Call;
-use log_batch::item::{
-    Command, KeyFile, KeyValue, LogItemContent, OpType, Value, bytes_of, entries_of,
-};
+use log_batch::item::{Bytes, Command, KeyValue, LogItemContent, OpType, bytes_of, entries_of};
 use log_batch::mark::is_reserved;
+use pipe_log::FileId;
 use stretch::Change;
 
 // What an item does to its group in a call: a reserved one nothing, a Clean removes it, any other changes its table.
@@ -67,13 +66,13 @@ pub fn key_in(content: LogItemContent, bytes: &[u8]) -> &[u8]
     }
 }
 
-fn value_part(value: Value, bytes: &[u8]) -> &[u8]
+fn value_part(value: Option<Bytes>, bytes: &[u8]) -> &[u8]
     requires { ValueWithin value (length bytes.now) }
     ensures { result.now ≡ value_part value bytes.now }
 {
     match value {
-        Value::Absent => no_bytes(bytes),
-        Value::At { at, len } => bytes_of(bytes, at, len),
+        None => no_bytes(bytes),
+        Some(Bytes { at, len }) => bytes_of(bytes, at, len),
     }
 }
 
@@ -120,10 +119,10 @@ fn command_deed(call: Call, command: Command) -> Deed
 }
 
 // What a Put does that is read: it has a file, or met 3.
-fn put_held_deed(file_id: KeyFile) -> Deed
+fn put_held_deed(file_id: Option<FileId>) -> Deed
     ensures { result ≡ put_held_deed file_id }
 {
-    let KeyFile::Of(file) = file_id else {
+    let Some(file) = file_id else {
         return Deed::Skip;
     };
     let queue = file.queue;
@@ -134,7 +133,7 @@ fn put_held_deed(file_id: KeyFile) -> Deed
 }
 
 // What a Put of a key that is not reserved does; a live rewrite moves the key's file instead.
-fn put_deed(call: Call, file_id: KeyFile) -> Deed
+fn put_deed(call: Call, file_id: Option<FileId>) -> Deed
     ensures { result ≡ put_deed call file_id }
 {
     match call {

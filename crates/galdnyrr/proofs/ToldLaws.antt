@@ -1,18 +1,17 @@
 -- A call with its answer, told as number and place. Assumes nothing.
 use mathlib.Core.List.{List}
 use mathlib.Core.Path.{◌≡◌, ap, subst, ◌∙◌}
-use mathlib.Core.Option.{Option}
+use Rattle.std.specs.Prelude.{Option}
 use Prim.Native.Nat.{ℕ}
 use Rattle.rules.specs.Causes.{Result}
 use Rattle.rules.specs.Items.{FileId}
 use Rattle.rules.specs.Context.{Context}
 use Rattle.rules.specs.Calls.{replay, append, rewrite}
 use Rattle.log_batch.specs.Lent.{batch_of}
-use Rattle.contexts.specs.declared.Answer.{Answer}
 use Rattle.contexts.specs.Contexts.{context_of, answer_as, Called}
 use Rattle.galdnyrr.specs.Told.{number_of, place_of, Told}
 
-module _ (xs bs : List ℕ) (r : Answer) (n p : ℕ) (ys fs : List ℕ) (tells : (c : Context) → (n ≡ number_of (answer_as r c)) × (p ≡ place_of (answer_as r c))) where
+module _ (xs bs : List ℕ) (r : Result (Unit {0})) (n p : ℕ) (ys fs : List ℕ) (tells : (c : Context) → (n ≡ number_of (answer_as r c)) × (p ≡ place_of (answer_as r c))) where
   pub told : (call : Context → Result Context) → Called call xs bs r ys fs → Told call xs bs n p ys fs
   told call k =
       record {

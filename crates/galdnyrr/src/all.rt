@@ -1,13 +1,13 @@
 // What is asked of all groups, for C and Rust.
 ghost use Rattle.std.specs.Prelude.{◌≡◌};
-ghost use Rattle.rules.specs.Causes.{ok};
+ghost use Rattle.rules.specs.Causes.{Ok};
 ghost use Rattle.rules.specs.Queries.{answered, group_numbers, is_empty, live_entries};
 ghost use Rattle.pipe_log.specs.Rows.{queue_at};
 ghost use Rattle.contexts.specs.Contexts.{context_of, Wf};
 ghost use Rattle.galdnyrr.specs.Asked.{NumbersTold};
 
-use crate::answers::tell_fetched;
-use pipe_log::queue_at;
+use crate::answers::tell_count;
+use pipe_log::LogQueue;
 
 // Whether there are no groups.
 #[unsafe(no_mangle)]
@@ -27,10 +27,10 @@ pub extern "C" fn galdnyrr_group_numbers(
     count: &mut u64,
 ) -> u64
     requires { Wf xs.now bs.now }
-    ensures { NumbersTold (answered list.old (ok (group_numbers (context_of xs.now bs.now)))) list.old count.old result count.new list.new }
+    ensures { NumbersTold (answered list.old (Ok (group_numbers (context_of xs.now bs.now)))) list.old count.old result count.new list.new }
 {
     let fetched = queries::group_numbers(xs, bs, list);
-    tell_fetched(fetched, count)
+    tell_count(fetched, count)
 }
 
 // The live count of a queue: the entries and keys of all groups but adopted ones.
@@ -39,5 +39,5 @@ pub extern "C" fn galdnyrr_live_entries(xs: &[u64], bs: &[u8], queue: u64) -> us
     requires { Wf xs.now bs.now }
     ensures { result ≡ live_entries (queue_at queue) (context_of xs.now bs.now) }
 {
-    queries::live_entries(xs, bs, queue_at(queue))
+    queries::live_entries(xs, bs, LogQueue::from(queue))
 }

@@ -1,6 +1,6 @@
 // What is asked of a group's entries, for C and Rust.
 ghost use Rattle.std.specs.Prelude.{length};
-ghost use Rattle.rules.specs.Causes.{ok};
+ghost use Rattle.rules.specs.Causes.{Ok};
 ghost use Rattle.rules.specs.Table.{first_index_of, last_index};
 ghost use Rattle.rules.specs.TableQueries.{get_entry, rewrite_count, has_at_least_some_entries_before};
 ghost use Rattle.rules.specs.Queries.{in_group};
@@ -13,7 +13,7 @@ use crate::answers::{tell_count, tell_entry, tell_found, tell_some_before};
 #[unsafe(no_mangle)]
 pub extern "C" fn galdnyrr_first_index(xs: &[u64], bs: &[u8], group: u64, value: &mut u64) -> u64
     requires { Wf xs.now bs.now }
-    ensures { FoundTold (in_group group (λ t. ok (first_index_of t.entries)) (context_of xs.now bs.now)) value.old result value.new }
+    ensures { FoundTold (in_group group (λ t. Ok (first_index_of t.entries)) (context_of xs.now bs.now)) value.old result value.new }
 {
     let found = queries::first_index(xs, bs, group);
     tell_found(found, value)
@@ -23,7 +23,7 @@ pub extern "C" fn galdnyrr_first_index(xs: &[u64], bs: &[u8], group: u64, value:
 #[unsafe(no_mangle)]
 pub extern "C" fn galdnyrr_last_index(xs: &[u64], bs: &[u8], group: u64, value: &mut u64) -> u64
     requires { Wf xs.now bs.now }
-    ensures { FoundTold (in_group group (λ t. ok (last_index t.entries)) (context_of xs.now bs.now)) value.old result value.new }
+    ensures { FoundTold (in_group group (λ t. Ok (last_index t.entries)) (context_of xs.now bs.now)) value.old result value.new }
 {
     let found = queries::last_index(xs, bs, group);
     tell_found(found, value)
@@ -33,7 +33,7 @@ pub extern "C" fn galdnyrr_last_index(xs: &[u64], bs: &[u8], group: u64, value: 
 #[unsafe(no_mangle)]
 pub extern "C" fn galdnyrr_rewrite_count(xs: &[u64], bs: &[u8], group: u64, value: &mut u64) -> u64
     requires { Wf xs.now bs.now }
-    ensures { ValueTold (in_group group (λ t. ok (rewrite_count t)) (context_of xs.now bs.now)) value.old result value.new }
+    ensures { ValueTold (in_group group (λ t. Ok (rewrite_count t)) (context_of xs.now bs.now)) value.old result value.new }
 {
     let counted = queries::rewrite_count(xs, bs, group);
     tell_count(counted, value)
@@ -43,7 +43,7 @@ pub extern "C" fn galdnyrr_rewrite_count(xs: &[u64], bs: &[u8], group: u64, valu
 #[unsafe(no_mangle)]
 pub extern "C" fn galdnyrr_entry_count(xs: &[u64], bs: &[u8], group: u64, value: &mut u64) -> u64
     requires { Wf xs.now bs.now }
-    ensures { ValueTold (in_group group (λ t. ok (length t.entries)) (context_of xs.now bs.now)) value.old result value.new }
+    ensures { ValueTold (in_group group (λ t. Ok (length t.entries)) (context_of xs.now bs.now)) value.old result value.new }
 {
     let counted = queries::entry_count(xs, bs, group);
     tell_count(counted, value)
@@ -59,7 +59,7 @@ pub extern "C" fn galdnyrr_get_entry(
     row: &mut [u64],
 ) -> u64
     requires { Wf xs.now bs.now }
-    ensures { EntryTold (in_group group (λ t. ok (get_entry index t)) (context_of xs.now bs.now)) row.old result row.new }
+    ensures { EntryTold (in_group group (λ t. Ok (get_entry index t)) (context_of xs.now bs.now)) row.old result row.new }
 {
     let found = queries::get_entry(xs, bs, group, index);
     tell_entry(found, row)

@@ -7,7 +7,7 @@ ghost use Rattle.contexts.specs.Contexts.{context_of, Wf, FreshArea};
 ghost use Rattle.galdnyrr.specs.Told.{file_of, gate_or, Told};
 
 use crate::numbers::{file_of, gate_of, tell};
-use pipe_log::queue_at;
+use pipe_log::LogQueue;
 
 // Makes a fresh context of a queue, whatever the area held.
 #[unsafe(no_mangle)]
@@ -15,7 +15,7 @@ pub extern "C" fn galdnyrr_fresh(xs: &mut [u64], bs: &mut [u8], queue: u64)
     requires { (length xs.old ≡ 17231) × (length bs.old ≡ 38912) }
     ensures { FreshArea (queue_at queue) xs.new bs.new }
 {
-    contexts::fresh(xs, bs, queue_at(queue));
+    contexts::fresh(xs, bs, LogQueue::from(queue));
 }
 
 // Replays a batch into a context of its file's queue.

@@ -2,7 +2,7 @@
 ghost use Rattle.contexts.specs.Contexts.{Wf};
 ghost use Rattle.galdnyrr.specs.Asked.{CleanedTold};
 
-use crate::answers::tell_taken;
+use crate::answers::tell_count;
 
 // Hands out the cleaned numbers of the index in order, and empties the list of them.
 #[unsafe(no_mangle)]
@@ -16,5 +16,5 @@ pub extern "C" fn galdnyrr_take_cleaned_region_logs(
     ensures { CleanedTold xs.old bs.now list.old count.old result count.new xs.new list.new }
 {
     let taken = queries::take_cleaned_region_logs(xs, bs, list);
-    tell_taken(taken, count)
+    tell_count(taken, count)
 }

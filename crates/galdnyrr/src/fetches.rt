@@ -1,5 +1,5 @@
 // Fetches of a group's records into lent slices, one for each field, for C and Rust. The lent list is as long as the shortest of them.
-ghost use Rattle.rules.specs.Causes.{ok};
+ghost use Rattle.rules.specs.Causes.{Ok};
 ghost use Rattle.rules.specs.TableQueries.{fetch_entries_to, fetch_entry_indexes_before, fetch_rewritten_entry_indexes};
 ghost use Rattle.rules.specs.Queries.{in_group};
 ghost use Rattle.memtable.specs.Columns.{columns};
@@ -7,8 +7,8 @@ ghost use Rattle.contexts.specs.Contexts.{context_of, Wf};
 ghost use Rattle.galdnyrr.specs.Told.{gate_or};
 ghost use Rattle.galdnyrr.specs.Asked.{EntriesTold};
 
-use crate::answers::tell_fetched;
-use crate::numbers::bound_of;
+use crate::answers::tell_count;
+use crate::numbers::gate_of;
 
 // Fetches a group's entries with indexes in [begin, end), up to a size.
 #[unsafe(no_mangle)]
@@ -39,7 +39,7 @@ pub extern "C" fn galdnyrr_fetch_entries_to(
         group,
         begin,
         end,
-        bound_of(sized, max_size),
+        gate_of(sized, max_size),
         index,
         queue,
         seq,
@@ -49,7 +49,7 @@ pub extern "C" fn galdnyrr_fetch_entries_to(
         entry_offset,
         entry_len,
     );
-    tell_fetched(fetched, count)
+    tell_count(fetched, count)
 }
 
 // Fetches a group's Append entries from the front while their file is at most the gate.
@@ -70,7 +70,7 @@ pub extern "C" fn galdnyrr_fetch_entry_indexes_before(
     count: &mut u64,
 ) -> u64
     requires { Wf xs.now bs.now }
-    ensures { EntriesTold (in_group group (λ t. ok (fetch_entry_indexes_before gate t)) (context_of xs.now bs.now)) (columns index.old queue.old seq.old offset.old len.old compression.old entry_offset.old entry_len.old) count.old result count.new (columns index.new queue.new seq.new offset.new len.new compression.new entry_offset.new entry_len.new) }
+    ensures { EntriesTold (in_group group (λ t. Ok (fetch_entry_indexes_before gate t)) (context_of xs.now bs.now)) (columns index.old queue.old seq.old offset.old len.old compression.old entry_offset.old entry_len.old) count.old result count.new (columns index.new queue.new seq.new offset.new len.new compression.new entry_offset.new entry_len.new) }
 {
     let fetched = columns::fetch_entry_indexes_before(
         xs,
@@ -86,7 +86,7 @@ pub extern "C" fn galdnyrr_fetch_entry_indexes_before(
         entry_offset,
         entry_len,
     );
-    tell_fetched(fetched, count)
+    tell_count(fetched, count)
 }
 
 // Fetches all Rewrite entries of a group.
@@ -106,7 +106,7 @@ pub extern "C" fn galdnyrr_fetch_rewritten_entry_indexes(
     count: &mut u64,
 ) -> u64
     requires { Wf xs.now bs.now }
-    ensures { EntriesTold (in_group group (λ t. ok (fetch_rewritten_entry_indexes t)) (context_of xs.now bs.now)) (columns index.old queue.old seq.old offset.old len.old compression.old entry_offset.old entry_len.old) count.old result count.new (columns index.new queue.new seq.new offset.new len.new compression.new entry_offset.new entry_len.new) }
+    ensures { EntriesTold (in_group group (λ t. Ok (fetch_rewritten_entry_indexes t)) (context_of xs.now bs.now)) (columns index.old queue.old seq.old offset.old len.old compression.old entry_offset.old entry_len.old) count.old result count.new (columns index.new queue.new seq.new offset.new len.new compression.new entry_offset.new entry_len.new) }
 {
     let fetched = columns::fetch_rewritten_entry_indexes(
         xs,
@@ -121,5 +121,5 @@ pub extern "C" fn galdnyrr_fetch_rewritten_entry_indexes(
         entry_offset,
         entry_len,
     );
-    tell_fetched(fetched, count)
+    tell_count(fetched, count)
 }

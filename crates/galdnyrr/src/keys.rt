@@ -1,6 +1,6 @@
 // What is asked of a group's keys and files, for C and Rust.
-ghost use Rattle.std.specs.Prelude.{◌≡◌, length};
-ghost use Rattle.rules.specs.Causes.{ok};
+ghost use Rattle.std.specs.Prelude.{◌≡◌, length, option_copied};
+ghost use Rattle.rules.specs.Causes.{Ok};
 ghost use Rattle.rules.specs.TableQueries.{get_key, min_file_seq};
 ghost use Rattle.rules.specs.TableQueries as rules;
 ghost use Rattle.rules.specs.Queries.{in_group};
@@ -9,17 +9,15 @@ ghost use Rattle.pipe_log.specs.Rows.{queue_at};
 ghost use Rattle.contexts.specs.Contexts.{context_of, Wf};
 ghost use Rattle.galdnyrr.specs.Asked.{ValueTold, FoundTold, KeysTold, GotTold};
 
-use crate::answers::{ABSENT, tell_count, tell_fetched, tell_found};
-use cells::copy_in_u8;
-use pipe_log::causes::{GROUP_ABSENT, LIST_TOO_SHORT};
-use pipe_log::queue_at;
-use queries::KEY_ABSENT;
+use crate::answers::{ABSENT, tell_count, tell_found};
+use cells::copy_in;
+use pipe_log::{Cause, LogQueue};
 
 // The number of a group's keys.
 #[unsafe(no_mangle)]
 pub extern "C" fn galdnyrr_key_count(xs: &[u64], bs: &[u8], group: u64, value: &mut u64) -> u64
     requires { Wf xs.now bs.now }
-    ensures { ValueTold (in_group group (λ t. ok (length t.keys)) (context_of xs.now bs.now)) value.old result value.new }
+    ensures { ValueTold (in_group group (λ t. Ok (length t.keys)) (context_of xs.now bs.now)) value.old result value.new }
 {
     let counted = queries::key_count(xs, bs, group);
     tell_count(counted, value)
@@ -35,9 +33,9 @@ pub extern "C" fn galdnyrr_min_file_seq(
     value: &mut u64,
 ) -> u64
     requires { Wf xs.now bs.now }
-    ensures { FoundTold (in_group group (λ t. ok (min_file_seq (queue_at queue) t)) (context_of xs.now bs.now)) value.old result value.new }
+    ensures { FoundTold (in_group group (λ t. Ok (min_file_seq (queue_at queue) t)) (context_of xs.now bs.now)) value.old result value.new }
 {
-    let found = queries::min_file_seq(xs, bs, group, queue_at(queue));
+    let found = queries::min_file_seq(xs, bs, group, LogQueue::from(queue));
     tell_found(found, value)
 }
 
@@ -52,22 +50,28 @@ pub extern "C" fn galdnyrr_get(
     len: &mut u64,
 ) -> u64
     requires { Wf xs.now bs.now }
-    ensures { GotTold (in_group group (λ t. ok (get_key key.now t)) (context_of xs.now bs.now)) out.old len.old result out.new len.new }
+    ensures { GotTold (in_group group (λ t. Ok (get_key key.now t)) (context_of xs.now bs.now)) out.old len.old result out.new len.new }
 {
-    let mut told = 0;
-    let value = queries::get(xs, bs, group, key, &mut told);
-    if told == GROUP_ABSENT {
-        return GROUP_ABSENT;
+    match queries::get(xs, bs, group, key) {
+        Ok(None) => ABSENT,
+        Ok(Some(value)) => {
+            if out.len() < value.len() {
+                return Cause::ListTooShort.number();
+            }
+            copy_in(out, 0, value);
+            *len = value.len() as u64;
+            0
+        }
+        Err(cause) => cause.number(),
     }
-    if told == KEY_ABSENT {
-        return ABSENT;
-    }
-    if out.len() < value.len() {
-        return LIST_TOO_SHORT;
-    }
-    copy_in_u8(out, 0, value);
-    *len = value.len() as u64;
-    0
+}
+
+// A bound that may be lent: none, or its bytes.
+#[tactic(auto, unfolding(kvs::specs::Calls::given))]
+fn bytes_if(there: bool, bytes: &[u8]) -> Option<&[u8]>
+    ensures { option_copied result ≡ given there bytes.now }
+{
+    there.then_some(bytes)
 }
 
 // Scans a group's keys from `start` on and below `end`, bounds that are open where they are not there, up to `most`
@@ -90,10 +94,10 @@ pub extern "C" fn galdnyrr_scan(
     requires { Wf xs.now bs.now }
     ensures { KeysTold (in_group group (rules.scan (given started start.now) (given ended end.now) backwards most) (context_of xs.now bs.now)) lens.old out.old count.old result count.new lens.new out.new }
 {
-    let fetched = queries::scan(
-        xs, bs, group, started, start, ended, end, backwards, most, lens, out,
-    );
-    tell_fetched(fetched, count)
+    let from = bytes_if(started, start);
+    let to = bytes_if(ended, end);
+    let fetched = queries::scan(xs, bs, group, from, to, backwards, most, lens, out);
+    tell_count(fetched, count)
 }
 
 // Fetches a group's Append keys with a file up to the gate.
@@ -108,10 +112,10 @@ pub extern "C" fn galdnyrr_fetch_kvs_before(
     count: &mut u64,
 ) -> u64
     requires { Wf xs.now bs.now }
-    ensures { KeysTold (in_group group (λ t. ok (rules.fetch_kvs_before gate t)) (context_of xs.now bs.now)) lens.old out.old count.old result count.new lens.new out.new }
+    ensures { KeysTold (in_group group (λ t. Ok (rules.fetch_kvs_before gate t)) (context_of xs.now bs.now)) lens.old out.old count.old result count.new lens.new out.new }
 {
     let fetched = queries::fetch_kvs_before(xs, bs, group, gate, lens, out);
-    tell_fetched(fetched, count)
+    tell_count(fetched, count)
 }
 
 // Fetches all Rewrite keys of a group.
@@ -125,8 +129,8 @@ pub extern "C" fn galdnyrr_fetch_rewritten_kvs(
     count: &mut u64,
 ) -> u64
     requires { Wf xs.now bs.now }
-    ensures { KeysTold (in_group group (λ t. ok (rules.fetch_rewritten_kvs t)) (context_of xs.now bs.now)) lens.old out.old count.old result count.new lens.new out.new }
+    ensures { KeysTold (in_group group (λ t. Ok (rules.fetch_rewritten_kvs t)) (context_of xs.now bs.now)) lens.old out.old count.old result count.new lens.new out.new }
 {
     let fetched = queries::fetch_rewritten_kvs(xs, bs, group, lens, out);
-    tell_fetched(fetched, count)
+    tell_count(fetched, count)
 }

@@ -1,13 +1,13 @@
 // Fetches of a group's records into a lent list of rows of eight numbers, for C and Rust.
-ghost use Rattle.rules.specs.Causes.{ok};
+ghost use Rattle.rules.specs.Causes.{Ok};
 ghost use Rattle.rules.specs.TableQueries.{fetch_entries_to, fetch_entry_indexes_before, fetch_rewritten_entry_indexes};
 ghost use Rattle.rules.specs.Queries.{in_group};
 ghost use Rattle.contexts.specs.Contexts.{context_of, Wf};
 ghost use Rattle.galdnyrr.specs.Told.{gate_or};
 ghost use Rattle.galdnyrr.specs.Asked.{RowsTold};
 
-use crate::answers::tell_fetched;
-use crate::numbers::bound_of;
+use crate::answers::tell_count;
+use crate::numbers::gate_of;
 
 // Fetches a group's entries with indexes in [begin, end), up to a size.
 #[unsafe(no_mangle)]
@@ -25,8 +25,8 @@ pub extern "C" fn galdnyrr_fetch_records_to(
     requires { Wf xs.now bs.now }
     ensures { RowsTold (in_group group (fetch_entries_to begin end (gate_or sized max_size)) (context_of xs.now bs.now)) out.old count.old result count.new out.new }
 {
-    let fetched = records::fetch_rows_to(xs, bs, group, begin, end, bound_of(sized, max_size), out);
-    tell_fetched(fetched, count)
+    let fetched = records::fetch_rows_to(xs, bs, group, begin, end, gate_of(sized, max_size), out);
+    tell_count(fetched, count)
 }
 
 // Fetches a group's Append entries from the front while their file is at most the gate.
@@ -40,10 +40,10 @@ pub extern "C" fn galdnyrr_fetch_records_before(
     count: &mut u64,
 ) -> u64
     requires { Wf xs.now bs.now }
-    ensures { RowsTold (in_group group (λ t. ok (fetch_entry_indexes_before gate t)) (context_of xs.now bs.now)) out.old count.old result count.new out.new }
+    ensures { RowsTold (in_group group (λ t. Ok (fetch_entry_indexes_before gate t)) (context_of xs.now bs.now)) out.old count.old result count.new out.new }
 {
     let fetched = records::fetch_rows_before(xs, bs, group, gate, out);
-    tell_fetched(fetched, count)
+    tell_count(fetched, count)
 }
 
 // Fetches all Rewrite entries of a group.
@@ -56,8 +56,8 @@ pub extern "C" fn galdnyrr_fetch_rewritten_records(
     count: &mut u64,
 ) -> u64
     requires { Wf xs.now bs.now }
-    ensures { RowsTold (in_group group (λ t. ok (fetch_rewritten_entry_indexes t)) (context_of xs.now bs.now)) out.old count.old result count.new out.new }
+    ensures { RowsTold (in_group group (λ t. Ok (fetch_rewritten_entry_indexes t)) (context_of xs.now bs.now)) out.old count.old result count.new out.new }
 {
     let fetched = records::fetch_rewritten_rows(xs, bs, group, out);
-    tell_fetched(fetched, count)
+    tell_count(fetched, count)
 }

@@ -2,7 +2,7 @@
 -- Assumes nothing.
 use mathlib.Core.Bool.{false, cond, ◌&&◌, and-false, false≢true}
 use mathlib.Core.List.{List}
-use mathlib.Core.Option.{none, some}
+use Rattle.std.specs.Prelude.{None, Some}
 use mathlib.Core.Path.{◌≡◌, refl, sym, ◌∙◌}
 use Prim.Native.Nat.{ℕ, ◌+◌, ◌-◌, ◌*◌, ◌≤◌, ◌<◌}
 use native.Mathlib.Nat.{add-zero}
@@ -20,15 +20,13 @@ use Rattle.maps.specs.MapLaws.{pair, remove_absent, length-insert-none, length-i
 use Rattle.maps.specs.OrderLaws.{split, numbers_lawful}
 use Rattle.maps.specs.Cells.{map_of}
 use Rattle.maps.proofs.CellLaws.{map-store_at, distinct-store_at, map-store-free, distinct-store-free, map-free, distinct-free, length-free}
-use Rattle.rules.specs.Causes.{Result, ok, refused, Refusal, refuse, and_then, limit_passed}
+use Rattle.rules.specs.Causes.{Cause, ByCause, Result, Ok, Err, Refusal, refuse, and_then, LimitPassed}
 use Rattle.rules.specs.Limits.{max_groups}
 use Rattle.rules.specs.Table.{Table, empty_table, made}
 use Rattle.rules.specs.Context.{table_fits}
 use Rattle.stretch.specs.Layout.{stretch_width, bytes_width, keys_at}
 use Rattle.stretch.specs.Stretch.{is_used, head_part, made_header, entry_rows, key_rows, table_in}
 use Rattle.stretch.specs.Stretch as stretch
-use Rattle.stretch.specs.declared.Outcome.{Outcome}
-use Rattle.stretch.specs.declared.Outcome.TheVariants.{Done, Refused}
 use Rattle.stretch.specs.Changes.{outcome_as, limited_table, Changed}
 use Rattle.stretch.specs.Changes as any
 use Rattle.stretch.specs.declared.Change.{Change}
@@ -43,52 +41,52 @@ use Rattle.groups.specs.Laws.{at-cell, free-cell, cell_at_lem, freed, lookup-fou
 
 -- ---- the rule of a group, by what its table's rule gives
 
-same_ok : {A : Type 0} (a b : A) → ok a ≡ ok b → a ≡ b
+same_ok : {A : Type 0} (a b : A) → ◌≡◌ {A = Result A} (Ok a) (Ok b) → a ≡ b
 same_ok a b e = cc
 
-not-ok : {A : Type 0} {c : Refusal} {a : A} → refused c ≡ ok a → ⊥
+not-ok : {A : Type 0} {c : Refusal} {a : A} → Err c ≡ Ok a → ⊥
 not-ok e = let z : ◌≡◌ {A = ℕ} 0 1 = cc in omega arith
 
 -- a refusal is the same of any type
-same-refused : {A B : Type 0} {c d : Refusal} → ◌≡◌ {A = Result A} (refused c) (refused d) → ◌≡◌ {A = Result B} (refused c) (refused d)
+same-refused : {A B : Type 0} {c d : Refusal} → ◌≡◌ {A = Result A} (Err c) (Err d) → ◌≡◌ {A = Result B} (Err c) (Err d)
 same-refused e = cc
 
 module _ (g : ℕ) (m : Map ℕ Table) where
-  result_ok : (r : Result Table) (t : Table) → limited_table r ≡ ok t → length (insert numbers g t m) ≤ slots → and_then r (λ u. cond (table_fits u && leb (length (insert numbers g u m)) max_groups) (ok (insert numbers g u m)) (refuse limit_passed)) ≡ ok (insert numbers g t m)
+  result_ok : (r : Result Table) (t : Table) → limited_table r ≡ Ok t → length (insert numbers g t m) ≤ slots → and_then r (λ u. cond (table_fits u && leb (length (insert numbers g u m)) max_groups) (Ok (insert numbers g u m)) (refuse LimitPassed)) ≡ Ok (insert numbers g t m)
   unfolding limited_table and_then
-  result_ok (ok u) t e l =
+  result_ok (Ok u) t e l =
       split (table_fits u)
       (λ f. let h : u ≡ t = same_ok u t (rw f at e) in rw (h, rw h at f, le-leb _ 8 l))
       (λ f. absurd (not-ok (rw f at e)))
-  result_ok (refused c) t e l = absurd (not-ok e)
+  result_ok (Err c) t e l = absurd (not-ok e)
 
-  result-refused : (r : Result Table) (c : Refusal) → limited_table r ≡ refused c → and_then r (λ u. cond (table_fits u && leb (length (insert numbers g u m)) max_groups) (ok (insert numbers g u m)) (refuse limit_passed)) ≡ refused c
+  result-refused : (r : Result Table) (c : Refusal) → limited_table r ≡ Err c → and_then r (λ u. cond (table_fits u && leb (length (insert numbers g u m)) max_groups) (Ok (insert numbers g u m)) (refuse LimitPassed)) ≡ Err c
   unfolding limited_table and_then
-  result-refused (ok u) c e =
+  result-refused (Ok u) c e =
       split (table_fits u)
       (λ f. absurd (not-ok (sym (rw f at e))))
       (λ f. rw f (same-refused (rw f at e)))
-  result-refused (refused d) c e = same-refused e
+  result-refused (Err d) c e = same-refused e
 
 module _ (by : Table → Result Table) (g : ℕ) (m : Map ℕ Table) (t : Table) (e : made (lookup numbers g m) ≡ t) where
-  on_ok : (u : Table) → limited_table (by t) ≡ ok u → length (insert numbers g u m) ≤ slots → ok (insert numbers g u m) ≡ on_group by g m
+  on_ok : (u : Table) → limited_table (by t) ≡ Ok u → length (insert numbers g u m) ≤ slots → Ok (insert numbers g u m) ≡ on_group by g m
   unfolding on_group
   on_ok u f l = rw e (sym (result_ok g m (by t) u f l))
 
-  on-refused : (c : Refusal) → limited_table (by t) ≡ refused c → refused c ≡ on_group by g m
+  on-refused : (c : Refusal) → limited_table (by t) ≡ Err c → Err c ≡ on_group by g m
   unfolding on_group
   on-refused c f = rw e (sym (result-refused g m (by t) c f))
 
   -- the table is taken, and there is one group too many
-  on-full : (u : Table) → by t ≡ ok u → slots < length (insert numbers g u m) → refuse limit_passed ≡ on_group by g m
+  on-full : (u : Table) → by t ≡ Ok u → slots < length (insert numbers g u m) → refuse LimitPassed ≡ on_group by g m
   unfolding on_group and_then
   on-full u f l = rw (e, f, lt-leb _ 8 l, and-false)
 
-made_some : (t : Table) → made (some t) ≡ t
+made_some : (t : Table) → made (Some t) ≡ t
 unfolding made or_else
 made_some t = refl
 
-made_none : made none ≡ empty_table
+made_none : made None ≡ empty_table
 unfolding made or_else
 made_none = refl
 
@@ -112,7 +110,7 @@ unfolding made_header
 made_back k g xs p l h e =
     loan-put-in (k * stretch_width) (k * stretch_width + stretch_width - k * stretch_width) xs p 0 (k * stretch_width) (made_header g) e (add-zero (k * stretch_width)) (omega arith) (omega arith)
 
-pub changed_back : (by : Table → Result Table) (k : ℕ) (xs bs : List ℕ) (r : Outcome) (p b : List ℕ) → k < slots → numbers_in_use ≤ length xs → bytes_in_use ≤ length bs → length p ≡ length (take (k * stretch_width + stretch_width - k * stretch_width) (drop (k * stretch_width) xs)) → length b ≡ length (take (k * bytes_width + bytes_width - k * bytes_width) (drop (k * bytes_width) bs)) → any.ChangedAt keys_at by (take (k * stretch_width + stretch_width - k * stretch_width) (drop (k * stretch_width) xs)) (take (k * bytes_width + bytes_width - k * bytes_width) (drop (k * bytes_width) bs)) r p b → ChangedAt by k xs bs r (put_mid (k * stretch_width) (k * stretch_width + stretch_width - k * stretch_width) xs p) (put_mid (k * bytes_width) (k * bytes_width + bytes_width - k * bytes_width) bs b)
+pub changed_back : (by : Table → Result Table) (k : ℕ) (xs bs : List ℕ) (r : ByCause (Unit {0})) (p b : List ℕ) → k < slots → numbers_in_use ≤ length xs → bytes_in_use ≤ length bs → length p ≡ length (take (k * stretch_width + stretch_width - k * stretch_width) (drop (k * stretch_width) xs)) → length b ≡ length (take (k * bytes_width + bytes_width - k * bytes_width) (drop (k * bytes_width) bs)) → any.ChangedAt keys_at by (take (k * stretch_width + stretch_width - k * stretch_width) (drop (k * stretch_width) xs)) (take (k * bytes_width + bytes_width - k * bytes_width) (drop (k * bytes_width) bs)) r p b → ChangedAt by k xs bs r (put_mid (k * stretch_width) (k * stretch_width + stretch_width - k * stretch_width) xs p) (put_mid (k * bytes_width) (k * bytes_width + bytes_width - k * bytes_width) bs b)
 unfolding stretch_at bytes_at
 changed_back by k xs bs r p b l x y kp kb c =
     let u : length (stretch_at k xs) ≡ stretch_width = length_part (k * stretch_width) stretch_width xs (omega arith) in
@@ -176,13 +174,13 @@ pub at_table : (g k : ℕ) (xs bs : List ℕ) → Wf xs bs → AtSlot g xs k →
 at_table g k xs bs w a = rw (lookup-found g k xs bs w a) (made_some _)
 
 -- its cell
-at_place : (g k : ℕ) (xs bs : List ℕ) → AtSlot g xs k → get_or (cells xs bs) k none ≡ some (pair g (table_in (stretch_at k xs) (bytes_at k bs)))
+at_place : (g k : ℕ) (xs bs : List ℕ) → AtSlot g xs k → get_or (cells xs bs) k None ≡ Some (pair g (table_in (stretch_at k xs) (bytes_at k bs)))
 at_place g k xs bs a = get_or-cells k xs bs a.inside ∙ at-cell g k xs bs a
 
 in_cells : (k : ℕ) (xs bs : List ℕ) → k < slots → k < length (cells xs bs)
 in_cells k xs bs l = rw (length-cells xs bs) l
 
-module _ (by : Table → Result Table) (g k : ℕ) (xs bs : List ℕ) (r : Outcome) (xs' bs' : List ℕ) (w : Wf xs bs) (a : AtSlot g xs k) (c : ChangedAt by k xs bs r xs' bs') where
+module _ (by : Table → Result Table) (g k : ℕ) (xs bs : List ℕ) (r : ByCause (Unit {0})) (xs' bs' : List ℕ) (w : Wf xs bs) (a : AtSlot g xs k) (c : ChangedAt by k xs bs r xs' bs') where
   abbrev was : Table
   was = table_in (stretch_at k xs) (bytes_at k bs)
 
@@ -192,11 +190,11 @@ module _ (by : Table → Result Table) (g k : ℕ) (xs bs : List ℕ) (r : Outco
   small : k < 16
   small = omega (arith, a.inside)
 
-  cell-is : cell_at k xs' bs' ≡ some (pair g is)
+  cell-is : cell_at k xs' bs' ≡ Some (pair g is)
   unfolding cell_at
   cell-is = changed-cell c.changed a.used ∙ rw a.number
 
-  cells_are : cells xs' bs' ≡ set (cells xs bs) k (some (pair g is))
+  cells_are : cells xs' bs' ≡ set (cells xs bs) k (Some (pair g is))
   cells_are = only-cells small w.numbers_fit w.bytes_fit c.only a.inside ∙ rw cell-is
 
   groups-are : groups_of xs' bs' ≡ insert numbers g is (groups_of xs bs)
@@ -212,18 +210,18 @@ module _ (by : Table → Result Table) (g k : ℕ) (xs bs : List ℕ) (r : Outco
   same_count =
       omega (arith, (groups-fit xs bs w).0, length-insert-some numbers numbers_lawful g is was (groups_of xs bs) (lookup-found g k xs bs w a) (groups-ascend xs bs))
 
-  cells_stay : (n : ℕ) → r ≡ Refused n → cells xs' bs' ≡ cells xs bs
+  cells_stay : (n : Cause) → r ≡ Err n → cells xs' bs' ≡ cells xs bs
   cells_stay n e =
-      let d = c.changed.left n e in cells_are ∙ rw (d.0, d.1) (rw (at_place g k xs bs a) at (set-get_or (cells xs bs) k none))
+      let d = c.changed.left n e in cells_are ∙ rw (d.0, d.1) (rw (at_place g k xs bs a) at (set-get_or (cells xs bs) k None))
 
-at-rule : (by : Table → Result Table) (g k : ℕ) (xs bs : List ℕ) (r : Outcome) (xs' bs' : List ℕ) → Wf xs bs → AtSlot g xs k → ChangedAt by k xs bs r xs' bs' → outcome_as r (groups_of xs' bs') ≡ on_group by g (groups_of xs bs)
-at-rule by g k xs bs Done xs' bs' w a c =
-    rw (groups-are by g k xs bs Done xs' bs' w a c)
-    (on_ok by g (groups_of xs bs) _ (at_table g k xs bs w a) _ (sym c.changed.rule) (same_count by g k xs bs Done xs' bs' w a c))
-at-rule by g k xs bs (Refused n) xs' bs' w a c =
+at-rule : (by : Table → Result Table) (g k : ℕ) (xs bs : List ℕ) (r : ByCause (Unit {0})) (xs' bs' : List ℕ) → Wf xs bs → AtSlot g xs k → ChangedAt by k xs bs r xs' bs' → outcome_as r (groups_of xs' bs') ≡ on_group by g (groups_of xs bs)
+at-rule by g k xs bs (Ok _) xs' bs' w a c =
+    rw (groups-are by g k xs bs (Ok tt) xs' bs' w a c)
+    (on_ok by g (groups_of xs bs) _ (at_table g k xs bs w a) _ (sym c.changed.rule) (same_count by g k xs bs (Ok tt) xs' bs' w a c))
+at-rule by g k xs bs (Err n) xs' bs' w a c =
     on-refused by g (groups_of xs bs) _ (at_table g k xs bs w a) _ (sym c.changed.rule)
 
-pub at-changed : (by : Table → Result Table) (g k : ℕ) (xs bs : List ℕ) (r : Outcome) (xs' bs' : List ℕ) → Wf xs bs → AtSlot g xs k → ChangedAt by k xs bs r xs' bs' → ChangedGroup by g (At k) xs bs r xs' bs'
+pub at-changed : (by : Table → Result Table) (g k : ℕ) (xs bs : List ℕ) (r : ByCause (Unit {0})) (xs' bs' : List ℕ) → Wf xs bs → AtSlot g xs k → ChangedAt by k xs bs r xs' bs' → ChangedGroup by g (At k) xs bs r xs' bs'
 unfolding OnlySlot
 at-changed by g k xs bs r xs' bs' w a c =
     record {
@@ -233,7 +231,7 @@ at-changed by g k xs bs r xs' bs' w a c =
       wf = wf-is by g k xs bs r xs' bs' w a c;
     }
 
-pub at-leaves : (c : Change) (by : Table → Result Table) (k : ℕ) (xs bs : List ℕ) (r : Outcome) (xs' bs' : List ℕ) → ChangedAt by k xs bs r xs' bs' → LeavesStretch c k xs bs xs' bs' → LeavesSlot c (At k) xs bs r xs' bs'
+pub at-leaves : (c : Change) (by : Table → Result Table) (k : ℕ) (xs bs : List ℕ) (r : ByCause (Unit {0})) (xs' bs' : List ℕ) → ChangedAt by k xs bs r xs' bs' → LeavesStretch c k xs bs xs' bs' → LeavesSlot c (At k) xs bs r xs' bs'
 unfolding ChangeLeaves RowsStay
 at-leaves c by k xs bs r xs' bs' a v =
     record {
@@ -259,7 +257,7 @@ module _ (g k : ℕ) (xs bs : List ℕ) (w : Wf xs bs) (a : AtSlot g xs k) where
       ∙ put-part (k * bytes_width) bytes_width bs (omega arith))
 
   -- a change of the numbers alone, whatever the bytes are
-  pub entries-changed : (by : Table → Result Table) (r : Outcome) (p : List ℕ) → length p ≡ length (take (k * stretch_width + stretch_width - k * stretch_width) (drop (k * stretch_width) xs)) → ((b : List ℕ) → stretch.WfAt keys_at (take (k * stretch_width + stretch_width - k * stretch_width) (drop (k * stretch_width) xs)) b → any.ChangedAt keys_at by (take (k * stretch_width + stretch_width - k * stretch_width) (drop (k * stretch_width) xs)) b r p b) → ChangedGroup by g (At k) xs bs r (put_mid (k * stretch_width) (k * stretch_width + stretch_width - k * stretch_width) xs p) bs
+  pub entries-changed : (by : Table → Result Table) (r : ByCause (Unit {0})) (p : List ℕ) → length p ≡ length (take (k * stretch_width + stretch_width - k * stretch_width) (drop (k * stretch_width) xs)) → ((b : List ℕ) → stretch.WfAt keys_at (take (k * stretch_width + stretch_width - k * stretch_width) (drop (k * stretch_width) xs)) b → any.ChangedAt keys_at by (take (k * stretch_width + stretch_width - k * stretch_width) (drop (k * stretch_width) xs)) b r p b) → ChangedGroup by g (At k) xs bs r (put_mid (k * stretch_width) (k * stretch_width + stretch_width - k * stretch_width) xs p) bs
   entries-changed by r p kept c =
       let b = take (k * bytes_width + bytes_width - k * bytes_width) (drop (k * bytes_width) bs) in
       at-changed by g k xs bs r _ bs w a
@@ -285,7 +283,7 @@ module _ (g k : ℕ) (xs bs : List ℕ) (w : Wf xs bs) (f : FreeSlot g xs k) whe
       let p = w.numbers_fit in
       rw (add-zero (k * stretch_width)) at (part-put-around (k * stretch_width) stretch_width xs 0 (made_header g) (omega arith) (omega arith))
 
-  made-cell : (cell_at k with bs ≡ some (pair g empty_table)) × stretch.Wf (stretch_at k with) (bytes_at k bs)
+  made-cell : (cell_at k with bs ≡ Some (pair g empty_table)) × stretch.Wf (stretch_at k with) (bytes_at k bs)
   unfolding cell_at stretch_at bytes_at
   made-cell =
       let b = f.inside in
@@ -293,14 +291,14 @@ module _ (g k : ℕ) (xs bs : List ℕ) (w : Wf xs bs) (f : FreeSlot g xs k) whe
       let q = w.bytes_fit in
       rw made-stretch (make-cell g (stretch_at k xs) (bytes_at k bs) (length_part (k * stretch_width) stretch_width xs (omega arith)) (length_part (k * bytes_width) bytes_width bs (omega arith)))
 
-  was_free : get_or (cells xs bs) k none ≡ none
+  was_free : get_or (cells xs bs) k None ≡ None
   was_free = get_or-cells k xs bs f.inside ∙ free-cell k xs bs f.free
 
-  was-absent : lookup numbers g (map_of (cells xs bs)) ≡ none
+  was-absent : lookup numbers g (map_of (cells xs bs)) ≡ None
   unfolding groups_of
   was-absent = lookup-free g k xs bs f
 
-  made_cells : cells with bs ≡ set (cells xs bs) k (some (pair g empty_table))
+  made_cells : cells with bs ≡ set (cells xs bs) k (Some (pair g empty_table))
   made_cells = only-cells below w.numbers_fit w.bytes_fit made-only f.inside ∙ rw made-cell.0
 
   pub made_wf : Wf with bs
@@ -320,14 +318,14 @@ module _ (g k : ℕ) (xs bs : List ℕ) (w : Wf xs bs) (f : FreeSlot g xs k) whe
   pub made_same : made (lookup numbers g (groups_of xs bs)) ≡ table_in (stretch_at k with) (bytes_at k bs)
   made_same = free-table ∙ sym made_table
 
-  module _ (by : Table → Result Table) (r : Outcome) (xs' bs' : List ℕ) (c : ChangedAt by k with bs r xs' bs') where
+  module _ (by : Table → Result Table) (r : ByCause (Unit {0})) (xs' bs' : List ℕ) (c : ChangedAt by k with bs r xs' bs') where
     all-only : Only k xs bs xs' bs'
     all-only = only-again k xs bs with bs xs' bs' below w.numbers_fit w.bytes_fit made-only c.only
 
     pub grown_wf : Wf xs' bs'
     grown_wf = wf-is by g k with bs r xs' bs' made_wf made_at c
 
-    grown-cells : cells xs' bs' ≡ set (cells xs bs) k (some (pair g (table_in (stretch_at k xs') (bytes_at k bs'))))
+    grown-cells : cells xs' bs' ≡ set (cells xs bs) k (Some (pair g (table_in (stretch_at k xs') (bytes_at k bs'))))
     grown-cells = cells_are by g k with bs r xs' bs' made_wf made_at c ∙ rw made_cells (set-set (cells xs bs) k _ _)
 
     grown-groups : groups_of xs' bs' ≡ insert numbers g (table_in (stretch_at k xs') (bytes_at k bs')) (groups_of xs bs)
@@ -349,8 +347,8 @@ module _ (g k : ℕ) (xs bs : List ℕ) (w : Wf xs bs) (f : FreeSlot g xs k) whe
     gone-cells : cells without bs' ≡ cells xs bs
     gone-cells =
         only-cells below grown_wf.numbers_fit grown_wf.bytes_fit gone.1 f.inside
-        ∙ rw (free-cell k without bs' gone.0, grown-cells, set-set (cells xs bs) k (some (pair g (table_in (stretch_at k xs') (bytes_at k bs')))) none)
-        (rw was_free at (set-get_or (cells xs bs) k none))
+        ∙ rw (free-cell k without bs' gone.0, grown-cells, set-set (cells xs bs) k (Some (pair g (table_in (stretch_at k xs') (bytes_at k bs')))) None)
+        (rw was_free at (set-get_or (cells xs bs) k None))
 
     gone_wf : Wf without bs'
     gone_wf =
@@ -361,33 +359,33 @@ module _ (g k : ℕ) (xs bs : List ℕ) (w : Wf xs bs) (f : FreeSlot g xs k) whe
     gone-only : Only k xs bs without bs'
     gone-only = only-again k xs bs xs' bs' without bs' below w.numbers_fit w.bytes_fit all-only gone.1
 
-  pub made-done : (by : Table → Result Table) (xs' bs' : List ℕ) → ChangedAt by k with bs Done xs' bs' → ChangedGroup by g (Free k) xs bs Done xs' bs'
+  pub made-done : (by : Table → Result Table) (xs' bs' : List ℕ) → ChangedAt by k with bs (Ok tt) xs' bs' → ChangedGroup by g (Free k) xs bs (Ok tt) xs' bs'
   unfolding OnlySlot
   made-done by xs' bs' c =
       record {
         rule =
-            rw (grown-groups by Done xs' bs' c)
-            (on_ok by g (groups_of xs bs) empty_table free-table _ (rw made_table at (sym c.changed.rule)) (room by Done xs' bs' c _));
+            rw (grown-groups by (Ok tt) xs' bs' c)
+            (on_ok by g (groups_of xs bs) empty_table free-table _ (rw made_table at (sym c.changed.rule)) (room by (Ok tt) xs' bs' c _));
         left = λ n e. let z : ◌≡◌ {A = ℕ} 0 1 = cc in absurd (omega arith);
-        only = all-only by Done xs' bs' c;
-        wf = grown_wf by Done xs' bs' c;
+        only = all-only by (Ok tt) xs' bs' c;
+        wf = grown_wf by (Ok tt) xs' bs' c;
       }
 
-  pub made-refused : (by : Table → Result Table) (n : ℕ) (xs' bs' : List ℕ) → ChangedAt by k with bs (Refused n) xs' bs' → ChangedGroup by g (Free k) xs bs (Refused n) (set xs' (k * stretch_width) 0) bs'
+  pub made-refused : (by : Table → Result Table) (n : Cause) (xs' bs' : List ℕ) → ChangedAt by k with bs (Err n) xs' bs' → ChangedGroup by g (Free k) xs bs (Err n) (set xs' (k * stretch_width) 0) bs'
   unfolding OnlySlot
   made-refused by n xs' bs' c =
       record {
         rule = on-refused by g (groups_of xs bs) empty_table free-table _ (rw made_table at (sym c.changed.rule));
-        left = λ m e. gone-cells by (Refused n) xs' bs' c;
-        only = gone-only by (Refused n) xs' bs' c;
-        wf = gone_wf by (Refused n) xs' bs' c;
+        left = λ m e. gone-cells by (Err n) xs' bs' c;
+        only = gone-only by (Err n) xs' bs' c;
+        wf = gone_wf by (Err n) xs' bs' c;
       }
 
-  pub made-done-leaves : (c : Change) (xs' bs' : List ℕ) → LeavesSlot c (Free k) xs bs Done xs' bs'
+  pub made-done-leaves : (c : Change) (xs' bs' : List ℕ) → LeavesSlot c (Free k) xs bs (Ok tt) xs' bs'
   unfolding ChangeLeaves
   made-done-leaves c xs' bs' = record { done = tt; refused = λ n e. (let z : ◌≡◌ {A = ℕ} 0 1 = cc in absurd (omega arith)) }
 
-  pub made-refused-leaves : (c : Change) (by : Table → Result Table) (n : ℕ) (xs' bs' : List ℕ) → ChangedAt by k with bs (Refused n) xs' bs' → LeavesSlot c (Free k) xs bs (Refused n) (set xs' (k * stretch_width) 0) bs'
+  pub made-refused-leaves : (c : Change) (by : Table → Result Table) (n : Cause) (xs' bs' : List ℕ) → ChangedAt by k with bs (Err n) xs' bs' → LeavesSlot c (Free k) xs bs (Err n) (set xs' (k * stretch_width) 0) bs'
   unfolding ChangeLeaves RowsStay
   made-refused-leaves c by n xs' bs' a =
       let d = a.changed.left n refl in
@@ -403,14 +401,14 @@ module _ (g k : ℕ) (xs bs : List ℕ) (w : Wf xs bs) (f : FreeSlot g xs k) whe
 
 -- ---- no stretch is free
 
-pub full-leaves : (c : Change) (r : Outcome) (xs bs : List ℕ) → LeavesSlot c Full xs bs r xs bs
+pub full-leaves : (c : Change) (r : ByCause (Unit {0})) (xs bs : List ℕ) → LeavesSlot c Full xs bs r xs bs
 unfolding ChangeLeaves RowsStay
 full-leaves c r xs bs = record { done = tt; refused = λ n e. tt }
 
 pub full-table : (g : ℕ) (xs bs : List ℕ) → NoSlot g xs → made (lookup numbers g (groups_of xs bs)) ≡ empty_table
 full-table g xs bs f = rw (lookup-full g xs bs f) made_none
 
-pub full-refused : (by : Table → Result Table) (g : ℕ) (xs bs : List ℕ) → Wf xs bs → NoSlot g xs → (t : Table) × (by empty_table ≡ ok t) → ChangedGroup by g Full xs bs (Refused 18) xs bs
+pub full-refused : (by : Table → Result Table) (g : ℕ) (xs bs : List ℕ) → Wf xs bs → NoSlot g xs → (t : Table) × (by empty_table ≡ Ok t) → ChangedGroup by g Full xs bs (Err LimitPassed) xs bs
 unfolding OnlySlot
 full-refused by g xs bs w f t =
     record {
@@ -431,7 +429,7 @@ at-removed g k xs bs w a =
     let d = freed k xs bs a.inside w.numbers_fit w.bytes_fit in
     let l = in_cells k xs bs a.inside in
     let h = at_place g k xs bs a in
-    let e : cells (set xs (k * stretch_width) 0) bs ≡ set (cells xs bs) k none = only-cells b w.numbers_fit w.bytes_fit d.1 a.inside ∙ rw (free-cell k (set xs (k * stretch_width) 0) bs d.0) in
+    let e : cells (set xs (k * stretch_width) 0) bs ≡ set (cells xs bs) k None = only-cells b w.numbers_fit w.bytes_fit d.1 a.inside ∙ rw (free-cell k (set xs (k * stretch_width) 0) bs d.0) in
     record {
       rule = rw e (map-free (cells xs bs) k g _ w.distinct l h);
       only = d.1;

@@ -1,7 +1,7 @@
 -- The laws of the stretches and the cells: what is the same where stretches are the same, and what one changed stretch leaves.
 -- Assumes nothing.
 use Rattle.std.specs.Prelude.{true, List, [], ◌∷◌, ◌≡◌, refl, ℕ, zero, suc, ◌+◌, ◌*◌, ◌≤◌, ◌<◌, eqb, length, take, drop, get_or, set}
-use Rattle.std.proofs.Math.Option.{none}
+use Rattle.std.specs.Prelude.{None}
 use Rattle.std.proofs.Common.{sym, ap, ◌∙◌, zero-add, add-zero, add-suc, suc-add, arith, length-take, get_or-set_same, eqb-true}
 use Rattle.std.proofs.lemmas.Bool.{eqb-false}
 use Rattle.cells.specs.Part.{put}
@@ -24,7 +24,7 @@ unfolding cells_by
 length-cells_by f k zero = refl
 length-cells_by f k (suc n) = ap suc (length-cells_by f (suc k) n)
 
-pub get_or-cells_by : (f : ℕ → Cell Table) (k n i : ℕ) → i < n → get_or (cells_by f k n) i none ≡ f (k + i)
+pub get_or-cells_by : (f : ℕ → Cell Table) (k n i : ℕ) → i < n → get_or (cells_by f k n) i None ≡ f (k + i)
 unfolding cells_by
 get_or-cells_by f k zero i h = absurd (omega arith)
 get_or-cells_by f k (suc n) zero h = rw (add-zero k)
@@ -49,7 +49,7 @@ pub length-cells : (xs bs : List ℕ) → length (cells xs bs) ≡ slots
 unfolding cells
 length-cells xs bs = length-cells_by _ 0 slots
 
-pub get_or-cells : (k : ℕ) (xs bs : List ℕ) → k < slots → get_or (cells xs bs) k none ≡ cell_at k xs bs
+pub get_or-cells : (k : ℕ) (xs bs : List ℕ) → k < slots → get_or (cells xs bs) k None ≡ cell_at k xs bs
 unfolding cells
 get_or-cells k xs bs l = rw (zero-add k) at (get_or-cells_by (λ j. cell_at j xs bs) 0 slots k l)
 

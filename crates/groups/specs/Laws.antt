@@ -2,7 +2,8 @@
 -- behind a changed stretch, and what the stretches go back to. Assumes nothing.
 use Rattle.std.specs.Prelude.{Bool, true, false, List, [], ◌≡◌, refl, ℕ, ◌+◌, ◌*◌, ◌%◌, ◌≤◌, ◌<◌, eqb, length, take, drop, get_or, set}
 use Rattle.std.proofs.lemmas.Bool.{false≢true, eqb-false}
-use Rattle.std.proofs.Math.Option.{none, some, some-injective, none-ne-some}
+use Rattle.std.specs.Prelude.{None, Some}
+use Rattle.std.proofs.lemmas.Option.{same_Some, none-some}
 use Rattle.std.proofs.Common.{sym, ap, ◌∙◌, add-zero, arith, length-drop, eqb-true}
 use Rattle.cells.specs.PartLaws.{get_or-part}
 use Rattle.maps.specs.BoolLaws.{clash}
@@ -42,25 +43,25 @@ unfolding Found
 found-full g xs r f e = rw e at f
 
 -- the cells of a stretch that is used, that is of group g, and that is free
-pub used-cell : (k : ℕ) (xs bs : List ℕ) → is_used (stretch_at k xs) ≡ true → cell_at k xs bs ≡ some (pair (group_in (stretch_at k xs)) (table_in (stretch_at k xs) (bytes_at k bs)))
+pub used-cell : (k : ℕ) (xs bs : List ℕ) → is_used (stretch_at k xs) ≡ true → cell_at k xs bs ≡ Some (pair (group_in (stretch_at k xs)) (table_in (stretch_at k xs) (bytes_at k bs)))
 unfolding cell_at
 used-cell k xs bs u = cell-used (stretch_at k xs) (bytes_at k bs) u
 
-pub at-cell : (g k : ℕ) (xs bs : List ℕ) → AtSlot g xs k → cell_at k xs bs ≡ some (pair g (table_in (stretch_at k xs) (bytes_at k bs)))
+pub at-cell : (g k : ℕ) (xs bs : List ℕ) → AtSlot g xs k → cell_at k xs bs ≡ Some (pair g (table_in (stretch_at k xs) (bytes_at k bs)))
 at-cell g k xs bs a = used-cell k xs bs a.used ∙ rw a.number
 
-pub free-cell : (k : ℕ) (xs bs : List ℕ) → is_used (stretch_at k xs) ≡ false → cell_at k xs bs ≡ none
+pub free-cell : (k : ℕ) (xs bs : List ℕ) → is_used (stretch_at k xs) ≡ false → cell_at k xs bs ≡ None
 unfolding cell_at
 free-cell k xs bs u = cell_free (stretch_at k xs) (bytes_at k bs) u
 
 -- the cell says where its group stands and what its table is
-pub cell_at_lem : (g k : ℕ) (t : Table) (xs bs : List ℕ) → k < slots → cell_at k xs bs ≡ some (pair g t) → AtSlot g xs k × (table_in (stretch_at k xs) (bytes_at k bs) ≡ t)
+pub cell_at_lem : (g k : ℕ) (t : Table) (xs bs : List ℕ) → k < slots → cell_at k xs bs ≡ Some (pair g t) → AtSlot g xs k × (table_in (stretch_at k xs) (bytes_at k bs) ≡ t)
 cell_at_lem g k t xs bs l e =
     split (is_used (stretch_at k xs))
     (λ u.
-    let q = some-injective _ (pair g t) (sym (used-cell k xs bs u) ∙ e) in
+    let q = same_Some _ (pair g t) (sym (used-cell k xs bs u) ∙ e) in
     (record { inside = l; used = u; number = ap (λ p. p.key) q }, ap (λ p. p.val) q))
-    (λ u. absurd (none-ne-some _ (sym (free-cell k xs bs u) ∙ e)))
+    (λ u. absurd (none-some _ (sym (free-cell k xs bs u) ∙ e)))
 
 -- a stretch whose first number is 0 is free
 pub no_use : (k : ℕ) (xs : List ℕ) → get_or xs (k * stretch_width) 0 ≡ 0 → is_used (stretch_at k xs) ≡ false
@@ -69,7 +70,7 @@ no_use k xs z = rw (get_or-part (k * stretch_width) stretch_width xs 0 0 (omega 
 
 -- ---- what is looked up
 
-pub lookup-found : (g k : ℕ) (xs bs : List ℕ) → Wf xs bs → AtSlot g xs k → lookup numbers g (groups_of xs bs) ≡ some (table_in (stretch_at k xs) (bytes_at k bs))
+pub lookup-found : (g k : ℕ) (xs bs : List ℕ) → Wf xs bs → AtSlot g xs k → lookup numbers g (groups_of xs bs) ≡ Some (table_in (stretch_at k xs) (bytes_at k bs))
 unfolding groups_of
 lookup-found g k xs bs w a =
     lookup_at (cells xs bs) k g _ w.distinct (rw (length-cells xs bs) a.inside) (get_or-cells k xs bs a.inside ∙ at-cell g k xs bs a)
@@ -85,15 +86,15 @@ other-cell g j xs bs n =
 abbrev pub Absent : ℕ → List ℕ → Type 0
 Absent g xs = (j : ℕ) → j < slots → is_of g (stretch_at j xs) ≡ false
 
-pub lookup-none : (g : ℕ) (xs bs : List ℕ) → Absent g xs → lookup numbers g (groups_of xs bs) ≡ none
+pub lookup-none : (g : ℕ) (xs bs : List ℕ) → Absent g xs → lookup numbers g (groups_of xs bs) ≡ None
 unfolding groups_of
 lookup-none g xs bs n =
     lookup_absent (cells xs bs) g (λ i l. let h : i < slots = omega (arith, length-cells xs bs) in rw (get_or-cells i xs bs h) (other-cell g i xs bs (n i h)))
 
-pub lookup-free : (g k : ℕ) (xs bs : List ℕ) → FreeSlot g xs k → lookup numbers g (groups_of xs bs) ≡ none
+pub lookup-free : (g k : ℕ) (xs bs : List ℕ) → FreeSlot g xs k → lookup numbers g (groups_of xs bs) ≡ None
 lookup-free g k xs bs f = lookup-none g xs bs f.absent
 
-pub lookup-full : (g : ℕ) (xs bs : List ℕ) → NoSlot g xs → lookup numbers g (groups_of xs bs) ≡ none
+pub lookup-full : (g : ℕ) (xs bs : List ℕ) → NoSlot g xs → lookup numbers g (groups_of xs bs) ≡ None
 lookup-full g xs bs f = lookup-none g xs bs f.absent
 
 -- ---- the limits
@@ -106,8 +107,8 @@ groups-fit xs bs w = (
       let h : i < slots = omega (arith, length-cells xs bs) in
       let c = sym (get_or-cells i xs bs h) ∙ e in
       split (is_used (stretch_at i xs))
-      (λ u. rw (← some-injective _ p (sym (used-cell i xs bs u) ∙ c)) (wf-fits (stretch_at i xs) (bytes_at i bs) (w.used i h u)))
-      (λ u. absurd (none-ne-some p (sym (free-cell i xs bs u) ∙ c)))),
+      (λ u. rw (← same_Some _ p (sym (used-cell i xs bs u) ∙ c)) (wf-fits (stretch_at i xs) (bytes_at i bs) (w.used i h u)))
+      (λ u. absurd (none-some p (sym (free-cell i xs bs u) ∙ c)))),
 )
 
 pub groups-ascend : (xs bs : List ℕ) → Ascending numbers (groups_of xs bs)
@@ -263,7 +264,7 @@ module _ (g : ℕ) (slot : Slot) (xs bs xs' bs' : List ℕ) (f : Found g xs slot
 -- a cell is as it was where all are
 cell_stays : (k : ℕ) (xs bs xs' bs' : List ℕ) → k < slots → cells xs' bs' ≡ cells xs bs → cell_at k xs' bs' ≡ cell_at k xs bs
 cell_stays k xs bs xs' bs' l e =
-    sym (get_or-cells k xs' bs' l) ∙ ap (λ (c : List (Cell Table)). get_or c k none) e ∙ get_or-cells k xs bs l
+    sym (get_or-cells k xs' bs' l) ∙ ap (λ (c : List (Cell Table)). get_or c k None) e ∙ get_or-cells k xs bs l
 
 -- the cells are as they were, and the rows and keys of the slot's stretch; so is what they go back to
 pub left-undone : (g : ℕ) (slot : Slot) (xs bs xs' bs' : List ℕ) → Found g xs slot → numbers_in_use ≤ length xs → bytes_in_use ≤ length bs → OnlySlot slot xs bs xs' bs' → RowsStay slot xs bs xs' bs' → cells xs' bs' ≡ cells xs bs → Undoable xs bs → (undone_cells xs' bs' ≡ undone_cells xs bs) × Undoable xs' bs'

@@ -2,7 +2,7 @@
 -- was; 1, it was free; 2 + 2 low, the spare holds the rest of the header that it had, and its rows of entries from row `low` on;
 -- one more, its keys too. What the spare does not hold of these is still in stretch k.
 use Rattle.std.specs.Prelude.{Bool, cond, true, List, [], ◌∷◌, ◌≡◌, ℕ, ◌+◌, ◌-◌, ◌*◌, ◌/◌, ◌%◌, ◌≤◌, ◌<◌, eqb, length, get_or, take, drop}
-use Rattle.std.proofs.Math.Option.{none}
+use Rattle.std.specs.Prelude.{None}
 use Rattle.cells.specs.Part.{part, put}
 use Rattle.maps.specs.Cells.{Cell, Distinct}
 use Rattle.rules.specs.Table.{Table}
@@ -50,7 +50,7 @@ back_bytes_at k xs bs = back_bytes (mark_at k xs) (bytes_at k bs) (bytes_at (slo
 -- the cell that stretch k goes back to
 unfoldable pub undone_cell : ℕ → List ℕ → List ℕ → Cell Table
 undone_cell k xs bs =
-    cond (eqb (mark_at k xs) 0) (cell_at k xs bs) (cond (eqb (mark_at k xs) 1) none (cell_of (back_at k xs) (back_bytes_at k xs bs)))
+    cond (eqb (mark_at k xs) 0) (cell_at k xs bs) (cond (eqb (mark_at k xs) 1) None (cell_of (back_at k xs) (back_bytes_at k xs bs)))
 
 unfoldable pub undone_cells : List ℕ → List ℕ → List (Cell Table)
 undone_cells xs bs = cells_by (λ k. undone_cell k xs bs) 0 slots

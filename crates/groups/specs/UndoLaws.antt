@@ -1,6 +1,6 @@
 -- The laws of what the stretches go back to: it depends on the stretches and the spare ones, each by itself. Assumes nothing.
 use Rattle.std.specs.Prelude.{Bool, true, List, [], ◌∷◌, ◌≡◌, ℕ, ◌+◌, ◌*◌, ◌%◌, ◌≤◌, ◌<◌, eqb, length, get_or}
-use Rattle.std.proofs.Math.Option.{none}
+use Rattle.std.specs.Prelude.{None}
 use Rattle.std.proofs.Common.{sym, ap, ◌∙◌, add-zero, arith, eq-eqb, ne_eqb, eqb-true}
 use Rattle.std.proofs.lemmas.Bool.{eqb-false}
 use Rattle.cells.specs.Part.{part, put}
@@ -41,7 +41,7 @@ pub undone-kept : (k : ℕ) (xs bs : List ℕ) → mark_at k xs ≡ 0 → undone
 unfolding undone_cell
 undone-kept k xs bs e = rw (eq-eqb (mark_at k xs) 0 e)
 
-pub undone-free : (k : ℕ) (xs bs : List ℕ) → mark_at k xs ≡ 1 → undone_cell k xs bs ≡ none
+pub undone-free : (k : ℕ) (xs bs : List ℕ) → mark_at k xs ≡ 1 → undone_cell k xs bs ≡ None
 unfolding undone_cell
 undone-free k xs bs e = rw (ne_eqb (mark_at k xs) 0 (λ z. omega arith), eq-eqb (mark_at k xs) 1 e)
 

@@ -9,8 +9,8 @@ ghost use Rattle.groups.specs.Area.{stretch_at, bytes_at, groups_of, Wf, Found};
 ghost use Rattle.groups.specs.Calls.{ChangedAt, ChangedGroup, RemovedGroup, LeavesStretch, LeavesSlot};
 
 use crate::Slot;
-use pipe_log::causes::LIMIT_PASSED;
-use stretch::{BYTES, Change, KEYS_AT, Outcome, STRETCH};
+use pipe_log::Cause;
+use stretch::{BYTES, Change, KEYS_AT, STRETCH};
 
 // Carries out a change on the group of stretch k.
 fn apply_at(
@@ -21,7 +21,7 @@ fn apply_at(
     rows: &[u64],
     key: &[u8],
     value: &[u8],
-) -> Outcome
+) -> Result<(), Cause>
     requires wf { Wf xs.old bs.old }
     requires k_bound { (k < 8) × (is_used (stretch_at k xs.old) ≡ true) }
     requires ready { Ready change rows.now key.now value.now (table_in (stretch_at k xs.old) (bytes_at k bs.old)) }
@@ -71,7 +71,7 @@ fn apply_made(
     rows: &[u64],
     key: &[u8],
     value: &[u8],
-) -> Outcome
+) -> Result<(), Cause>
     requires wf { Wf xs.old bs.old }
     requires found { Found group xs.old (Slot.Free k) }
     requires ready { Ready change rows.now key.now value.now (made (lookup numbers group (groups_of xs.old bs.old))) }
@@ -81,10 +81,10 @@ fn apply_made(
     make_at(xs, k, group);
     let answer = apply_at(xs, bs, k, change, rows, key, value);
     match answer {
-        Outcome::Done => Outcome::Done,
-        Outcome::Refused(number) => {
+        Ok(()) => Ok(()),
+        Err(cause) => {
             free_at(xs, k);
-            Outcome::Refused(number)
+            Err(cause)
         }
     }
 }
@@ -99,7 +99,7 @@ pub fn apply(
     rows: &[u64],
     key: &[u8],
     value: &[u8],
-) -> Outcome
+) -> Result<(), Cause>
     requires wf { Wf xs.old bs.old }
     requires found { Found group xs.old slot }
     requires ready { Ready change rows.now key.now value.now (made (lookup numbers group (groups_of xs.old bs.old))) }
@@ -109,7 +109,7 @@ pub fn apply(
     match slot {
         Slot::At(k) => apply_at(xs, bs, k, change, rows, key, value),
         Slot::Free(k) => apply_made(xs, bs, k, group, change, rows, key, value),
-        Slot::Full => Outcome::Refused(LIMIT_PASSED),
+        Slot::Full => Err(Cause::LimitPassed),
     }
 }
 

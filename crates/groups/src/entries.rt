@@ -6,8 +6,8 @@ ghost use Rattle.groups.specs.Area.{Wf, AtSlot};
 ghost use Rattle.groups.specs.Calls.{ChangedGroup};
 
 use crate::Slot;
-use pipe_log::Gate;
-use stretch::{Change, KEYS_AT, Outcome, STRETCH};
+use pipe_log::Cause;
+use stretch::{Change, KEYS_AT, STRETCH};
 
 // Appends entries of the Append queue, live or replayed, to the group of stretch k. Its bytes stay.
 pub fn append_at(
@@ -18,7 +18,7 @@ pub fn append_at(
     first: u64,
     rows: &[u64],
     live: bool,
-) -> Outcome
+) -> Result<(), Cause>
     requires wf { Wf xs.old bs.now }
     requires at_slot { AtSlot group xs.old k }
     requires lent { Lent 0 first rows.now }
@@ -37,8 +37,8 @@ pub fn rewrite_at(
     group: u64,
     first: u64,
     rows: &[u64],
-    gate: Gate,
-) -> Outcome
+    gate: Option<u64>,
+) -> Result<(), Cause>
     requires wf { Wf xs.old bs.now }
     requires at_slot { AtSlot group xs.old k }
     requires lent { Lent 1 first rows.now }

@@ -37,7 +37,7 @@ fn save_header(xs: &mut [u64], k: usize)
     let to = (SLOTS + k) * STRETCH;
     if xs[to] == 0 {
         let entries = xs[from + ENTRY_COUNT];
-        cells::shift_up_u64(xs, from + 1, to + 1, HEADER_REST);
+        cells::shift(xs, from + 1, to + 1, HEADER_REST);
         xs[to] = 2 + 2 * entries;
     }
 }
@@ -58,7 +58,7 @@ fn save_rows(xs: &mut [u64], k: usize, first: usize)
         return;
     }
     let place = ENTRIES_AT + first * ENTRY_WIDTH;
-    cells::shift_up_u64(
+    cells::shift(
         xs,
         k * STRETCH + place,
         to + place,
@@ -79,8 +79,8 @@ fn save_keys(xs: &mut [u64], bs: &mut [u8], k: usize)
         return;
     }
     let keys = xs[to + KEY_COUNT] as usize;
-    cells::shift_up_u64(xs, k * STRETCH + KEYS_AT, to + KEYS_AT, keys * ROW_WIDTH);
-    cells::shift_up_u8(bs, k * BYTES, (SLOTS + k) * BYTES, keys * ROW_BYTES);
+    cells::shift(xs, k * STRETCH + KEYS_AT, to + KEYS_AT, keys * ROW_WIDTH);
+    cells::shift(bs, k * BYTES, (SLOTS + k) * BYTES, keys * ROW_BYTES);
     xs[to] = mark + 1;
 }
 
@@ -165,8 +165,8 @@ fn restore_front(xs: &mut [u64], k: usize)
     let low = (xs[from] / 2 - 1) as usize;
     let entries = xs[from + ENTRY_COUNT] as usize;
     let place = ENTRIES_AT + low * ENTRY_WIDTH;
-    cells::shift_down_u64(xs, from + 1, to + 1, HEADER_REST);
-    cells::shift_down_u64(xs, from + place, to + place, (entries - low) * ENTRY_WIDTH);
+    cells::shift(xs, from + 1, to + 1, HEADER_REST);
+    cells::shift(xs, from + place, to + place, (entries - low) * ENTRY_WIDTH);
     xs[to] = 1;
 }
 
@@ -178,8 +178,8 @@ fn restore_keys(xs: &mut [u64], bs: &mut [u8], k: usize)
 {
     let from = (SLOTS + k) * STRETCH;
     let keys = xs[from + KEY_COUNT] as usize;
-    cells::shift_down_u64(xs, from + KEYS_AT, k * STRETCH + KEYS_AT, keys * ROW_WIDTH);
-    cells::shift_down_u8(bs, (SLOTS + k) * BYTES, k * BYTES, keys * ROW_BYTES);
+    cells::shift(xs, from + KEYS_AT, k * STRETCH + KEYS_AT, keys * ROW_WIDTH);
+    cells::shift(bs, (SLOTS + k) * BYTES, k * BYTES, keys * ROW_BYTES);
 }
 
 // Takes stretch k back.

@@ -4,7 +4,7 @@ use mathlib.Core.Path.{◌≡◌, refl, sym, ap, ◌∙◌}
 use mathlib.Core.Logic.{◌⊎◌, ⊎_elim}
 use mathlib.Core.Bool.{Bool, true, false, cond, ◌&&◌, true≢false, false≢true}
 use mathlib.Core.List.{List, [], ◌∷◌, ◌++◌, append_assoc, append-nil}
-use mathlib.Core.Option.{Option, none, some}
+use Rattle.std.specs.Prelude.{Option, None, Some}
 use Prim.Native.Nat.{ℕ, ◌≤◌}
 use native.Mathlib.Omega.{arith}
 use lib.Dec.{leb, eqb}
@@ -15,7 +15,7 @@ use Rattle.maps.specs.Maps.{Pair, Map, lookup, store, numbers, bytes}
 use Rattle.maps.specs.OrderLaws.{split, numbers_lawful, bytes_lawful}
 use Rattle.maps.specs.MapLaws.{Ascending, laid, ascending-nil, ascending-store, lookup-store, every_intro, every-lookup, length-sub, length-newer}
 use Rattle.rules.specs.Limits.{max_groups, max_entries, max_keys, max_tombstones, max_cleaned}
-use Rattle.rules.specs.Causes.{ok}
+use Rattle.rules.specs.Causes.{Ok}
 use Rattle.rules.specs.Items.{Append, same_queue, put, del, Content, entries, command, kv, LogItem, Placed, is_reserved, is_tombstone, writes, replay_append}
 use Rattle.rules.specs.Table.{Table, made, over_keys}
 use Rattle.rules.specs.Context.{context, Context, fresh, table_fits, waiting_fits, fits, limited, keeps, step}
@@ -46,7 +46,7 @@ pub record GoodContext (c : Context) : Type 0 where
   pub tombs : all_tombstones c.tombstones ≡ true
   pub within : fits c ≡ true
 
-good-changed : (x : Content) (o t : Option Table) → GoodIf o → FitIf x → changed replay_append x o ≡ ok t → GoodIf t
+good-changed : (x : Content) (o t : Option Table) → GoodIf o → FitIf x → changed replay_append x o ≡ Ok t → GoodIf t
 unfolding FitIf changed
 good-changed x o t g f h =
     split (is_reserved x)
@@ -60,12 +60,12 @@ tables-store k t m asc tables gt g =
     (split (eqb g k) (λ e. rw e gt) (λ e. rw e (tables g)))
 
 -- an accepted step leaves a good context
-pub good_step : (x : Placed) (c d : Context) → GoodContext c → FitIf x.item.content → step limited replay_append x c ≡ ok d → GoodContext d
+pub good_step : (x : Placed) (c d : Context) → GoodContext c → FitIf x.item.content → step limited replay_append x c ≡ Ok d → GoodContext d
 good_step x c d g f h =
     let s = step-taken replay_append x c d g.ascend h in
     rw s.2 (good-after s.0 s.1 (rw s.2 at s.3))
   where
-    good-after : (t : Option Table) → changed replay_append x.item.content (lookup numbers x.item.group c.groups) ≡ ok t → fits (after replay_append x.item t c) ≡ true → GoodContext (after replay_append x.item t c)
+    good-after : (t : Option Table) → changed replay_append x.item.content (lookup numbers x.item.group c.groups) ≡ Ok t → fits (after replay_append x.item t c) ≡ true → GoodContext (after replay_append x.item t c)
     good-after t e w =
         record {
           is-append = unfold after kept_by cleaned_by keeps writes same_queue in g.is-append;
@@ -100,11 +100,11 @@ leaves_reserved (kv k c) o h = tt
 
 pub record SimulatedIf (x : Content) (o n s : Option Table) : Type 0 where
   pub next : Option Table
-  pub taken : changed replay_append x n ≡ ok next
+  pub taken : changed replay_append x n ≡ Ok next
   pub again : s ≡ lay (effected x o) next
   pub leaves : Leaves x n
 
-pub simulate_if : (x : Content) (o n s : Option Table) → GoodIf o → GoodIf n → FitIf x → Leaves x (lay o n) → changed replay_append x (lay o n) ≡ ok s → SimulatedIf x o n s
+pub simulate_if : (x : Content) (o n s : Option Table) → GoodIf o → GoodIf n → FitIf x → Leaves x (lay o n) → changed replay_append x (lay o n) ≡ Ok s → SimulatedIf x o n s
 unfolding FitIf changed effected
 simulate_if x o n s go gn f l h = split (is_reserved x) skipped taken
   where
@@ -231,22 +231,22 @@ merged-larger o t asc h =
 
 -- the newer context is within the limits where the pass is
 module _ (pass newer : Context) (older : ℕ → Option Table) (groups : (g : ℕ) → lookup numbers g pass.groups ≡ lay (older g) (lookup numbers g newer.groups)) (asc : Ascending numbers newer.groups) (good : (g : ℕ) → GoodIf (lookup numbers g newer.groups)) where
-  pass-has : (g : ℕ) (t : Table) → lookup numbers g newer.groups ≡ some t → lookup numbers g pass.groups ≡ some (merge_table Append (older g) t)
+  pass-has : (g : ℕ) (t : Table) → lookup numbers g newer.groups ≡ Some t → lookup numbers g pass.groups ≡ Some (merge_table Append (older g) t)
   pass-has g t e = groups g ∙ ap (lay (older g)) e ∙ lay-made (older g) t
 
-  none-newer : (g : ℕ) → lookup numbers g pass.groups ≡ none → lookup numbers g newer.groups ≡ none
+  none-newer : (g : ℕ) → lookup numbers g pass.groups ≡ None → lookup numbers g newer.groups ≡ None
   none-newer g h = go (lookup numbers g newer.groups) refl
     where
-      go : (n : Option Table) → lookup numbers g newer.groups ≡ n → lookup numbers g newer.groups ≡ none
-      go none e = e
-      go (some t) e = absurd (some-not-none (sym (pass-has g t e) ∙ h))
+      go : (n : Option Table) → lookup numbers g newer.groups ≡ n → lookup numbers g newer.groups ≡ None
+      go None e = e
+      go (Some t) e = absurd (some-not-none (sym (pass-has g t e) ∙ h))
 
   small-newer : every (λ (p : Pair ℕ Table). table_fits p.val) pass.groups ≡ true → every (λ (p : Pair ℕ Table). table_fits p.val) newer.groups ≡ true
   small-newer h =
       every_intro numbers numbers_lawful (λ (p : Pair ℕ Table). table_fits p.val) newer.groups asc
       (λ g t e. merged-larger (older g) t (good_of t (rw e at (good g))).ascend (every-lookup numbers numbers_lawful (λ (p : Pair ℕ Table). table_fits p.val) g (merge_table Append (older g) t) pass.groups h (pass-has g t e)))
     where
-      good_of : (t : Table) → GoodIf (some t) → Good t
+      good_of : (t : Table) → GoodIf (Some t) → Good t
       good_of t g = unfold GoodIf in g
 
   pub fits-newer : length newer.tombstones ≤ length pass.tombstones → length newer.cleaned ≤ length pass.cleaned → newer.waiting ≡ pass.waiting → fits pass ≡ true → fits newer ≡ true
@@ -263,7 +263,7 @@ LeavesAt it c = Leaves it.content (lookup numbers it.group c.groups)
 
 pub record Stepped (older pass newer : Context) (x : Placed) : Type 0 where
   pub next : Context
-  pub taken : step limited replay_append x newer ≡ ok next
+  pub taken : step limited replay_append x newer ≡ Ok next
   pub related : Related older pass next
   pub leaves : LeavesAt x.item newer
 
@@ -302,11 +302,11 @@ module _ (older pass newer : Context) (x : Placed) (r : Related older pass newer
         unfold after kept_by cleaned_by keeps writes same_queue in
         fits-newer (after replay_append x.item s pass) (after replay_append x.item v.next newer) (λ g. tombed g (newer.tombstones ++ tomb_of x.item) (lookup numbers g older.groups)) (next-groups s v.next v.again) (ascending-store numbers numbers_lawful x.item.group v.next newer.groups r.good-newer.ascend) (tables-store x.item.group v.next newer.groups r.good-newer.ascend r.good-newer.tables (good-changed x.item.content (lookup numbers x.item.group newer.groups) v.next (r.good-newer.tables x.item.group) f v.taken)) (longer (pass.tombstones ++ tomb_of x.item) older.tombstones (newer.tombstones ++ tomb_of x.item) next-tombs) (longer (pass.cleaned ++ clean_of x.item) older.cleaned (newer.cleaned ++ clean_of x.item) next-cleaned) (r.good-newer.none-waits ∙ sym r.good-pass.none-waits) w
 
-    next_step : step limited replay_append x newer ≡ ok (after replay_append x.item v.next newer)
+    next_step : step limited replay_append x newer ≡ Ok (after replay_append x.item v.next newer)
     next_step = step_of limited replay_append x newer r.good-newer.ascend v.next v.taken ∙ limited-fits x.place (after replay_append x.item v.next newer) next_fits
 
   -- a step that the pass takes, the newer context takes, and they stay related
-  pub related_step : (next-pass : Context) → FitIf x.item.content → LeavesAt x.item pass → step limited replay_append x pass ≡ ok next-pass → Stepped older next-pass newer x
+  pub related_step : (next-pass : Context) → FitIf x.item.content → LeavesAt x.item pass → step limited replay_append x pass ≡ Ok next-pass → Stepped older next-pass newer x
   unfolding LeavesAt after kept_by cleaned_by keeps writes same_queue
   related_step next-pass f l h =
       let t = step-taken replay_append x pass next-pass r.good-pass.ascend h in

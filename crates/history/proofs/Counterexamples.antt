@@ -2,7 +2,7 @@
 -- appended, so that it leaves its group no entry.
 use mathlib.Core.Path.{◌≡◌, refl}
 use mathlib.Core.List.{List, [], ◌∷◌, ◌++◌}
-use Rattle.rules.specs.Causes.{ok, refuse, above_last}
+use Rattle.rules.specs.Causes.{Ok, refuse, AboveLast}
 use Rattle.rules.specs.Items.{Append, Batch, entries, command, compact}
 use Rattle.rules.proofs.Opened.{opened}
 use Rattle.rules.proofs.Terms.{several, batch, recovered, merged, held}
@@ -21,11 +21,11 @@ longer_run = second_run ++ (batch Append 3 (entries (several Append 3 7 1) ∷ [
 
 pub record WithoutPremise : Type 0 where
   -- one pass holds none, and the runs merged hold 3..4
-  pub pass-holds-none : held (recovered Append (first_run ++ second_run)) ≡ ok []
-  pub merged-holds : held (merged (recovered Append first_run) (recovered Append second_run)) ≡ ok (3 ∷ 4 ∷ [])
+  pub pass-holds-none : held (recovered Append (first_run ++ second_run)) ≡ Ok []
+  pub merged-holds : held (merged (recovered Append first_run) (recovered Append second_run)) ≡ Ok (3 ∷ 4 ∷ [])
   -- one pass holds 7, and the merge is refused with 14
-  pub pass-holds-7 : held (recovered Append (first_run ++ longer_run)) ≡ ok (7 ∷ [])
-  pub merge-refused : merged (recovered Append first_run) (recovered Append longer_run) ≡ refuse above_last
+  pub pass-holds-7 : held (recovered Append (first_run ++ longer_run)) ≡ Ok (7 ∷ [])
+  pub merge-refused : merged (recovered Append first_run) (recovered Append longer_run) ≡ refuse AboveLast
 
 pub without_premise : WithoutPremise
 unfolding opened

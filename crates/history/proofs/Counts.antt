@@ -3,7 +3,7 @@
 use mathlib.Core.Path.{◌≡◌, refl, sym, ap, ◌∙◌}
 use mathlib.Core.Bool.{true, false, cond, not, false≢true}
 use mathlib.Core.List.{List, [], ◌∷◌}
-use mathlib.Core.Option.{some}
+use Rattle.std.specs.Prelude.{Some}
 use Prim.Native.Nat.{ℕ, ◌+◌}
 use lib.ListN.{length}
 use Rattle.maps.specs.Lists.{sum}
@@ -22,22 +22,22 @@ use Rattle.history.proofs.Group.{Good, GoodIf}
 use Rattle.history.proofs.Contexts.{GoodContext}
 
 -- sums over a map of two functions that agree on what is held
-sum_by : (f g : Pair ℕ Table → ℕ) (m : Map ℕ Table) → Ascending numbers m → ((k : ℕ) (t : Table) → lookup numbers k m ≡ some t → f (pair k t) ≡ g (pair k t)) → sum f m ≡ sum g m
+sum_by : (f g : Pair ℕ Table → ℕ) (m : Map ℕ Table) → Ascending numbers m → ((k : ℕ) (t : Table) → lookup numbers k m ≡ Some t → f (pair k t) ≡ g (pair k t)) → sum f m ≡ sum g m
 unfolding sum
 sum_by f g [] asc h = refl
 sum_by f g (x ∷ xs) asc h =
     λ i. h x.key x.val (lookup_head numbers numbers_lawful x xs) i + sum_by f g xs (ascending-tail numbers x xs asc) later i
   where
-    not_first : (k : ℕ) (t : Table) → lookup numbers k xs ≡ some t → numbers.same k x.key ≡ false
+    not_first : (k : ℕ) (t : Table) → lookup numbers k xs ≡ Some t → numbers.same k x.key ≡ false
     not_first k t e =
         split (numbers.same k x.key)
         (λ u. absurd (some-not-none (sym e ∙ ap (λ j. lookup numbers j xs) (numbers_lawful.same-eq k x.key u) ∙ lookup_below numbers numbers_lawful x.key xs (ascending-head numbers x xs asc))))
         (λ u. u)
 
-    behind : (k : ℕ) (t : Table) → lookup numbers k xs ≡ some t → lookup numbers k (x ∷ xs) ≡ some t
+    behind : (k : ℕ) (t : Table) → lookup numbers k xs ≡ Some t → lookup numbers k (x ∷ xs) ≡ Some t
     behind k t e = unfold lookup in rw (not_first k t e) e
 
-    later : (k : ℕ) (t : Table) → lookup numbers k xs ≡ some t → f (pair k t) ≡ g (pair k t)
+    later : (k : ℕ) (t : Table) → lookup numbers k xs ≡ Some t → f (pair k t) ≡ g (pair k t)
     later k t e = h k t (behind k t e)
 
 sum-zero : (m : Map ℕ Table) → sum (λ p. 0) m ≡ 0
@@ -65,7 +65,7 @@ module _ (t : Table) (g : Good t) where
   counts n = rw g.is-counted
 
 module _ (c : Context) (g : GoodContext c) where
-  table-good : (k : ℕ) (t : Table) → lookup numbers k c.groups ≡ some t → Good t
+  table-good : (k : ℕ) (t : Table) → lookup numbers k c.groups ≡ Some t → Good t
   table-good k t e = unfold GoodIf in rw e at (g.tables k)
 
   pub live-append : live_entries Append c ≡ number_held c

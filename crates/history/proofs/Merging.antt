@@ -3,13 +3,13 @@
 use mathlib.Core.Path.{◌≡◌, refl, sym, ap, ◌∙◌}
 use mathlib.Core.Bool.{true, false}
 use mathlib.Core.List.{List, [], ◌∷◌, ◌++◌, append-nil}
-use mathlib.Core.Option.{Option, none, some}
+use Rattle.std.specs.Prelude.{Option, None, Some}
 use Prim.Native.Nat.{ℕ}
 use Rattle.maps.specs.Lists.{every, first, map_option, or_else}
 use Rattle.maps.specs.Maps.{Pair, Map, lookup, numbers}
 use Rattle.maps.specs.OrderLaws.{numbers_lawful}
 use Rattle.maps.specs.MapLaws.{ascending-nil, laid, every_intro}
-use Rattle.rules.specs.Causes.{ok, in_order}
+use Rattle.rules.specs.Causes.{Ok, in_order}
 use Rattle.rules.specs.Items.{Append, EntryIndex}
 use Rattle.rules.specs.Checks.{consecutive}
 use Rattle.rules.specs.Table.{Table, made, first_index_of}
@@ -34,7 +34,7 @@ no-clash o t c = by_entries t.entries refl
     by_entries [] e = unfold clashes first_index_of first map_option or_else in rw e
     by_entries (h ∷ es) e = unfold clashes first_index_of first map_option or_else in rw e (no_gap (made o).entries es h (rw (merged-entries o t, e) at c))
 
-good-table : (t : Table) → GoodIf (some t) → Good t
+good-table : (t : Table) → GoodIf (Some t) → Good t
 unfolding GoodIf
 good-table t g = g
 
@@ -51,7 +51,7 @@ good-kept c g =
       by_kind = kept_by_lem c (context Append) g.is-append (unfold KeptBy in (g.none-waits, g.cleaned-is));
     }
 
-none-accepted : (newer older : Map ℕ (List Part)) → newer ≡ [] → waiting_after newer older ≡ ok older
+none-accepted : (newer older : Map ℕ (List Part)) → newer ≡ [] → waiting_after newer older ≡ Ok older
 unfolding waiting_after in_order
 none-accepted newer older e = rw e
 
@@ -60,26 +60,26 @@ unfolding finished_tombs
 none-finished newer older e = rw e
 
 -- a newer table that does not clash is laid over
-laid-over : (o n : Option Table) → ((t : Table) → n ≡ some t → clashes Append o t ≡ false) → lay_over Append n o ≡ ok (lay o n)
+laid-over : (o n : Option Table) → ((t : Table) → n ≡ Some t → clashes Append o t ≡ false) → lay_over Append n o ≡ Ok (lay o n)
 unfolding lay_over lay laid
-laid-over o none h = refl
-laid-over o (some t) h = rw (h t refl)
+laid-over o None h = refl
+laid-over o (Some t) h = rw (h t refl)
 
 module _ (older pass newer : Context) (r : Related older pass newer) where
   abbrev tombed_older : ℕ → Option Table
   tombed_older g = tombed g newer.tombstones (lookup numbers g older.groups)
 
-  none-clash : (g : ℕ) (t : Table) → lookup numbers g newer.groups ≡ some t → clashes Append (tombed_older g) t ≡ false
+  none-clash : (g : ℕ) (t : Table) → lookup numbers g newer.groups ≡ Some t → clashes Append (tombed_older g) t ≡ false
   none-clash g t e =
       no-clash (tombed_older g) t
       (good-table (merge_table Append (tombed_older g) t) (rw (r.same-groups g ∙ ap (lay (tombed_older g)) e ∙ lay-made (tombed_older g) t) at (r.good-pass.tables g))).window
 
   -- each group of the merge is the pass's
-  own-merged : (g : ℕ) → merged_at Append newer older g ≡ ok (lookup numbers g pass.groups)
+  own-merged : (g : ℕ) → merged_at Append newer older g ≡ Ok (lookup numbers g pass.groups)
   own-merged g =
       unfinished Append newer older g r.good-newer.none-waits
       ∙ laid-over (tombed_older g) (lookup numbers g newer.groups) (none-clash g)
-      ∙ ap (λ o. ok o) (sym (r.same-groups g))
+      ∙ ap (λ o. Ok o) (sym (r.same-groups g))
 
   more-tombs : (older.tombstones ++ newer.tombstones) ++ finished_tombs newer.waiting older.waiting ≡ pass.tombstones
   more-tombs =
@@ -100,11 +100,11 @@ module _ (older pass newer : Context) (r : Related older pass newer) where
       }
 
   -- merging the newer context into the older one gives the pass
-  pub merge-related : merge newer older ≡ ok pass
+  pub merge-related : merge newer older ≡ Ok pass
   merge-related =
       let kn = good-kept newer r.good-newer in
       let ko = good-kept older r.good-older in
       merge-is Append newer older r.good-newer.is-append r.good-older.is-append
       ∙ merge_of-groups Append newer older kn ko r.good-newer.is-append (kept-accepts newer older kn ko) older.waiting pass.groups (none-accepted newer.waiting older.waiting r.good-newer.none-waits) r.good-pass.ascend own-merged
-      ∙ ap (limited none) merged-context
-      ∙ limited-fits none pass r.good-pass.within
+      ∙ ap (limited None) merged-context
+      ∙ limited-fits None pass r.good-pass.within

@@ -4,7 +4,7 @@ use mathlib.Core.Path.{◌≡◌, refl, sym, ap, ◌∙◌}
 use mathlib.Core.Logic.{⊎_elim}
 use mathlib.Core.Bool.{Bool, true, false, cond, not, ◌&&◌, and-true, true≢false, false≢true}
 use mathlib.Core.List.{List, [], ◌∷◌, ◌++◌, append_assoc, append-nil}
-use mathlib.Core.Option.{Option, none, some}
+use Rattle.std.specs.Prelude.{Option, None, Some}
 use Prim.Native.Nat.{ℕ}
 use lib.Dec.{ltb, leb, eqb}
 use borrow.Author.Tests.{lt-ltb, le-ltb, le-leb, lt-leb, eqb-true, eq-eqb, ne_eqb, eqb-false}
@@ -14,7 +14,7 @@ use Rattle.maps.specs.ListLaws.{every_append, every_all, select-append, select-s
 use Rattle.maps.specs.OrderLaws.{split, numbers_lawful, bytes_lawful}
 use Rattle.maps.specs.MapLaws.{Ascending, lookup-store, lookup-insert_same, lookup-insert-other, lookup-remove_same, lookup-remove-other}
 use Rattle.rules.specs.Limits.{reserved_key}
-use Rattle.rules.specs.Causes.{ok}
+use Rattle.rules.specs.Causes.{Ok}
 use Rattle.rules.specs.Items.{Append, FileId, EntryIndex, clean, compact, put, del, Content, entries, command, kv, LogItem, Placed, is_reserved, replay_append}
 use Rattle.rules.specs.Table.{Held, Table, empty_table, made, with_entries, with_keys, entries_below, entries_from, over, appended, compacted, put_key, delete_key, change}
 use Rattle.rules.specs.Context.{Context, fresh, limited, step}
@@ -100,16 +100,16 @@ over-left : (es old : List EntryIndex) → over old es ≡ left_of (entries es) 
 over-left [] old = over-nil old ∙ sym (left_all (entries []) old (λ i. unfold ends_entry in refl)) ∙ sym (append-nil (left_of (entries []) old))
 over-left (h ∷ hs) old = over-cons old h hs ∙ ap (λ l. l ++ (h ∷ hs)) (sym (left-append h hs old))
 
-made_some : (t : Option Table) (u : Table) → some u ≡ t → made t ≡ u
+made_some : (t : Option Table) (u : Table) → Some u ≡ t → made t ≡ u
 unfolding made or_else
 made_some t u e = rw (← e)
 
-made_none : (t : Option Table) → none ≡ t → made t ≡ empty_table
+made_none : (t : Option Table) → None ≡ t → made t ≡ empty_table
 unfolding made or_else
 made_none t e = rw (← e)
 
 -- contents that leave all entries and add none
-unchanged : (x : Content) (o t : Option Table) (u : Table) → some u ≡ t → u.entries ≡ (made o).entries → ((i : ℕ) → ends_entry i x ≡ false) → list_of x ≡ [] → (made t).entries ≡ left_of x (made o).entries ++ list_of x
+unchanged : (x : Content) (o t : Option Table) (u : Table) → Some u ≡ t → u.entries ≡ (made o).entries → ((i : ℕ) → ends_entry i x ≡ false) → list_of x ≡ [] → (made t).entries ≡ left_of x (made o).entries ++ list_of x
 unchanged x o t u e p q l =
     ap (λ (y : Table). y.entries) (made_some t u e)
     ∙ p
@@ -133,18 +133,18 @@ with_entries_lem : (es : List EntryIndex) (t : Table) → (with_entries es t).en
 unfolding with_entries
 with_entries_lem es t = refl
 
-put-kept : (k : List ℕ) (v : Option (List ℕ)) (f : Option FileId) (o t : Option Table) → FitPut v f → change replay_append (kv k (put v f)) o ≡ ok t → (made t).entries ≡ left_of (kv k (put v f)) (made o).entries ++ list_of (kv k (put v f))
+put-kept : (k : List ℕ) (v : Option (List ℕ)) (f : Option FileId) (o t : Option Table) → FitPut v f → change replay_append (kv k (put v f)) o ≡ Ok t → (made t).entries ≡ left_of (kv k (put v f)) (made o).entries ++ list_of (kv k (put v f))
 unfolding FitPut
-put-kept k none f o t x h = absurd x
-put-kept k (some v) none o t x h = absurd x
-put-kept k (some v) (some f) o t x h =
-    unchanged (kv k (put (some v) (some f))) o t (put_key k (record { value = v; file = f }) (made o)) (ok_inj (sym (change-put k v f o) ∙ h)) (put_entries k (record { value = v; file = f }) (made o)) (λ i. unfold ends_entry in refl) (unfold list_of in refl)
+put-kept k None f o t x h = absurd x
+put-kept k (Some v) None o t x h = absurd x
+put-kept k (Some v) (Some f) o t x h =
+    unchanged (kv k (put (Some v) (Some f))) o t (put_key k (record { value = v; file = f }) (made o)) (ok_inj (sym (change-put k v f o) ∙ h)) (put_entries k (record { value = v; file = f }) (made o)) (λ i. unfold ends_entry in refl) (unfold list_of in refl)
 
 -- what an accepted content leaves of the entries and adds to them
-entries-change : (x : Content) (o t : Option Table) → Fit x → change replay_append x o ≡ ok t → (made t).entries ≡ left_of x (made o).entries ++ list_of x
+entries-change : (x : Content) (o t : Option Table) → Fit x → change replay_append x o ≡ Ok t → (made t).entries ≡ left_of x (made o).entries ++ list_of x
 unfolding Fit
 entries-change (entries es) o t f h =
-    let whole = and_then_ok (appended false es (made o)) (λ x. ok (some x)) t (sym (change-entries es o) ∙ h) in
+    let whole = and_then_ok (appended false es (made o)) (λ x. Ok (Some x)) t (sym (change-entries es o) ∙ h) in
     ap (λ (y : Table). y.entries) (made_some t whole.0 (ok_inj whole.2) ∙ appended-is es (made o) whole.0 whole.1)
     ∙ with_entries_lem (over (made o).entries es) (made o)
     ∙ over-left es (made o).entries
@@ -181,7 +181,7 @@ entries-skipped (kv k c) o h = sym (append_of ∙ left_all (kv k c) (made o).ent
     append_of : left_of (kv k c) (made o).entries ++ list_of (kv k c) ≡ left_of (kv k c) (made o).entries
     append_of = unfold list_of in append-nil (left_of (kv k c) (made o).entries)
 
-pub entries-kept : (x : Content) (o t : Option Table) → FitIf x → changed replay_append x o ≡ ok t → (made t).entries ≡ left_of x (made o).entries ++ list_of x
+pub entries-kept : (x : Content) (o t : Option Table) → FitIf x → changed replay_append x o ≡ Ok t → (made t).entries ≡ left_of x (made o).entries ++ list_of x
 unfolding FitIf changed
 entries-kept x o t f h =
     split (is_reserved x)
@@ -192,12 +192,12 @@ entries-kept x o t f h =
 
 -- a key with a later item: what it puts, and else what was there unless it ends
 unfoldable pub key_by : Bool → Option Held → Option Held → Option Held
-key_by ends new old = or_else (cond ends none old) some new
+key_by ends new old = or_else (cond ends None old) Some new
 
-or_some : (o : Option Held) → or_else none some o ≡ o
+or_some : (o : Option Held) → or_else None Some o ≡ o
 unfolding or_else
-or_some none = refl
-or_some (some h) = refl
+or_some None = refl
+or_some (Some h) = refl
 
 key-stays : (g : ℕ) (k : List ℕ) (pre : List LogItem) (it : LogItem) → key_stays g k (pre ++ (it ∷ [])) ≡ (key_stays g k pre && not (eqb it.group g && ends_key k it.content))
 unfolding key_stays
@@ -206,23 +206,23 @@ key-stays g k pre it =
     ∙ ap (λ b. every (λ x. not (eqb x.group g && ends_key k x.content)) pre && b) (unfold every in and-true (not (eqb it.group g && ends_key k it.content)))
 
 -- an earlier put under one item more
-key-earlier : (stays ends : Bool) (first new old : Option Held) → or_else (cond (stays && not ends) first none) some (key_by ends new old) ≡ key_by ends new (or_else (cond stays first none) some old)
+key-earlier : (stays ends : Bool) (first new old : Option Held) → or_else (cond (stays && not ends) first None) Some (key_by ends new old) ≡ key_by ends new (or_else (cond stays first None) Some old)
 unfolding key_by or_else
-key-earlier stays ends first (some h) old = refl
-key-earlier stays true first none old = ended stays
+key-earlier stays ends first (Some h) old = refl
+key-earlier stays true first None old = ended stays
   where
-    ended : (b : Bool) → cond (b && false) first none ≡ none
+    ended : (b : Bool) → cond (b && false) first None ≡ None
     ended true = refl
     ended false = refl
-key-earlier true false first none old = refl
-key-earlier false false first none old = refl
+key-earlier true false first None old = refl
+key-earlier false false first None old = refl
 
-key-first : (ends : Bool) (new : Option Held) → key_by ends new none ≡ new
+key-first : (ends : Bool) (new : Option Held) → key_by ends new None ≡ new
 unfolding key_by
 key-first true new = or_some new
 key-first false new = or_some new
 
-key-only : (g : ℕ) (k : List ℕ) (it : LogItem) → or_else (cond (key_stays g k []) (put_to g k it) none) some none ≡ put_to g k it
+key-only : (g : ℕ) (k : List ℕ) (it : LogItem) → or_else (cond (key_stays g k []) (put_to g k it) None) Some None ≡ put_to g k it
 unfolding key_stays every or_else
 key-only g k it = refl
 
@@ -230,14 +230,14 @@ pub key-snoc : (g : ℕ) (k : List ℕ) (pre : List LogItem) (it : LogItem) → 
 unfolding key_held
 key-snoc g k [] it = key-only g k it ∙ sym (key-first (eqb it.group g && ends_key k it.content) (put_to g k it))
 key-snoc g k (x ∷ pre) it =
-    ap (or_else (cond (key_stays g k (pre ++ (it ∷ []))) (put_to g k x) none) some) (key-snoc g k pre it)
-    ∙ ap (λ b. or_else (cond b (put_to g k x) none) some (key_by (eqb it.group g && ends_key k it.content) (put_to g k it) (key_held g k pre))) (key-stays g k pre it)
+    ap (or_else (cond (key_stays g k (pre ++ (it ∷ []))) (put_to g k x) None) Some) (key-snoc g k pre it)
+    ∙ ap (λ b. or_else (cond b (put_to g k x) None) Some (key_by (eqb it.group g && ends_key k it.content) (put_to g k it) (key_held g k pre))) (key-stays g k pre it)
     ∙ key-earlier (key_stays g k pre) (eqb it.group g && ends_key k it.content) (put_to g k x) (put_to g k it) (key_held g k pre)
 
 -- ---- keys of one group
 
 -- contents that neither end nor put a key
-key-stayed : (k : List ℕ) (x : Content) (o t : Option Table) → (made t).keys ≡ (made o).keys → ends_key k x ≡ false → put_of k x ≡ none → lookup bytes k (made t).keys ≡ key_by (ends_key k x) (put_of k x) (lookup bytes k (made o).keys)
+key-stayed : (k : List ℕ) (x : Content) (o t : Option Table) → (made t).keys ≡ (made o).keys → ends_key k x ≡ false → put_of k x ≡ None → lookup bytes k (made t).keys ≡ key_by (ends_key k x) (put_of k x) (lookup bytes k (made o).keys)
 unfolding key_by or_else
 key-stayed k x o t e p q = rw (e, p, q)
 
@@ -258,33 +258,33 @@ unfolding delete_key with_keys
 delete-keys k t = refl
 
 -- a put and a delete, by whether the key is the one that is asked for
-key-put : (k j : List ℕ) (h : Held) (m : Map (List ℕ) Held) → lookup bytes k (insert bytes j h m) ≡ key_by false (cond (equal_bytes k j) (some h) none) (lookup bytes k m)
+key-put : (k j : List ℕ) (h : Held) (m : Map (List ℕ) Held) → lookup bytes k (insert bytes j h m) ≡ key_by false (cond (equal_bytes k j) (Some h) None) (lookup bytes k m)
 unfolding key_by or_else
 key-put k j h m =
     split (equal_bytes k j)
     (λ e. rw e (rw (bytes_lawful.same-eq k j e) (lookup-insert_same bytes bytes_lawful j h m)))
     (λ e. rw e (lookup-insert-other bytes bytes_lawful k j h m e))
 
-key_delete : (k j : List ℕ) (m : Map (List ℕ) Held) → Ascending bytes m → lookup bytes k (remove bytes j m) ≡ key_by (equal_bytes k j) none (lookup bytes k m)
+key_delete : (k j : List ℕ) (m : Map (List ℕ) Held) → Ascending bytes m → lookup bytes k (remove bytes j m) ≡ key_by (equal_bytes k j) None (lookup bytes k m)
 unfolding key_by or_else
 key_delete k j m asc =
     split (equal_bytes k j)
     (λ e. rw e (rw (bytes_lawful.same-eq k j e) (lookup-remove_same bytes bytes_lawful j m asc)))
     (λ e. rw e (lookup-remove-other bytes bytes_lawful k j m e))
 
-key-put_if : (j : List ℕ) (v : Option (List ℕ)) (f : Option FileId) (o t : Option Table) (k : List ℕ) → FitPut v f → change replay_append (kv j (put v f)) o ≡ ok t → lookup bytes k (made t).keys ≡ key_by (ends_key k (kv j (put v f))) (put_of k (kv j (put v f))) (lookup bytes k (made o).keys)
+key-put_if : (j : List ℕ) (v : Option (List ℕ)) (f : Option FileId) (o t : Option Table) (k : List ℕ) → FitPut v f → change replay_append (kv j (put v f)) o ≡ Ok t → lookup bytes k (made t).keys ≡ key_by (ends_key k (kv j (put v f))) (put_of k (kv j (put v f))) (lookup bytes k (made o).keys)
 unfolding FitPut ends_key put_of held_of or_else
-key-put_if j none f o t k x h = absurd x
-key-put_if j (some v) none o t k x h = absurd x
-key-put_if j (some v) (some f) o t k x h =
+key-put_if j None f o t k x h = absurd x
+key-put_if j (Some v) None o t k x h = absurd x
+key-put_if j (Some v) (Some f) o t k x h =
     ap (λ (y : Table). lookup bytes k y.keys) (made_some t (put_key j (record { value = v; file = f }) (made o)) (ok_inj (sym (change-put j v f o) ∙ h)))
     ∙ ap (lookup bytes k) (put-keys j (record { value = v; file = f }) (made o))
     ∙ key-put k j (record { value = v; file = f }) (made o).keys
 
-keys-change : (x : Content) (o t : Option Table) (k : List ℕ) → GoodIf o → Fit x → change replay_append x o ≡ ok t → lookup bytes k (made t).keys ≡ key_by (ends_key k x) (put_of k x) (lookup bytes k (made o).keys)
+keys-change : (x : Content) (o t : Option Table) (k : List ℕ) → GoodIf o → Fit x → change replay_append x o ≡ Ok t → lookup bytes k (made t).keys ≡ key_by (ends_key k x) (put_of k x) (lookup bytes k (made o).keys)
 unfolding Fit
 keys-change (entries es) o t k g f h =
-    let whole = and_then_ok (appended false es (made o)) (λ x. ok (some x)) t (sym (change-entries es o) ∙ h) in
+    let whole = and_then_ok (appended false es (made o)) (λ x. Ok (Some x)) t (sym (change-entries es o) ∙ h) in
     key-stayed k (entries es) o t
     (ap (λ (y : Table). y.keys) (made_some t whole.0 (ok_inj whole.2) ∙ appended-is es (made o) whole.0 whole.1) ∙ with_keys_lem (over (made o).entries es) (made o))
     (unfold ends_key in refl)
@@ -305,7 +305,7 @@ keys-change (kv j del) o t k g f h =
     ∙ key_delete k j (made o).keys (good-made o g).ascend
     ∙ deleted
   where
-    deleted : key_by (equal_bytes k j) none (lookup bytes k (made o).keys) ≡ key_by (ends_key k (kv j del)) (put_of k (kv j del)) (lookup bytes k (made o).keys)
+    deleted : key_by (equal_bytes k j) None (lookup bytes k (made o).keys) ≡ key_by (ends_key k (kv j del)) (put_of k (kv j del)) (lookup bytes k (made o).keys)
     deleted = unfold ends_key put_of in refl
 keys-change (kv j (put v f)) o t k g x h = key-put_if j v f o t k x h
 
@@ -320,7 +320,7 @@ keys-skipped (kv j (put v f)) o k n h =
     key-stayed k (kv j (put v f)) o o refl (unfold ends_key in refl) (unfold put_of in rw (ap (equal_bytes k) (bytes_lawful.same-eq j reserved_key h) ∙ n))
 
 -- what an accepted content does to a key that is not reserved
-pub keys_kept : (x : Content) (o t : Option Table) (k : List ℕ) → equal_bytes k reserved_key ≡ false → GoodIf o → FitIf x → changed replay_append x o ≡ ok t → lookup bytes k (made t).keys ≡ key_by (ends_key k x) (put_of k x) (lookup bytes k (made o).keys)
+pub keys_kept : (x : Content) (o t : Option Table) (k : List ℕ) → equal_bytes k reserved_key ≡ false → GoodIf o → FitIf x → changed replay_append x o ≡ Ok t → lookup bytes k (made t).keys ≡ key_by (ends_key k x) (put_of k x) (lookup bytes k (made o).keys)
 unfolding FitIf changed
 keys_kept x o t k n g f h =
     split (is_reserved x)
@@ -367,7 +367,7 @@ at_store F G g k t m asc e =
     (λ u. rw u (e ∙ ap (λ j. G (F (lookup numbers j m))) (sym (eqb-true g k u))))
     (λ u. rw u)
 
-module _ (items : List LogItem) (x : Placed) (c : Context) (good : GoodContext c) (f : FitIf x.item.content) (held : HeldBy items c) (t : Option Table) (e : changed replay_append x.item.content (lookup numbers x.item.group c.groups) ≡ ok t) where
+module _ (items : List LogItem) (x : Placed) (c : Context) (good : GoodContext c) (f : FitIf x.item.content) (held : HeldBy items c) (t : Option Table) (e : changed replay_append x.item.content (lookup numbers x.item.group c.groups) ≡ Ok t) where
   held-entries : (g : ℕ) → entries_in g (after replay_append x.item t c) ≡ entries_held g (items ++ (x.item ∷ []))
   unfolding entries_in after
   held-entries g =
@@ -385,7 +385,7 @@ module _ (items : List LogItem) (x : Placed) (c : Context) (good : GoodContext c
       ∙ sym (key-snoc g k items x.item)
 
 -- one step more, and one item more
-pub held_step : (items : List LogItem) (x : Placed) (c d : Context) → GoodContext c → FitIf x.item.content → step limited replay_append x c ≡ ok d → HeldBy items c → HeldBy (items ++ (x.item ∷ [])) d
+pub held_step : (items : List LogItem) (x : Placed) (c d : Context) → GoodContext c → FitIf x.item.content → step limited replay_append x c ≡ Ok d → HeldBy items c → HeldBy (items ++ (x.item ∷ [])) d
 held_step items x c d good f h held =
     let s = step-taken replay_append x c d good.ascend h in
     rw s.2

@@ -3,7 +3,7 @@
 use mathlib.Core.Path.{◌≡◌, sym, ap, ◌∙◌}
 use mathlib.Core.List.{List, [], ◌∷◌, ◌++◌, append_assoc, append-nil}
 use Prim.Native.Nat.{ℕ}
-use Rattle.rules.specs.Causes.{Refusal, Result, ok, refused, left}
+use Rattle.rules.specs.Causes.{Refusal, Result, Ok, Err, left}
 use Rattle.rules.specs.Items.{Append, Batch}
 use Rattle.rules.specs.Context.{Context, fresh}
 use Rattle.rules.specs.Calls.{replay, merge, join, append, rewrite}
@@ -28,26 +28,26 @@ stretch before some after e p =
     (m.0, m.1)
 
 -- a call that was refused left the context as it was
-left-refused : {A : Type 0} (c : A) (r : Result A) (x : Refusal) → r ≡ refused x → left c r ≡ c
+left-refused : {A : Type 0} (c : A) (r : Result A) (x : Refusal) → r ≡ Err x → left c r ≡ c
 unfolding left
 left-refused c r x e = rw e
 
-taking-refused : (c : Context) (r : Result (List ℕ)) (x : Refusal) → r ≡ refused x → after_taking r c ≡ c
+taking-refused : (c : Context) (r : Result (List ℕ)) (x : Refusal) → r ≡ Err x → after_taking r c ≡ c
 unfolding after_taking
 taking-refused c r x e = rw e
 
 -- the next batch of a run: where the run's context is c, the batch is taken
-next-batch : (bs : List Batch) (b : Batch) (c t : Context) → Pass bs (fresh Append) c → Pass (bs ++ (b ∷ [])) (fresh Append) t → replay b c ≡ ok t
+next-batch : (bs : List Batch) (b : Batch) (c t : Context) → Pass bs (fresh Append) c → Pass (bs ++ (b ∷ [])) (fresh Append) t → replay b c ≡ Ok t
 next-batch bs b c t q p =
     let s = pass_split bs (b ∷ []) p in
     let same = pass-unique good-fresh q s.1 in
     rw same (one s.0 (pass-good s.1 good-fresh) s.2)
   where
-    one : (x : Context) → GoodContext x → Pass (b ∷ []) x t → replay b x ≡ ok t
+    one : (x : Context) → GoodContext x → Pass (b ∷ []) x t → replay b x ≡ Ok t
     one x g (Pass.more d u h s Pass.done) = batch-replay b g u h s
 
 -- neighbouring stretches: where their contexts are c and d, the merge is taken
-next-merge : (xs ys : List Batch) (c d t : Context) → Pass xs (fresh Append) c → Pass ys (fresh Append) d → Pass (xs ++ ys) (fresh Append) t → merge d c ≡ ok t
+next-merge : (xs ys : List Batch) (c d t : Context) → Pass xs (fresh Append) c → Pass ys (fresh Append) d → Pass (xs ++ ys) (fresh Append) t → merge d c ≡ Ok t
 next-merge xs ys c d t q r p =
     let s = pass_split xs ys p in
     let m = run-merges (pass-good s.1 good-fresh) s.2 in
@@ -83,7 +83,7 @@ module _ (batches : List Batch) (premise : Premise (items_of (history batches (f
   cut : (cutting : List Batch) → history batches (fresh Append) ≡ cutting → Pass cutting (fresh Append) (one_pass batches (fresh Append))
   cut cutting e = rw e at whole.pass
 
-  next-replay : (before so_far after : List Batch) (b : Batch) (c : Context) → history batches (fresh Append) ≡ before ++ (so_far ++ (b ∷ after)) → Made (run so_far) c → (d : Context) × (replay b c ≡ ok d)
+  next-replay : (before so_far after : List Batch) (b : Batch) (c : Context) → history batches (fresh Append) ≡ before ++ (so_far ++ (b ∷ after)) → Made (run so_far) c → (d : Context) × (replay b c ≡ Ok d)
   unfolding batches_of
   next-replay before so_far after b c e m =
       let p = cut (before ++ (so_far ++ (b ∷ after))) e in
@@ -91,7 +91,7 @@ module _ (batches : List Batch) (premise : Premise (items_of (history batches (f
       let s = stretch before (so_far ++ (b ∷ [])) after (one_pass batches (fresh Append)) (rw (append_assoc so_far (b ∷ []) after) p) in
       (s.0, next-batch so_far b c s.0 q s.1)
 
-  next-merged : (before after : List Batch) (older newer : Runs) (c d : Context) → history batches (fresh Append) ≡ before ++ (batches_of (merged older newer) ++ after) → Made older c → Made newer d → (e : Context) × (merge d c ≡ ok e)
+  next-merged : (before after : List Batch) (older newer : Runs) (c d : Context) → history batches (fresh Append) ≡ before ++ (batches_of (merged older newer) ++ after) → Made older c → Made newer d → (e : Context) × (merge d c ≡ Ok e)
   unfolding batches_of
   next-merged before after older newer c d e m n =
       let p = cut (before ++ ((batches_of older ++ batches_of newer) ++ after)) e in

@@ -1,10 +1,10 @@
 -- Demand 3, clause by clause.
 use Rattle.std.specs.Prelude.{◌≡◌, false, List, ◌∷◌, ◌++◌, ℕ, ◌+◌, length}
-use Rattle.std.proofs.Math.Option.{Option}
+use Rattle.std.specs.Prelude.{Option}
 use Rattle.maps.specs.Lists.{sum}
 use Rattle.maps.specs.Maps.{Pair, lookup, numbers, bytes, equal_bytes}
 use Rattle.rules.specs.Limits.{reserved_key}
-use Rattle.rules.specs.Causes.{ok}
+use Rattle.rules.specs.Causes.{Ok}
 use Rattle.rules.specs.Items.{Append, Rewrite, EntryIndex, Batch}
 use Rattle.rules.specs.Table.{Held, Table, made}
 use Rattle.rules.specs.Context.{Context, fresh}
@@ -48,14 +48,14 @@ pub record Demand3 (batches : List Batch) : Type 1 where
       (before so_far after : List Batch) (b : Batch) (c : Context)
       → history batches (fresh Append) ≡ before ++ (so_far ++ (b ∷ after))
       → Made (run so_far) c
-      → (d : Context) × (replay b c ≡ ok d)
+      → (d : Context) × (replay b c ≡ Ok d)
   -- 'and merge': of neighbouring stretches of the history, each made by runs and merges of its own
   pub merge-accepted :
       (before after : List Batch) (older newer : Runs) (c d : Context)
       → history batches (fresh Append) ≡ before ++ (batches_of (merged older newer) ++ after)
       → Made older c
       → Made newer d
-      → (e : Context) × (merge d c ≡ ok e)
+      → (e : Context) × (merge d c ≡ Ok e)
   -- 'The last context': of runs that the whole history was cut into
   pub last : (runs : Runs) (c : Context) → batches_of runs ≡ history batches (fresh Append) → Made runs c → Last batches c
 

@@ -1,6 +1,6 @@
 -- Demand 3's rule of what is held, over a list of items. Later goes by the list's order.
 use Rattle.std.specs.Prelude.{◌≡◌, Bool, true, false, cond, not, ◌&&◌, ◌⊎◌, List, [], ◌∷◌, ◌++◌, ℕ, ltb, leb, eqb}
-use Rattle.std.proofs.Math.Option.{Option, none, some}
+use Rattle.std.specs.Prelude.{Option, None, Some}
 use Rattle.maps.specs.Lists.{select, every, or_else}
 use Rattle.maps.specs.Maps.{equal_bytes}
 use Rattle.rules.specs.Items.{FileId, EntryIndex, clean, compact, put, del, Content, entries, command, kv, LogItem}
@@ -49,22 +49,22 @@ key_stays g k later = every (λ it. not (eqb it.group g && ends_key k it.content
 
 -- what a Put with its value and file gives
 unfoldable pub held_of : Option (List ℕ) → Option FileId → Option Held
-held_of v f = or_else none (λ b. or_else none (λ i. some (record { value = b; file = i })) f) v
+held_of v f = or_else None (λ b. or_else None (λ i. Some (record { value = b; file = i })) f) v
 
 -- what a content puts at key k
 unfoldable pub put_of : List ℕ → Content → Option Held
-put_of k (entries es) = none
-put_of k (command c) = none
-put_of k (kv j del) = none
-put_of k (kv j (put v f)) = cond (equal_bytes k j) (held_of v f) none
+put_of k (entries es) = None
+put_of k (command c) = None
+put_of k (kv j del) = None
+put_of k (kv j (put v f)) = cond (equal_bytes k j) (held_of v f) None
 
 unfoldable pub put_to : ℕ → List ℕ → LogItem → Option Held
-put_to g k it = cond (eqb it.group g) (put_of k it.content) none
+put_to g k it = cond (eqb it.group g) (put_of k it.content) None
 
 -- what key k of group g holds after the items: the last put of it that stays
 unfoldable pub key_held : ℕ → List ℕ → List LogItem → Option Held
-key_held g k [] = none
-key_held g k (it ∷ later) = or_else (cond (key_stays g k later) (put_to g k it) none) some (key_held g k later)
+key_held g k [] = None
+key_held g k (it ∷ later) = or_else (cond (key_stays g k later) (put_to g k it) None) Some (key_held g k later)
 
 -- ---- the premise
 

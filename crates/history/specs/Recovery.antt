@@ -1,7 +1,7 @@
 -- One pass over a list of batches, its history, and recovery by runs that are merged.
 use Rattle.std.specs.Prelude.{◌≡◌, List, [], ◌∷◌, ◌++◌, ℕ}
-use Rattle.std.proofs.Math.Option.{Option}
-use Rattle.rules.specs.Causes.{Refusal, Result, ok, refused, left}
+use Rattle.std.specs.Prelude.{Option}
+use Rattle.rules.specs.Causes.{Refusal, Result, Ok, Err, left}
 use Rattle.rules.specs.Items.{Append, LogItem, Batch}
 use Rattle.rules.specs.Context.{Context, fresh}
 use Rattle.rules.specs.Calls.{replay, merge, join, append, rewrite}
@@ -14,8 +14,8 @@ one_pass (b ∷ bs) c = one_pass bs (left c (replay b c))
 
 -- a batch is kept in the history if it was accepted
 unfoldable pub keep_if : Result Context → Batch → List Batch → List Batch
-keep_if (ok d) b bs = b ∷ bs
-keep_if (refused r) b bs = bs
+keep_if (Ok d) b bs = b ∷ bs
+keep_if (Err r) b bs = bs
 
 -- the history: the accepted batches
 unfoldable pub history : List Batch → Context → List Batch
@@ -39,11 +39,11 @@ batches_of (merged older newer) = batches_of older ++ batches_of newer
 -- calls of any kind that are refused may come in between
 pub data Made : Runs → Context → Type 0 where
   started : Made (run []) (fresh Append)
-  replayed : {bs : List Batch} {c : Context} (b : Batch) (d : Context) → Made (run bs) c → replay b c ≡ ok d → Made (run (bs ++ (b ∷ []))) d
-  merged_into : {s t : Runs} {c d : Context} (e : Context) → Made s c → Made t d → merge d c ≡ ok e → Made (merged s t) e
-  refused_replay : {t : Runs} {c : Context} (b : Batch) (r : Refusal) → Made t c → replay b c ≡ refused r → Made t (left c (replay b c))
-  refused_merge : {t : Runs} {c : Context} (d : Context) (r : Refusal) → Made t c → merge d c ≡ refused r → Made t (left c (merge d c))
-  refused_join : {t : Runs} {c : Context} (d : Context) (r : Refusal) → Made t c → join d c ≡ refused r → Made t (left c (join d c))
-  refused_append : {t : Runs} {c : Context} (b : Batch) (r : Refusal) → Made t c → append b c ≡ refused r → Made t (left c (append b c))
-  refused_rewrite : {t : Runs} {c : Context} (gate : Option ℕ) (b : Batch) (r : Refusal) → Made t c → rewrite gate b c ≡ refused r → Made t (left c (rewrite gate b c))
-  refused_taking : {t : Runs} {c : Context} (lent : List ℕ) (r : Refusal) → Made t c → take_cleaned lent c ≡ refused r → Made t (after_taking (take_cleaned lent c) c)
+  replayed : {bs : List Batch} {c : Context} (b : Batch) (d : Context) → Made (run bs) c → replay b c ≡ Ok d → Made (run (bs ++ (b ∷ []))) d
+  merged_into : {s t : Runs} {c d : Context} (e : Context) → Made s c → Made t d → merge d c ≡ Ok e → Made (merged s t) e
+  refused_replay : {t : Runs} {c : Context} (b : Batch) (r : Refusal) → Made t c → replay b c ≡ Err r → Made t (left c (replay b c))
+  refused_merge : {t : Runs} {c : Context} (d : Context) (r : Refusal) → Made t c → merge d c ≡ Err r → Made t (left c (merge d c))
+  refused_join : {t : Runs} {c : Context} (d : Context) (r : Refusal) → Made t c → join d c ≡ Err r → Made t (left c (join d c))
+  refused_append : {t : Runs} {c : Context} (b : Batch) (r : Refusal) → Made t c → append b c ≡ Err r → Made t (left c (append b c))
+  refused_rewrite : {t : Runs} {c : Context} (gate : Option ℕ) (b : Batch) (r : Refusal) → Made t c → rewrite gate b c ≡ Err r → Made t (left c (rewrite gate b c))
+  refused_taking : {t : Runs} {c : Context} (lent : List ℕ) (r : Refusal) → Made t c → take_cleaned lent c ≡ Err r → Made t (after_taking (take_cleaned lent c) c)

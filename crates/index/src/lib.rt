@@ -3,11 +3,10 @@
 #![tactic(auto)]
 
 pub use columns::{fetch_entries_to, fetch_entry_indexes_before, fetch_rewritten_entry_indexes};
-pub use contexts::{Answer, BYTES, NUMBERS, Position, fresh};
+pub use contexts::{BYTES, NUMBERS, fresh};
 pub use merging::{join, merge};
 pub use queries::{
-    Counted, Fetched, FoundEntry, FoundNumber, SomeBefore, Taken, entry_count, fetch_kvs_before,
-    fetch_rewritten_kvs, first_index, get, get_entry, group_numbers,
+    entry_count, fetch_kvs_before, fetch_rewritten_kvs, first_index, get, get_entry, group_numbers,
     has_at_least_some_entries_before, is_empty, key_count, last_index, live_entries, min_file_seq,
     rewrite_count, scan, take_cleaned_region_logs,
 };

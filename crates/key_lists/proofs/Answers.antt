@@ -6,43 +6,35 @@ use native.Mathlib.Omega.{arith}
 use mathlib.Core.Bool.{Bool, true, false, cond, ◌&&◌, ◌||◌}
 use mathlib.Core.Path.{◌≡◌, refl, sym, ap, ◌∙◌}
 use mathlib.Core.List.{List, [], ◌∷◌, map}
-use mathlib.Core.Option.{Option}
+use Rattle.std.specs.Prelude.{Option}
 use lib.Dec.{ltb, leb, eqb}
 use lib.ListN.{length, get_or, set, take, length-take, length-map}
 use lib.Seq.{take_all, take-nil}
 use borrow.Author.Tests.{ltb-true, ltb-false, leb-true, leb-false, lt-ltb, le-ltb, le-leb, lt-leb, eq-eqb, ne_eqb}
-use Rattle.cells.specs.declared.order.Order.{Order}
-use Rattle.cells.specs.Bytes.{byte_order}
 use Rattle.cells.specs.Part.{part, put}
 use Rattle.cells.specs.PartLaws.{set-put, put-snoc}
 use Rattle.pipe_log.specs.Rows.{queue_at}
 use Rattle.maps.specs.Lists.{select}
-use Rattle.maps.specs.Maps.{Map, bytes, bytes_below}
+use Rattle.maps.specs.Maps.{Map, bytes}
 use Rattle.maps.specs.OrderLaws.{split}
 use Rattle.maps.specs.MapLaws.{Ascending}
 use Rattle.maps.specs.ListLaws.{select-select, length-select}
-use Rattle.rules.specs.Causes.{ok, refuse, and_then, bad_range}
+use Rattle.rules.specs.Causes.{BadRange, ListTooShort, ByCause, Err, Ok, refuse, and_then}
 use Rattle.rules.specs.Items.{Append, Rewrite, same_queue}
 use Rattle.rules.specs.Table.{Held, Table}
 use Rattle.rules.specs.TableQueries.{KeyValue, row_of, in_bounds, start_above_end, in_direction, scan, keys_of, fetch_kvs_before, fetch_rewritten_kvs}
 use Rattle.rules.specs.Queries.{answered}
 use Rattle.key_lists.specs.declared.Which.{Which}
 use Rattle.key_lists.specs.declared.Which.TheVariants.{UpTo, OfRewrite}
-use Rattle.key_lists.specs.declared.Fetched.{Fetched}
-use Rattle.key_lists.specs.declared.Fetched.TheVariants.{Done, BadRange, TooShort}
 use Rattle.kvs.specs.Rows.{row_at, held_of, pair_of, keys_in}
 use Rattle.kvs.specs.RowIn.{number_at}
-use Rattle.kvs.specs.Orders.{is_less, below_by-order}
 use Rattle.kvs.specs.Places.{below_bound}
 use Rattle.kvs.specs.Stretches.{in-stretch}
-use Rattle.key_lists.specs.Lists.{meets, in_list, stretch, row_lens, row_bytes, laid_by, lent_lens, lent_bytes, list_from, lent_list, fetched_as, lens_after, bytes_after, Fetches, taken, CopyIf}
+use Rattle.key_lists.specs.Lists.{meets, in_list, stretch, row_lens, row_bytes, laid_by, lent_lens, lent_bytes, list_from, lent_list, lens_after, bytes_after, Fetches, taken, CopyIf}
 use Rattle.kvs.proofs.Selected.{left, left_all, left-none, left-more}
 use Rattle.key_lists.proofs.Stretched.{length_direction, length-stretch}
 
 -- ---- which rows
-
-pub below-is : (a b : List ℕ) (o : Order) → o ≡ byte_order a b → bytes_below a b ≡ is_less o
-below-is a b o e = rw e (below_by-order a b)
 
 module _ (i : ℕ) (rows bs : List ℕ) (which : Which) (r : Bool) where
   pub meets_gate : (g : ℕ) → which ≡ UpTo g → r ≡ (same_queue (queue_at (get_or rows (i * 4 + 2) 0)) Append && leb (get_or rows (i * 4 + 3) 0) g) → r ≡ meets which (pair_of (row_at i rows bs))
@@ -162,20 +154,20 @@ unfolding lent_list
 length_lent lens out = length_list 0 _ lens out
 
 module _ (A : List KeyValue) (lens out : List ℕ) where
-  pub too_short : length (lent_list lens out) < length A → Fetches (ok A) lens out TooShort lens out
-  unfolding answered and_then fetched_as lens_after bytes_after
+  pub too_short : length (lent_list lens out) < length A → Fetches (Ok A) lens out (Err ListTooShort) lens out
+  unfolding answered and_then lens_after bytes_after
   too_short h =
       let f = lt-leb (length A) (length (lent_list lens out)) h in
       record { answer = rw f; lens-are = rw f; bytes-are = rw f }
 
-  pub all-rows : length A ≤ length (lent_list lens out) → Fetches (ok A) lens out (Done (length A)) (lent_lens 0 A lens) (lent_bytes 0 A out)
-  unfolding answered and_then fetched_as lens_after bytes_after
+  pub all-rows : length A ≤ length (lent_list lens out) → Fetches (Ok A) lens out (Ok (length A)) (lent_lens 0 A lens) (lent_bytes 0 A out)
+  unfolding answered and_then lens_after bytes_after
   all-rows h =
       let f = le-leb (length A) (length (lent_list lens out)) h in
       record { answer = rw f; lens-are = rw f; bytes-are = rw f }
 
-  pub bad-range : Fetches (refuse bad_range) lens out BadRange lens out
-  unfolding answered and_then fetched_as lens_after bytes_after
+  pub bad-range : Fetches (refuse BadRange) lens out (Err BadRange) lens out
+  unfolding answered and_then lens_after bytes_after
   bad-range = record { answer = refl; lens-are = refl; bytes-are = refl }
 
 -- up to `count` of the rows L
@@ -189,11 +181,11 @@ module _ (L : List KeyValue) (count limit : ℕ) (l : limit ≡ min count (lengt
       (λ t. let c : limit ≡ count = omega (arith, leb-true count (length L) t) in rw c)
       (λ t. let f = leb-false count (length L) t in take_all limit L (omega arith) ∙ sym (take_all count L (omega arith)))
 
-  pub rows_short : (lens out : List ℕ) → min (length lens / 2) (length out / 64) < limit → Fetches (ok (take count L)) lens out TooShort lens out
+  pub rows_short : (lens out : List ℕ) → min (length lens / 2) (length out / 64) < limit → Fetches (Ok (take count L)) lens out (Err ListTooShort) lens out
   rows_short lens out h = too_short (take count L) lens out (rw (length_lent lens out, length-limited) h)
 
   pub rows-full : (lens out lens' out' : List ℕ) → limit ≤ min (length lens / 2) (length out / 64)
-      → lens' ≡ lent_lens 0 (take limit L) lens → out' ≡ lent_bytes 0 (take limit L) out → Fetches (ok (take count L)) lens out (Done limit) lens' out'
+      → lens' ≡ lent_lens 0 (take limit L) lens → out' ≡ lent_bytes 0 (take limit L) out → Fetches (Ok (take count L)) lens out (Ok limit) lens' out'
   rows-full lens out lens' out' h p q =
       rw (p, q, limited) (rw length-limited at (all-rows (take count L) lens out (rw (length_lent lens out, length-limited) h)))
 
@@ -206,12 +198,12 @@ module _ (which : Which) (b : Bool) (m : Map (List ℕ) Held) where
     by_list : limit ≡ min count (length (in_list which b m))
     by_list = rw length-in l
 
-    pub list-short : (lens out : List ℕ) → min (length lens / 2) (length out / 64) < limit → Fetches (ok (take count (in_list which b m))) lens out TooShort lens out
+    pub list-short : (lens out : List ℕ) → min (length lens / 2) (length out / 64) < limit → Fetches (Ok (take count (in_list which b m))) lens out (Err ListTooShort) lens out
     list-short = rows_short (in_list which b m) count limit by_list
 
     pub list_full : (lens out lens' out' : List ℕ) → limit ≤ min (length lens / 2) (length out / 64)
         → lens' ≡ lent_lens 0 (take limit (in_list which b m)) lens → out' ≡ lent_bytes 0 (take limit (in_list which b m)) out
-        → Fetches (ok (take count (in_list which b m))) lens out (Done limit) lens' out'
+        → Fetches (Ok (take count (in_list which b m))) lens out (Ok limit) lens' out'
     list_full = rows-full (in_list which b m) count limit by_list
 
 -- ... of a stretch
@@ -219,19 +211,19 @@ module _ (n : ℕ) (rows bs : List ℕ) (low high : ℕ) (b : Bool) (count limit
   by-stretch : limit ≡ min count (length (stretch low high b (keys_in n rows bs)))
   by-stretch = rw (length-stretch n rows bs low high b g h) l
 
-  pub stretch-short : (lens out : List ℕ) → min (length lens / 2) (length out / 64) < limit → Fetches (ok (take count (stretch low high b (keys_in n rows bs)))) lens out TooShort lens out
+  pub stretch-short : (lens out : List ℕ) → min (length lens / 2) (length out / 64) < limit → Fetches (Ok (take count (stretch low high b (keys_in n rows bs)))) lens out (Err ListTooShort) lens out
   stretch-short = rows_short (stretch low high b (keys_in n rows bs)) count limit by-stretch
 
   pub stretch-full : (lens out lens' out' : List ℕ) → limit ≤ min (length lens / 2) (length out / 64)
       → lens' ≡ lent_lens 0 (take limit (stretch low high b (keys_in n rows bs))) lens → out' ≡ lent_bytes 0 (take limit (stretch low high b (keys_in n rows bs))) out
-      → Fetches (ok (take count (stretch low high b (keys_in n rows bs)))) lens out (Done limit) lens' out'
+      → Fetches (Ok (take count (stretch low high b (keys_in n rows bs)))) lens out (Ok limit) lens' out'
   stretch-full = rows-full (stretch low high b (keys_in n rows bs)) count limit by-stretch
 
 -- ---- the queries
 
 module _ (K : Map (List ℕ) Held) (t : Table) (k : t.keys ≡ K) where
   pub scan-is : (start end : Option (List ℕ)) (backwards : Bool) (count : ℕ)
-      → scan start end backwards count t ≡ cond (start_above_end start end || eqb count 0) (refuse bad_range) (ok (take count (in_direction backwards (map row_of (select (λ p. in_bounds start end p.key) K)))))
+      → scan start end backwards count t ≡ cond (start_above_end start end || eqb count 0) (refuse BadRange) (Ok (take count (in_direction backwards (map row_of (select (λ p. in_bounds start end p.key) K)))))
   unfolding scan
   scan-is start end backwards count = rw k
 
@@ -244,16 +236,16 @@ module _ (K : Map (List ℕ) Held) (t : Table) (k : t.keys ≡ K) where
   rewritten-is = rw k
 
   module _ (start end : Option (List ℕ)) (backwards : Bool) (count : ℕ) (lens out : List ℕ) where
-    pub scan-bounds : start_above_end start end ≡ true → Fetches (scan start end backwards count t) lens out BadRange lens out
+    pub scan-bounds : start_above_end start end ≡ true → Fetches (scan start end backwards count t) lens out (Err BadRange) lens out
     scan-bounds h = rw (scan-is start end backwards count, h) (bad-range [] lens out)
 
-    pub scan-none : start_above_end start end ≡ false → count ≡ 0 → Fetches (scan start end backwards count t) lens out BadRange lens out
+    pub scan-none : start_above_end start end ≡ false → count ≡ 0 → Fetches (scan start end backwards count t) lens out (Err BadRange) lens out
     scan-none h z = rw (scan-is start end backwards count, h, eq-eqb count 0 z) (bad-range [] lens out)
 
     -- the rows between the places of the bounds
-    pub scan-stretch : (r : Fetched) (lens' out' : List ℕ) (n low high : ℕ) → Ascending bytes K → start_above_end start end ≡ false → (count ≡ 0 → ⊥)
+    pub scan-stretch : (r : ByCause ℕ) (lens' out' : List ℕ) (n low high : ℕ) → Ascending bytes K → start_above_end start end ≡ false → (count ≡ 0 → ⊥)
         → length K ≡ n → low ≡ below_bound 0 start K → high ≡ below_bound n end K
-        → Fetches (ok (take count (stretch low high backwards K))) lens out r lens' out'
+        → Fetches (Ok (take count (stretch low high backwards K))) lens out r lens' out'
         → Fetches (scan start end backwards count t) lens out r lens' out'
     unfolding stretch
     scan-stretch r lens' out' n low high a h z e p q f =
@@ -264,10 +256,10 @@ module _ (K : Map (List ℕ) Held) (t : Table) (k : t.keys ≡ K) where
   whole which n h =
       take_all n (in_list which false K) (rw (length-in which false K) (omega (arith, length-select (meets which) K)))
 
-  pub before-rows : (gate : ℕ) (n : ℕ) (lens out : List ℕ) (r : Fetched) (lens' out' : List ℕ) → length K ≡ n
-      → Fetches (ok (take n (in_list (UpTo gate) false K))) lens out r lens' out' → Fetches (ok (fetch_kvs_before gate t)) lens out r lens' out'
+  pub before-rows : (gate : ℕ) (n : ℕ) (lens out : List ℕ) (r : ByCause ℕ) (lens' out' : List ℕ) → length K ≡ n
+      → Fetches (Ok (take n (in_list (UpTo gate) false K))) lens out r lens' out' → Fetches (Ok (fetch_kvs_before gate t)) lens out r lens' out'
   before-rows gate n lens out r lens' out' l f = rw (before-is gate) (rw (whole (UpTo gate) n (omega arith)) at f)
 
-  pub rewritten-rows : (n : ℕ) (lens out : List ℕ) (r : Fetched) (lens' out' : List ℕ) → length K ≡ n
-      → Fetches (ok (take n (in_list OfRewrite false K))) lens out r lens' out' → Fetches (ok (fetch_rewritten_kvs t)) lens out r lens' out'
+  pub rewritten-rows : (n : ℕ) (lens out : List ℕ) (r : ByCause ℕ) (lens' out' : List ℕ) → length K ≡ n
+      → Fetches (Ok (take n (in_list OfRewrite false K))) lens out r lens' out' → Fetches (Ok (fetch_rewritten_kvs t)) lens out r lens' out'
   rewritten-rows n lens out r lens' out' l f = rw (rewritten-is) (rw (whole OfRewrite n (omega arith)) at f)

@@ -11,15 +11,11 @@ use lib.ListN.{length, get_or, take, drop, length-map, length-reverse, get_or-ap
 use lib.Seq.{length-take-le, take-suc, get_or-drop, get_or-append-add}
 use Rattle.cells.specs.Part.{part}
 use Rattle.cells.specs.PartLaws.{length_part, get_or-part}
-use Rattle.maps.specs.Lists.{or_else}
 use Rattle.maps.specs.Maps.{Pair}
 use Rattle.rules.specs.Table.{Held}
 use Rattle.rules.specs.TableQueries.{KeyValue, row_of, in_direction}
 use Rattle.kvs.specs.Rows.{row_at, pair_of, keys_in}
 use Rattle.kvs.specs.RowLaws.{length-keys, keys_from}
-use Rattle.kvs.specs.declared.Place.TheVariants.{At, Before}
-use Rattle.kvs.specs.Places.{place_of, below_at, below_bound}
-use Rattle.kvs.specs.Calls.{given}
 use Rattle.key_lists.specs.Lists.{stretch, laid_by}
 
 -- an element of a list in a direction
@@ -110,18 +106,3 @@ module _ (n : ℕ) (rows bs : List ℕ) (low high : ℕ) (b : Bool) (g : low ≤
       laid_more f (stretch low high b (keys_in n rows bs)) l j (row_of (pair_of (row_at 0 rows bs))) (row_of (pair_of (row_at i rows bs))) l' l''
       (rw (length-stretch n rows bs low high b g h) a)
       (row_at_lem n rows bs low high b g h j i (pair_of (row_at 0 rows bs)) a e) p q
-
--- ---- how many keys are below a bound
-
-module _ (n : ℕ) (rows bs k : List ℕ) (d i : ℕ) (there : Bool) where
-  pub bound-none : there ≡ false → d ≡ below_bound d (given there k) (keys_in n rows bs)
-  unfolding below_bound given or_else
-  bound-none e = rw e
-
-  pub bound_at : there ≡ true → place_of k (keys_in n rows bs) ≡ At i → i ≡ below_bound d (given there k) (keys_in n rows bs)
-  unfolding below_bound given or_else below_at
-  bound_at e p = rw (e, p)
-
-  pub bound-before : there ≡ true → place_of k (keys_in n rows bs) ≡ Before i → i ≡ below_bound d (given there k) (keys_in n rows bs)
-  unfolding below_bound given or_else below_at
-  bound-before e p = rw (e, p)

@@ -1,18 +1,15 @@
 -- Queries of a group's keys into a lent list: which keys, how the list is written, and what is answered.
-use Rattle.std.specs.Prelude.{Bool, cond, ◌&&◌, List, [], ◌∷◌, map, ◌≡◌, ℕ, zero, suc, ◌+◌, ◌-◌, ◌*◌, ◌/◌, min, leb, ltb, length, get_or, take}
-use Rattle.std.proofs.Math.Option.{Option}
+use Rattle.std.specs.Prelude.{Bool, cond, ◌&&◌, List, [], ◌∷◌, map, ◌≡◌, ℕ, zero, suc, ◌+◌, ◌-◌, ◌*◌, ◌/◌, min, leb, ltb, length, get_or, take, Option}
 use Rattle.cells.specs.Part.{part, put}
 use Rattle.maps.specs.Lists.{select}
 use Rattle.maps.specs.Maps.{Pair, Map}
-use Rattle.rules.specs.Causes.{Result, ok, refused, refuse, and_then, bad_range, list_too_short}
+use Rattle.rules.specs.Causes.{by_cause, ByCause, Result, Ok, Err, and_then}
 use Rattle.rules.specs.Items.{Append, Rewrite, same_queue}
 use Rattle.rules.specs.Table.{Held, Table}
 use Rattle.rules.specs.TableQueries.{KeyValue, row_of, in_direction, scan, fetch_kvs_before, fetch_rewritten_kvs}
 use Rattle.rules.specs.Queries.{answered}
 use Rattle.key_lists.specs.declared.Which.{Which}
 use Rattle.key_lists.specs.declared.Which.TheVariants.{UpTo, OfRewrite}
-use Rattle.key_lists.specs.declared.Fetched.{Fetched}
-use Rattle.key_lists.specs.declared.Fetched.TheVariants.{Done, BadRange, TooShort}
 
 -- ---- which keys
 
@@ -61,35 +58,29 @@ lent_list lens out = list_from 0 (min (length lens / 2) (length out / 64)) lens 
 
 -- ---- what is answered
 
--- 01's number of each refusal; otherwise the number of rows
-unfoldable pub fetched_as : Fetched → Result ℕ
-fetched_as (Done n) = ok n
-fetched_as BadRange = refuse bad_range
-fetched_as TooShort = refuse list_too_short
-
 unfoldable pub lens_after : Result (List KeyValue) → List ℕ → List ℕ
-lens_after (ok rows) lens = lent_lens 0 rows lens
-lens_after (refused r) lens = lens
+lens_after (Ok rows) lens = lent_lens 0 rows lens
+lens_after (Err r) lens = lens
 
 unfoldable pub bytes_after : Result (List KeyValue) → List ℕ → List ℕ
-bytes_after (ok rows) out = lent_bytes 0 rows out
-bytes_after (refused r) out = out
+bytes_after (Ok rows) out = lent_bytes 0 rows out
+bytes_after (Err r) out = out
 
 -- a query's answer in the list; a refused one leaves the list as it was
-pub record Fetches (query : Result (List KeyValue)) (lens out : List ℕ) (r : Fetched) (lens' out' : List ℕ) : Type 0 where
-  pub answer : fetched_as r ≡ and_then (answered (lent_list lens out) query) (λ rows. ok (length rows))
+pub record Fetches (query : Result (List KeyValue)) (lens out : List ℕ) (r : ByCause ℕ) (lens' out' : List ℕ) : Type 0 where
+  pub answer : by_cause r ≡ and_then (answered (lent_list lens out) query) (λ rows. Ok (length rows))
   pub lens-are : lens' ≡ lens_after (answered (lent_list lens out) query) lens
   pub bytes-are : out' ≡ bytes_after (answered (lent_list lens out) query) out
 
-abbrev pub ScanKeys : Map (List ℕ) Held → Option (List ℕ) → Option (List ℕ) → Bool → ℕ → List ℕ → List ℕ → Fetched → List ℕ → List ℕ → Type 0
+abbrev pub ScanKeys : Map (List ℕ) Held → Option (List ℕ) → Option (List ℕ) → Bool → ℕ → List ℕ → List ℕ → ByCause ℕ → List ℕ → List ℕ → Type 0
 ScanKeys keys start end backwards count lens out r lens' out' =
     (t : Table) → t.keys ≡ keys → Fetches (scan start end backwards count t) lens out r lens' out'
 
-abbrev pub FetchBefore : Map (List ℕ) Held → ℕ → List ℕ → List ℕ → Fetched → List ℕ → List ℕ → Type 0
-FetchBefore keys gate lens out r lens' out' = (t : Table) → t.keys ≡ keys → Fetches (ok (fetch_kvs_before gate t)) lens out r lens' out'
+abbrev pub FetchBefore : Map (List ℕ) Held → ℕ → List ℕ → List ℕ → ByCause ℕ → List ℕ → List ℕ → Type 0
+FetchBefore keys gate lens out r lens' out' = (t : Table) → t.keys ≡ keys → Fetches (Ok (fetch_kvs_before gate t)) lens out r lens' out'
 
-abbrev pub FetchRewritten : Map (List ℕ) Held → List ℕ → List ℕ → Fetched → List ℕ → List ℕ → Type 0
-FetchRewritten keys lens out r lens' out' = (t : Table) → t.keys ≡ keys → Fetches (ok (fetch_rewritten_kvs t)) lens out r lens' out'
+abbrev pub FetchRewritten : Map (List ℕ) Held → List ℕ → List ℕ → ByCause ℕ → List ℕ → List ℕ → Type 0
+FetchRewritten keys lens out r lens' out' = (t : Table) → t.keys ≡ keys → Fetches (Ok (fetch_rewritten_kvs t)) lens out r lens' out'
 
 -- one turn of the copying: the row is written if it is asked for and the list is to have more than j rows
 unfoldable pub taken : Bool → KeyValue → ℕ → ℕ → List KeyValue

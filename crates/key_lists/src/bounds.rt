@@ -1,56 +1,40 @@
 // The bounds of a scan.
-ghost use Rattle.std.specs.Prelude.{◌≡◌, ◌≤◌};
-ghost use Rattle.maps.specs.Maps.{bytes_below};
+ghost use Rattle.std.specs.Prelude.{◌≡◌, ◌≤◌, option_copied};
 ghost use Rattle.rules.specs.TableQueries.{start_above_end};
 ghost use Rattle.kvs.specs.Rows.{keys_in, Wf};
 ghost use Rattle.kvs.specs.Places.{below_bound};
-ghost use Rattle.kvs.specs.Calls.{given};
 
-use cells::Order;
-use kvs::{Place, find};
-
-fn is_below(a: &[u8], b: &[u8]) -> bool
-    ensures { result ≡ bytes_below a.now b.now }
-{
-    match cells::compare_u8(a, b) {
-        Order::Less => true,
-        Order::Equal => false,
-        Order::Greater => false,
-    }
-}
+use kvs::find;
 
 // How many keys are below a bound, or `otherwise` where it is not there.
+#[tactic(auto, using(kvs::proofs::Search::at_below, kvs::proofs::Search::before_below), unfolding(kvs::specs::Places::below_bound, kvs::specs::Places::below_at, maps::specs::Lists::or_else))]
 pub fn below_bound(
     n: usize,
     rows: &[u64],
     bytes: &[u8],
-    there: bool,
-    bound: &[u8],
+    bound: Option<&[u8]>,
     otherwise: usize,
 ) -> usize
     requires wf { Wf n rows.now bytes.now }
     requires otherwise_le_n { otherwise ≤ n }
-    ensures value { result ≡ below_bound otherwise (given there bound.now) (keys_in n rows.now bytes.now) }
+    ensures value { result ≡ below_bound otherwise (option_copied bound.entry) (keys_in n rows.now bytes.now) }
     ensures upper_bound { result ≤ n }
 {
-    if !there {
+    let Some(key) = bound else {
         return otherwise;
-    }
-    match find(n, rows, bytes, bound) {
-        Place::At(i) => i,
-        Place::Before(i) => i,
+    };
+    match find(n, rows, bytes, key) {
+        Ok(i) | Err(i) => i,
     }
 }
 
 // Whether both bounds are there and the start is above the end.
-pub fn start_above_end(started: bool, start: &[u8], ended: bool, end: &[u8]) -> bool
-    ensures { result ≡ start_above_end (given started start.now) (given ended end.now) }
+#[tactic(auto, unfolding(rules::specs::TableQueries::start_above_end, maps::specs::Lists::or_else))]
+pub fn start_above_end(start: Option<&[u8]>, end: Option<&[u8]>) -> bool
+    ensures { result ≡ start_above_end (option_copied start.entry) (option_copied end.entry) }
 {
-    if !started {
-        return false;
+    match (start, end) {
+        (Some(start), Some(end)) => cells::compare_u8(end, start).is_lt(),
+        _ => false,
     }
-    if !ended {
-        return false;
-    }
-    is_below(end, start)
 }

@@ -1,5 +1,5 @@
 // The rows that a query asks for, counted and copied to the list.
-ghost use Rattle.std.specs.Prelude.{◌≡◌, cond, ◌&&◌, ◌+◌, ◌*◌, ◌-◌, ◌≤◌, ◌<◌, ltb, leb, length, get_or, take};
+ghost use Rattle.std.specs.Prelude.{◌≡◌, cond, ◌&&◌, ◌+◌, ◌*◌, ◌-◌, ◌≤◌, ◌<◌, leb, length, get_or, take};
 ghost use Rattle.pipe_log.specs.Rows.{queue_at};
 ghost use Rattle.maps.specs.Lists.{select};
 ghost use Rattle.rules.specs.Items.{same_queue, Append};
@@ -18,10 +18,7 @@ fn up_to(rows: &[u64], i: usize, gate: u64) -> bool
     requires { i * 4 + 4 ≤ length rows.now }
     ensures { result ≡ (same_queue (queue_at (get_or rows.now (i * 4 + 2) 0)) Append && leb (get_or rows.now (i * 4 + 3) 0) gate) }
 {
-    if is_of(rows[i * ROW_WIDTH + 2], LogQueue::Append) {
-        return rows[i * ROW_WIDTH + 3] <= gate;
-    }
-    false
+    is_of(rows[i * ROW_WIDTH + 2], LogQueue::Append) && rows[i * ROW_WIDTH + 3] <= gate
 }
 
 // Whether the query asks for row `i`.
@@ -35,28 +32,17 @@ fn chosen(rows: &[u64], bytes: &[u8], i: usize, which: Which) -> bool
     }
 }
 
-// 1 for a row that the query asks for, and 0 for another.
-fn one_chosen(rows: &[u64], bytes: &[u8], i: usize, which: Which) -> usize
-    requires { RowIn i rows.now bytes.now }
-    ensures value { result ≡ cond (meets which (pair_of (row_at i rows.now bytes.now))) 1 0 }
-    ensures upper_bound { result ≤ 1 }
-{
-    if chosen(rows, bytes, i, which) {
-        return 1;
-    }
-    0
-}
-
 // How many rows the query asks for.
+#[tactic(auto, using(kvs::proofs::Selected::count_more, kvs::proofs::Selected::selected_none, kvs::proofs::Selected::selected_all))]
 pub fn count_chosen(n: usize, rows: &[u64], bytes: &[u8], which: Which) -> usize
     requires { Wf n rows.now bytes.now }
     ensures { result ≡ length (select (meets which) (keys_in n rows.now bytes.now)) }
 {
     let mut count = 0;
-    let mut i = 0;
-    while i < n {
-        count += one_chosen(rows, bytes, i, which);
-        i += 1;
+    for i in 0..n {
+        if chosen(rows, bytes, i, which) {
+            count += 1;
+        }
     }
     count
 }
@@ -73,8 +59,8 @@ fn copy_row(rows: &[u64], bytes: &[u8], i: usize, lens: &mut [u64], out: &mut [u
     let at = j * LENS_WIDTH;
     lens[at] = key.len() as u64;
     lens[at + 1] = value.len() as u64;
-    cells::copy_in_u8(out, j * ROW_BYTES, key);
-    cells::copy_in_u8(out, j * ROW_BYTES + VALUE_AT, value);
+    cells::copy_in(out, j * ROW_BYTES, key);
+    cells::copy_in(out, j * ROW_BYTES + VALUE_AT, value);
 }
 
 // Copies row `i` to row `j` of the list if the query asks for it and the list is to have more than `j` rows; the next row of the list.
@@ -92,14 +78,11 @@ fn copy_if(
     requires limit_in_bounds { (limit * 2 ≤ length lens.old) × (limit * 64 ≤ length out.old) }
     ensures { CopyIf (meets which (pair_of (row_at i rows.now bytes.now))) (row_of (pair_of (row_at i rows.now bytes.now))) limit j lens.old out.old result lens.new out.new }
 {
-    if limit <= j {
+    if limit <= j || !chosen(rows, bytes, i, which) {
         return j;
     }
-    if chosen(rows, bytes, i, which) {
-        copy_row(rows, bytes, i, lens, out, j);
-        return j + 1;
-    }
-    j
+    copy_row(rows, bytes, i, lens, out, j);
+    j + 1
 }
 
 // The row that turn `s` of `n` looks at.
@@ -108,10 +91,7 @@ fn row_of(n: usize, s: usize, backwards: bool) -> usize
     ensures value { result ≡ cond backwards (n - 1 - s) s }
     ensures upper_bound { result < n }
 {
-    if backwards {
-        return n - 1 - s;
-    }
-    s
+    if backwards { n - 1 - s } else { s }
 }
 
 // Copies the first `limit` of the rows that the query asks for, in the direction asked for.
@@ -131,11 +111,9 @@ pub fn copy_chosen(
     ensures out_after { out.new ≡ lent_bytes 0 (take limit (in_list which backwards (keys_in n rows.now bytes.now))) out.old }
 {
     let mut j = 0;
-    let mut s = 0;
-    while s < n {
+    for s in 0..n {
         let i = row_of(n, s, backwards);
         j = copy_if(rows, bytes, i, which, limit, lens, out, j);
-        s += 1;
     }
 }
 
@@ -157,10 +135,8 @@ pub fn copy_stretch(
     ensures out_after { out.new ≡ lent_bytes 0 (take limit (stretch low high backwards (keys_in n rows.now bytes.now))) out.old }
 {
     let count = high - low;
-    let mut j = 0;
-    while j < limit {
+    for j in 0..limit {
         let i = low + row_of(count, j, backwards);
         copy_row(rows, bytes, i, lens, out, j);
-        j += 1;
     }
 }

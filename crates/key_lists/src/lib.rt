@@ -5,39 +5,21 @@
 mod bounds;
 mod copies;
 
-ghost use Rattle.std.specs.Prelude.{◌≡◌, ◌≤◌, min, take, false};
-ghost use Rattle.rules.specs.Causes.{ok};
+ghost use Rattle.std.specs.Prelude.{◌≤◌, take, false, option_copied};
+ghost use Rattle.rules.specs.Causes.{Ok};
 ghost use Rattle.kvs.specs.Rows.{keys_in, Wf};
-ghost use Rattle.kvs.specs.Calls.{given};
 ghost use Rattle.key_lists.specs.Lists.{in_list, stretch, Fetches, ScanKeys, FetchBefore, FetchRewritten};
 
 use bounds::{below_bound, start_above_end};
 use copies::{copy_chosen, copy_stretch, count_chosen};
 use kvs::rows::{LENS_WIDTH, ROW_BYTES};
+use pipe_log::Cause;
 
 // Which keys a query asks for: the Append ones up to a gate, or the Rewrite ones.
 #[derive(Clone, Copy)]
 pub enum Which {
     UpTo(u64),
     OfRewrite,
-}
-
-// How a query with a lent list ends: with so many rows, or refused by 10 or 19.
-#[derive(Drop)]
-pub enum Fetched {
-    Done(usize),
-    BadRange,
-    TooShort,
-}
-
-// The lesser of two numbers.
-fn lesser(a: usize, b: usize) -> usize
-    ensures { result ≡ min a b }
-{
-    if a < b {
-        return a;
-    }
-    b
 }
 
 // Fills the list with up to `count` of the keys asked for, in the direction asked for.
@@ -50,19 +32,16 @@ fn fill_list(
     count: usize,
     lens: &mut [u64],
     out: &mut [u8],
-) -> Fetched
+) -> Result<usize, Cause>
     requires { Wf n rows.now bytes.now }
-    ensures { Fetches (ok (take count (in_list which backwards (keys_in n rows.now bytes.now)))) lens.old out.old result lens.new out.new }
+    ensures { Fetches (Ok (take count (in_list which backwards (keys_in n rows.now bytes.now)))) lens.old out.old result lens.new out.new }
 {
-    let limit = lesser(count, count_chosen(n, rows, bytes, which));
-    if lens.len() / LENS_WIDTH < limit {
-        return Fetched::TooShort;
-    }
-    if out.len() / ROW_BYTES < limit {
-        return Fetched::TooShort;
+    let limit = count.min(count_chosen(n, rows, bytes, which));
+    if lens.len() / LENS_WIDTH < limit || out.len() / ROW_BYTES < limit {
+        return Err(Cause::ListTooShort);
     }
     copy_chosen(n, rows, bytes, which, backwards, limit, lens, out);
-    Fetched::Done(limit)
+    Ok(limit)
 }
 
 // Fills the list with up to `count` of the rows from row `low` up to row `high`, in the direction asked for.
@@ -76,20 +55,17 @@ fn fill_stretch(
     count: usize,
     lens: &mut [u64],
     out: &mut [u8],
-) -> Fetched
+) -> Result<usize, Cause>
     requires wf { Wf n rows.now bytes.now }
     requires low_le_high { (low ≤ high) × (high ≤ n) }
-    ensures { Fetches (ok (take count (stretch low high backwards (keys_in n rows.now bytes.now)))) lens.old out.old result lens.new out.new }
+    ensures { Fetches (Ok (take count (stretch low high backwards (keys_in n rows.now bytes.now)))) lens.old out.old result lens.new out.new }
 {
-    let limit = lesser(count, high - low);
-    if lens.len() / LENS_WIDTH < limit {
-        return Fetched::TooShort;
-    }
-    if out.len() / ROW_BYTES < limit {
-        return Fetched::TooShort;
+    let limit = count.min(high - low);
+    if lens.len() / LENS_WIDTH < limit || out.len() / ROW_BYTES < limit {
+        return Err(Cause::ListTooShort);
     }
     copy_stretch(n, rows, bytes, low, high, backwards, limit, lens, out);
-    Fetched::Done(limit)
+    Ok(limit)
 }
 
 // `scan`: the keys from `start` on and below `end`, bounds of any length that are open where they are not there, up to `count` of them.
@@ -97,26 +73,21 @@ pub fn scan(
     n: usize,
     rows: &[u64],
     bytes: &[u8],
-    started: bool,
-    start: &[u8],
-    ended: bool,
-    end: &[u8],
+    start: Option<&[u8]>,
+    end: Option<&[u8]>,
     backwards: bool,
     count: usize,
     lens: &mut [u64],
     out: &mut [u8],
-) -> Fetched
+) -> Result<usize, Cause>
     requires { Wf n rows.now bytes.now }
-    ensures { ScanKeys (keys_in n rows.now bytes.now) (given started start.now) (given ended end.now) backwards count lens.old out.old result lens.new out.new }
+    ensures { ScanKeys (keys_in n rows.now bytes.now) (option_copied start.entry) (option_copied end.entry) backwards count lens.old out.old result lens.new out.new }
 {
-    if start_above_end(started, start, ended, end) {
-        return Fetched::BadRange;
+    if start_above_end(start, end) || count == 0 {
+        return Err(Cause::BadRange);
     }
-    if count == 0 {
-        return Fetched::BadRange;
-    }
-    let low = below_bound(n, rows, bytes, started, start, 0);
-    let high = below_bound(n, rows, bytes, ended, end, n);
+    let low = below_bound(n, rows, bytes, start, 0);
+    let high = below_bound(n, rows, bytes, end, n);
     fill_stretch(n, rows, bytes, low, high, backwards, count, lens, out)
 }
 
@@ -128,7 +99,7 @@ pub fn fetch_kvs_before(
     gate: u64,
     lens: &mut [u64],
     out: &mut [u8],
-) -> Fetched
+) -> Result<usize, Cause>
     requires { Wf n rows.now bytes.now }
     ensures { FetchBefore (keys_in n rows.now bytes.now) gate lens.old out.old result lens.new out.new }
 {
@@ -142,7 +113,7 @@ pub fn fetch_rewritten_kvs(
     bytes: &[u8],
     lens: &mut [u64],
     out: &mut [u8],
-) -> Fetched
+) -> Result<usize, Cause>
     requires { Wf n rows.now bytes.now }
     ensures { FetchRewritten (keys_in n rows.now bytes.now) lens.old out.old result lens.new out.new }
 {

@@ -1,4 +1,6 @@
 -- The newer keys counted and put one after the other. Assumes nothing.
+use Rattle.kvs.specs.Places.{Sought}
+use Rattle.rules.specs.Causes.{Cause, LimitPassed, ByCause, Ok, Err}
 use Prim.Native.Nat.{ℕ, suc, ◌+◌, ◌*◌, ◌≤◌, ◌<◌}
 use native.Mathlib.Numerals.{add-one}
 use native.Mathlib.Nat.{add-zero}
@@ -6,7 +8,7 @@ use native.Mathlib.Omega.{arith}
 use mathlib.Core.Bool.{true, false, cond}
 use mathlib.Core.Path.{◌≡◌, refl, sym, ap, ◌∙◌}
 use mathlib.Core.List.{List, [], ◌∷◌}
-use mathlib.Core.Option.{Option, none, some}
+use Rattle.std.specs.Prelude.{Option, None, Some}
 use lib.Dec.{leb}
 use lib.ListN.{length, get_or, drop, drop_of_length-le}
 use borrow.Author.Tests.{leb-true}
@@ -17,10 +19,6 @@ use Rattle.maps.specs.Maps.{Map, lookup, insert, merge_with, bytes}
 use Rattle.maps.specs.OrderLaws.{split, and_both, bytes_lawful, above-differs}
 use Rattle.maps.specs.MapLaws.{Ascending, AllBelow, ascending-head, ascending-tail, ascending-insert, lookup-insert-other, length-insert-none, length-insert-some, length-older}
 use Rattle.rules.specs.Table.{Held, over_keys}
-use Rattle.kvs.specs.declared.Place.{Place}
-use Rattle.kvs.specs.declared.Place.TheVariants.{At, Before}
-use Rattle.kvs.specs.declared.Outcome.{Outcome}
-use Rattle.kvs.specs.declared.Outcome.TheVariants.{Done, Full}
 use Rattle.kvs.specs.Rows.{row_at, key_of, value_of, held_of, pair_of, keys_in, Wf, fits}
 use Rattle.kvs.specs.RowLaws.{keys_from, length-keys}
 use Rattle.kvs.specs.RowIn.{number_at}
@@ -29,16 +27,16 @@ use Rattle.kvs.specs.Calls.{held_by, Holds, room_for, Stands, put_rows, put_byte
 use Rattle.kvs.specs.Merge.{put_pair, put_all, parts, is_absent, missing, LaidOver, merged_parts, MergeKeys}
 use Rattle.kvs.proofs.Puts.{fits_if}
 use Rattle.kvs.proofs.Found.{found_at_lem, found_none}
-use Rattle.kvs.proofs.Selected.{selected, selected_all, selected-none, count-more}
+use Rattle.kvs.proofs.Selected.{selected, selected_all, selected_none, count_more}
 
 -- ---- one key
 
 module _ (n : ℕ) (rows bs k : List ℕ) (w : Wf n rows bs) (i : ℕ) where
-  pub absent : place_of k (keys_in n rows bs) ≡ Before i → is_absent k (keys_in n rows bs) ≡ true
+  pub absent : place_of k (keys_in n rows bs) ≡ Err i → is_absent k (keys_in n rows bs) ≡ true
   unfolding is_absent or_else
   absent e = rw (found_none n rows bs k i w e)
 
-  pub present : place_of k (keys_in n rows bs) ≡ At i → is_absent k (keys_in n rows bs) ≡ false
+  pub present : place_of k (keys_in n rows bs) ≡ Ok i → is_absent k (keys_in n rows bs) ≡ false
   unfolding is_absent or_else
   present e = rw (found_at_lem n rows bs k i w e)
 
@@ -53,13 +51,13 @@ module _ (older : Map (List ℕ) Held) (m : ℕ) (rows bs : List ℕ) where
   unfolding lacks missing
   lacks_all = ap length (selected_all (λ x. is_absent x.key older) m rows bs)
 
-  pub lacks-none : (j : ℕ) → m ≤ j → lacks j ≡ 0
+  pub lacks_none : (j : ℕ) → m ≤ j → lacks j ≡ 0
   unfolding lacks
-  lacks-none j h = ap length (selected-none (λ x. is_absent x.key older) m rows bs j h)
+  lacks_none j h = ap length (selected_none (λ x. is_absent x.key older) m rows bs j h)
 
-  pub lacks-more : (j : ℕ) → j < m → lacks j ≡ cond (is_absent (key_of (row_at j rows bs)) older) 1 0 + lacks (j + 1)
+  pub lacks_more : (j : ℕ) → j < m → lacks j ≡ cond (is_absent (key_of (row_at j rows bs)) older) 1 0 + lacks (j + 1)
   unfolding lacks pair_of
-  lacks-more j h = count-more (λ x. is_absent x.key older) m rows bs j h
+  lacks_more j h = count_more (λ x. is_absent x.key older) m rows bs j h
 
 -- putting a key leaves those above it absent or present
 still : (k : List ℕ) (h : Held) (older m : Map (List ℕ) Held) → AllBelow bytes k m → select (λ x. is_absent x.key (insert bytes k h older)) m ≡ select (λ x. is_absent x.key older) m
@@ -73,8 +71,8 @@ unfolding is_absent or_else
 length-put k h older a = by (lookup bytes k older) refl
   where
     by : (o : Option Held) → lookup bytes k older ≡ o → length (insert bytes k h older) ≡ length older + cond (or_else true (λ (h : Held). false) o) 1 0
-    by none e = length-insert-none bytes bytes_lawful k h older e ∙ omega arith
-    by (some b) e = length-insert-some bytes bytes_lawful k h b older e a ∙ omega arith
+    by None e = length-insert-none bytes bytes_lawful k h older e ∙ omega arith
+    by (Some b) e = length-insert-some bytes bytes_lawful k h b older e a ∙ omega arith
 
 pub length_over : (older newer : Map (List ℕ) Held) → Ascending bytes older → Ascending bytes newer → length (over_keys older newer) ≡ length older + missing older newer
 unfolding over_keys merge_with missing select
@@ -98,15 +96,15 @@ pub fits_same : (a : ℕ) (rows bs rows' bs' : List ℕ) → length rows ≡ len
 unfolding fits
 fits_same a rows bs rows' bs' p q = rw (p, q)
 
-any-rows : (a : ℕ) (p : Place) (n : ℕ) (k : List ℕ) (h : Held) (rows : List ℕ) → put_rows (Done a) p n k h rows ≡ put_rows (Done 0) p n k h rows
+any-rows : (a : ℕ) (p : Sought) (n : ℕ) (k : List ℕ) (h : Held) (rows : List ℕ) → put_rows (Ok a) p n k h rows ≡ put_rows (Ok 0) p n k h rows
 unfolding put_rows
-any-rows a (At i) n k h rows = refl
-any-rows a (Before i) n k h rows = refl
+any-rows a (Ok i) n k h rows = refl
+any-rows a (Err i) n k h rows = refl
 
-any-bytes : (a : ℕ) (p : Place) (n : ℕ) (k : List ℕ) (h : Held) (bs : List ℕ) → put_bytes (Done a) p n k h bs ≡ put_bytes (Done 0) p n k h bs
+any-bytes : (a : ℕ) (p : Sought) (n : ℕ) (k : List ℕ) (h : Held) (bs : List ℕ) → put_bytes (Ok a) p n k h bs ≡ put_bytes (Ok 0) p n k h bs
 unfolding put_bytes
-any-bytes a (At i) n k h bs = refl
-any-bytes a (Before i) n k h bs = refl
+any-bytes a (Ok i) n k h bs = refl
+any-bytes a (Err i) n k h bs = refl
 
 -- what holds after j of the newer keys were put: the rest laid over gives the whole
 pub record Laying (n : ℕ) (rows bs : List ℕ) (newer : Map (List ℕ) Held) (j count : ℕ) (rows' bs' : List ℕ) : Type 0 where
@@ -114,8 +112,8 @@ pub record Laying (n : ℕ) (rows bs : List ℕ) (newer : Map (List ℕ) Held) (
   pub keys : over_keys (keys_in count rows' bs') (drop j newer) ≡ over_keys (keys_in n rows bs) newer
   pub parts_are : put_all (drop j newer) (parts count rows' bs') ≡ put_all newer (parts n rows bs)
 
-pub laying-none : (n : ℕ) (rows bs : List ℕ) (newer : Map (List ℕ) Held) → Wf n rows bs → Laying n rows bs newer 0 n rows bs
-laying-none n rows bs newer w = record { wf = w; keys = refl; parts_are = refl }
+pub laying_none : (n : ℕ) (rows bs : List ℕ) (newer : Map (List ℕ) Held) → Wf n rows bs → Laying n rows bs newer 0 n rows bs
+laying_none n rows bs newer w = record { wf = w; keys = refl; parts_are = refl }
 
 pub laying_all : (n : ℕ) (rows bs : List ℕ) (newer : Map (List ℕ) Held) (j count : ℕ) (rows' bs' : List ℕ) → length newer ≤ j → Laying n rows bs newer j count rows' bs' → LaidOver n rows bs newer count rows' bs'
 unfolding over_keys merge_with put_all
@@ -141,26 +139,26 @@ module _ (n : ℕ) (rows bs : List ℕ) (m : ℕ) (newrows newbs : List ℕ) (j 
         (rw over-next at (length-older bytes bytes_lawful (λ o a. a) next (drop (suc j) (keys_in m newrows newbs))))
         f)
 
-    module _ (r : Outcome) (rows'' bs'' : List ℕ) (put : PutKey count rows' bs' (key_of (row_at j newrows newbs)) (held_of (row_at j newrows newbs)) r rows'' bs'') where
-      answer : r ≡ Done (length next)
+    module _ (r : ByCause ℕ) (rows'' bs'' : List ℕ) (put : PutKey count rows' bs' (key_of (row_at j newrows newbs)) (held_of (row_at j newrows newbs)) r rows'' bs'') where
+      answer : r ≡ Ok (length next)
       unfolding room_for next
       answer = put.answer ∙ rw next_fits
 
       -- there is room for every turn
-      pub never-full : r ≡ Full → ⊥
-      never-full e = let z : Full ≡ Done (length next) = sym e ∙ answer in let y : ◌≡◌ {A = ℕ} 0 1 = cc in omega arith
+      pub never_full : (e : Cause) → r ≡ Err e → ⊥
+      never_full x e = let z : ◌≡◌ {A = ByCause ℕ} (Err x) (Ok (length next)) = sym e ∙ answer in let y : ◌≡◌ {A = ℕ} 0 1 = cc in omega arith
 
-      pub laying-more : (k : ℕ) → r ≡ Done k → Laying n rows bs (keys_in m newrows newbs) (j + 1) k rows'' bs''
+      pub laying_more : (k : ℕ) → r ≡ Ok k → Laying n rows bs (keys_in m newrows newbs) (j + 1) k rows'' bs''
       unfolding Stands put_all put_pair pair_of next
-      laying-more k e =
+      laying_more k e =
           let x = row_at j newrows newbs in
-          let d : Done k ≡ Done (length next) = sym e ∙ answer in
+          let d : Ok k ≡ Ok (length next) = sym e ∙ answer in
           let l : k ≡ length next = cc in
           let holds : Holds k rows'' bs'' next = rw e at put.stands in
           let place = place_of (key_of x) (keys_in count rows' bs') in
-          let rs : rows'' ≡ put_rows (Done 0) place count (key_of x) (held_of x) rows' =
+          let rs : rows'' ≡ put_rows (Ok 0) place count (key_of x) (held_of x) rows' =
           rw e at put.rows_are ∙ any-rows k place count (key_of x) (held_of x) rows' in
-          let ys : bs'' ≡ put_bytes (Done 0) place count (key_of x) (held_of x) bs' =
+          let ys : bs'' ≡ put_bytes (Ok 0) place count (key_of x) (held_of x) bs' =
           rw e at put.bytes-are ∙ any-bytes k place count (key_of x) (held_of x) bs' in
           let same : parts k rows'' bs'' ≡ put_pair (pair_of x) (parts count rows' bs') = λ i. record { count = l i; rows = rs i; bytes = ys i } in
           record {
@@ -175,16 +173,16 @@ module _ (n : ℕ) (rows bs : List ℕ) (m : ℕ) (newrows newbs : List ℕ) (w 
   pub over-length : length (over_keys (keys_in n rows bs) (keys_in m newrows newbs)) ≡ n + all
   over-length = length_over (keys_in n rows bs) (keys_in m newrows newbs) w.ascending v.ascending ∙ rw (length-keys n rows bs, e)
 
-  pub merge-full : fits (n + all) rows bs ≡ false → MergeKeys n rows bs (keys_in m newrows newbs) Full rows bs
+  pub merge-full : fits (n + all) rows bs ≡ false → MergeKeys n rows bs (keys_in m newrows newbs) (Err LimitPassed) rows bs
   unfolding room_for merged_parts Stands
   merge-full f = record { answer = rw (over-length, f); rows_are = refl; bytes-are = refl; stands = tt }
 
-  pub merge-done : fits (n + all) rows bs ≡ true → (r : ℕ) (rows' bs' : List ℕ) → LaidOver n rows bs (keys_in m newrows newbs) r rows' bs' → MergeKeys n rows bs (keys_in m newrows newbs) (Done r) rows' bs'
+  pub merge-done : fits (n + all) rows bs ≡ true → (r : ℕ) (rows' bs' : List ℕ) → LaidOver n rows bs (keys_in m newrows newbs) r rows' bs' → MergeKeys n rows bs (keys_in m newrows newbs) (Ok r) rows' bs'
   unfolding room_for merged_parts Stands
   merge-done f r rows' bs' h =
       let l : r ≡ n + all = sym (length-keys r rows' bs') ∙ ap length h.holds.is ∙ over-length in
       record {
-        answer = rw (over-length, f) (ap Done l);
+        answer = rw (over-length, f) (ap Ok l);
         rows_are = ap (λ p. p.rows) h.parts_are;
         bytes-are = ap (λ p. p.bytes) h.parts_are;
         stands = h.holds;
@@ -192,7 +190,7 @@ module _ (n : ℕ) (rows bs : List ℕ) (m : ℕ) (newrows newbs : List ℕ) (w 
 
 -- ---- a row put from the newer part
 
-pub row_put : (n : ℕ) (rows bs newrows newbs : List ℕ) (j : ℕ) (k v : List ℕ) (q : LogQueue) (r : Outcome) (rows' bs' : List ℕ)
+pub row_put : (n : ℕ) (rows bs newrows newbs : List ℕ) (j : ℕ) (k v : List ℕ) (q : LogQueue) (r : ByCause ℕ) (rows' bs' : List ℕ)
     → k ≡ key_of (row_at j newrows newbs) → v ≡ value_of (row_at j newrows newbs) → q ≡ queue_at (get_or newrows (j * 4 + 2) 0)
     → PutKey n rows bs k (held_by v q (get_or newrows (j * 4 + 3) 0)) r rows' bs'
     → PutKey n rows bs (key_of (row_at j newrows newbs)) (held_of (row_at j newrows newbs)) r rows' bs'

@@ -1,4 +1,5 @@
 -- Each way through `put` (at the key's row, before a row, and where there is no room) and `delete`. Assumes nothing.
+use Rattle.rules.specs.Causes.{LimitPassed, Ok, Err}
 use Prim.Native.Nat.{ℕ, suc, ◌+◌, ◌*◌, ◌-◌, ◌≤◌, ◌<◌}
 use native.Mathlib.Omega.{arith}
 use mathlib.Core.Bool.{true, false, and-false}
@@ -11,8 +12,6 @@ use Rattle.maps.specs.Maps.{Pair, insert, remove, bytes}
 use Rattle.maps.specs.OrderLaws.{bytes_lawful}
 use Rattle.maps.specs.MapLaws.{pair, ascending-insert, ascending-remove}
 use Rattle.rules.specs.Table.{Held}
-use Rattle.kvs.specs.declared.Place.TheVariants.{At, Before}
-use Rattle.kvs.specs.declared.Outcome.TheVariants.{Done, Full}
 use Rattle.kvs.specs.Rows.{Row, row_at, rows_from, pair_of, keys_in, RowOk, RowsOk, Wf, fits}
 use Rattle.kvs.specs.RowLaws.{Same, with_row, without-row, map-append, map-take, map-drop, length-keys, ok-append, ok-take, ok-drop, ok-cons}
 use Rattle.kvs.specs.Writes.{written_rows, written_bytes, opened, closed}
@@ -76,7 +75,7 @@ module _ (n : ℕ) (rows bs k : List ℕ) (h : Held) (w : Wf n rows bs) where
 
   module _ (u : length k ≤ 32) (v : length h.value ≤ 32) where
     -- the key is there: its row is written
-    pub put_at : (i : ℕ) → place_of k (keys_in n rows bs) ≡ At i → PutKey n rows bs k h (Done n) (written_rows i k h rows) (written_bytes i k h bs)
+    pub put_at : (i : ℕ) → place_of k (keys_in n rows bs) ≡ Ok i → PutKey n rows bs k h (Ok n) (written_rows i k h rows) (written_bytes i k h bs)
     unfolding laid_at Within room_for Stands put_rows put_bytes
     put_at i e =
         let K = keys_in n rows bs in
@@ -106,8 +105,8 @@ module _ (n : ℕ) (rows bs k : List ℕ) (h : Held) (w : Wf n rows bs) where
         }
 
     -- it is not, and there is room: the rows from its place are moved up, and its row is written
-    pub put-before : (i : ℕ) → place_of k (keys_in n rows bs) ≡ Before i → n * 4 + 4 ≤ length rows → n * 64 + 64 ≤ length bs
-        → PutKey n rows bs k h (Done (n + 1)) (written_rows i k h (opened 4 n i rows)) (written_bytes i k h (opened 64 n i bs))
+    pub put-before : (i : ℕ) → place_of k (keys_in n rows bs) ≡ Err i → n * 4 + 4 ≤ length rows → n * 64 + 64 ≤ length bs
+        → PutKey n rows bs k h (Ok (n + 1)) (written_rows i k h (opened 4 n i rows)) (written_bytes i k h (opened 64 n i bs))
     unfolding laid_at Within room_for Stands put_rows put_bytes
     put-before i e x y =
         let K = keys_in n rows bs in
@@ -141,7 +140,7 @@ module _ (n : ℕ) (rows bs k : List ℕ) (h : Held) (w : Wf n rows bs) where
         }
 
   -- it is not, and there is no room
-  pub put_full : (i : ℕ) → place_of k (keys_in n rows bs) ≡ Before i → fits (n + 1) rows bs ≡ false → PutKey n rows bs k h Full rows bs
+  pub put_full : (i : ℕ) → place_of k (keys_in n rows bs) ≡ Err i → fits (n + 1) rows bs ≡ false → PutKey n rows bs k h (Err LimitPassed) rows bs
   unfolding laid_at Within room_for Stands put_rows put_bytes
   put_full i e x =
       let K = keys_in n rows bs in
@@ -154,7 +153,7 @@ module _ (n : ℕ) (rows bs k : List ℕ) (h : Held) (w : Wf n rows bs) where
 -- ---- what is deleted
 
 module _ (n : ℕ) (rows bs k : List ℕ) (w : Wf n rows bs) where
-  pub delete_at : (i : ℕ) → place_of k (keys_in n rows bs) ≡ At i → DeleteKey n rows bs k (n - 1) (closed 4 n i rows) (closed 64 n i bs)
+  pub delete_at : (i : ℕ) → place_of k (keys_in n rows bs) ≡ Ok i → DeleteKey n rows bs k (n - 1) (closed 4 n i rows) (closed 64 n i bs)
   unfolding keys_in taken_at Within deleted
   delete_at i e =
       let K = keys_in n rows bs in
@@ -186,7 +185,7 @@ module _ (n : ℕ) (rows bs k : List ℕ) (w : Wf n rows bs) where
             };
       }
 
-  pub delete-absent : (i : ℕ) → place_of k (keys_in n rows bs) ≡ Before i → DeleteKey n rows bs k n rows bs
+  pub delete-absent : (i : ℕ) → place_of k (keys_in n rows bs) ≡ Err i → DeleteKey n rows bs k n rows bs
   unfolding taken_at deleted
   delete-absent i e =
       let f : remove bytes k (keys_in n rows bs) ≡ keys_in n rows bs = remove-place k (keys_in n rows bs) w.ascending ∙ rw e in

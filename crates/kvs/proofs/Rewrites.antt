@@ -5,7 +5,7 @@ use native.Mathlib.Omega.{arith}
 use mathlib.Core.Bool.{true, false}
 use mathlib.Core.Path.{◌≡◌, refl, sym, ap, ◌∙◌}
 use mathlib.Core.List.{List, [], ◌∷◌, ◌++◌}
-use mathlib.Core.Option.{Option, none, some}
+use Rattle.std.specs.Prelude.{Option, None, Some}
 use lib.ListN.{length, get_or, set, take, drop}
 use borrow.Author.Tests.{le-leb, lt-leb, lt-ltb, le-ltb, ne_eqb}
 use Rattle.cells.specs.Part.{part, put}
@@ -15,11 +15,9 @@ use Rattle.maps.specs.Lists.{or_else}
 use Rattle.maps.specs.Maps.{Map, lookup, insert, bytes}
 use Rattle.maps.specs.OrderLaws.{bytes_lawful}
 use Rattle.maps.specs.MapLaws.{pair, insert-again}
-use Rattle.rules.specs.Causes.{ok, refuse, key_goes_back, and_then}
+use Rattle.rules.specs.Causes.{Err, Ok, refuse, KeyGoesBack, and_then}
 use Rattle.rules.specs.Items.{Append, Rewrite, same_queue}
 use Rattle.rules.specs.Table.{Held, Table, with_keys, put_key, rewrite_file, rewritten_key}
-use Rattle.kvs.specs.declared.Place.TheVariants.{At, Before}
-use Rattle.kvs.specs.declared.Rewritten.TheVariants.{Accepted, GoesBack}
 use Rattle.kvs.specs.Rows.{row_at, key_of, value_of, held_of, pair_of, keys_in, RowOk, Wf}
 use Rattle.kvs.specs.RowLaws.{Same}
 use Rattle.kvs.specs.RowIn.{RowIn, row_in, number_at}
@@ -94,53 +92,53 @@ unfolding with_keys
 same_keys m t e = rw (← e)
 
 module _ (n : ℕ) (rows bs k : List ℕ) (gate : Option ℕ) (s : ℕ) (w : Wf n rows bs) (i : ℕ) where
-  pub rewrite-absent : place_of k (keys_in n rows bs) ≡ Before i → RewriteKey n rows bs k gate s Accepted rows
+  pub rewrite-absent : place_of k (keys_in n rows bs) ≡ Err i → RewriteKey n rows bs k gate s (Ok tt) rows
   unfolding rewritten_key rewritten_as rewritten_rows or_else
   rewrite-absent e =
       record {
         answer = λ t g.
-            let look : lookup bytes k t.keys ≡ none = ap (lookup bytes k) g ∙ found_none n rows bs k i w e in
-            rw look (ap ok (sym (same_keys (keys_in n rows bs) t g)));
+            let look : lookup bytes k t.keys ≡ None = ap (lookup bytes k) g ∙ found_none n rows bs k i w e in
+            rw look (ap Ok (sym (same_keys (keys_in n rows bs) t g)));
         rows_are = rw (found_none n rows bs k i w e);
         wf = w;
       }
 
-  module _ (e : place_of k (keys_in n rows bs) ≡ At i) where
-    found : lookup bytes k (keys_in n rows bs) ≡ some (held_of (row_at i rows bs))
+  module _ (e : place_of k (keys_in n rows bs) ≡ Ok i) where
+    found : lookup bytes k (keys_in n rows bs) ≡ Some (held_of (row_at i rows bs))
     found = found_at_lem n rows bs k i w e
 
     module _ (held : Held) (h : held ≡ held_of (row_at i rows bs)) where
       -- the file is kept
-      stays : rewrite_file held.file.queue gate s held ≡ ok held → moves gate s held ≡ false → RewriteKey n rows bs k gate s Accepted rows
+      stays : rewrite_file held.file.queue gate s held ≡ Ok held → moves gate s held ≡ false → RewriteKey n rows bs k gate s (Ok tt) rows
       unfolding rewritten_key rewritten_as rewritten_rows or_else and_then put_key
       stays f g =
-          let look : lookup bytes k (keys_in n rows bs) ≡ some held = found ∙ ap some (sym h) in
+          let look : lookup bytes k (keys_in n rows bs) ≡ Some held = found ∙ ap Some (sym h) in
           record {
             answer = λ t q.
-                let there : lookup bytes k t.keys ≡ some held = ap (lookup bytes k) q ∙ look in
+                let there : lookup bytes k t.keys ≡ Some held = ap (lookup bytes k) q ∙ look in
                 rw (there, f)
-                (ap (λ m. ok (with_keys m t)) (ap (insert bytes k held) q ∙ insert-again bytes bytes_lawful k held (keys_in n rows bs) look w.ascending));
+                (ap (λ m. Ok (with_keys m t)) (ap (insert bytes k held) q ∙ insert-again bytes bytes_lawful k held (keys_in n rows bs) look w.ascending));
             rows_are = rw (look, g);
             wf = w;
           }
 
       -- it would go back
-      goes_back : rewrite_file held.file.queue gate s held ≡ refuse key_goes_back → moves gate s held ≡ false → RewriteKey n rows bs k gate s GoesBack rows
+      goes_back : rewrite_file held.file.queue gate s held ≡ refuse KeyGoesBack → moves gate s held ≡ false → RewriteKey n rows bs k gate s (Err KeyGoesBack) rows
       unfolding rewritten_key rewritten_as rewritten_rows or_else and_then
       goes_back f g =
-          let look : lookup bytes k (keys_in n rows bs) ≡ some held = found ∙ ap some (sym h) in
+          let look : lookup bytes k (keys_in n rows bs) ≡ Some held = found ∙ ap Some (sym h) in
           record {
-            answer = λ t q. let there : lookup bytes k t.keys ≡ some held = ap (lookup bytes k) q ∙ look in rw (there, f);
+            answer = λ t q. let there : lookup bytes k t.keys ≡ Some held = ap (lookup bytes k) q ∙ look in rw (there, f);
             rows_are = rw (look, g);
             wf = w;
           }
 
       -- it is moved
-      moved : rewrite_file held.file.queue gate s held ≡ ok (held_by held.value Rewrite s) → moves gate s held ≡ true → RewriteKey n rows bs k gate s Accepted (moved_rows i s rows)
+      moved : rewrite_file held.file.queue gate s held ≡ Ok (held_by held.value Rewrite s) → moves gate s held ≡ true → RewriteKey n rows bs k gate s (Ok tt) (moved_rows i s rows)
       unfolding rewritten_key rewritten_as rewritten_rows or_else and_then put_key laid_at below_at held_of
       moved f g =
           let K = keys_in n rows bs in
-          let look : lookup bytes k K ≡ some held = found ∙ ap some (sym h) in
+          let look : lookup bytes k K ≡ Some held = found ∙ ap Some (sym h) in
           let b : i < n = at_below n rows bs k i e in
           let r : RowIn i rows bs = row_in n i rows bs w b in
           let p : i * 4 + 4 ≤ length rows = r.rows_fit in
@@ -161,8 +159,8 @@ module _ (n : ℕ) (rows bs k : List ℕ) (gate : Option ℕ) (s : ℕ) (w : Wf 
           ins) in
           record {
             answer = λ t q.
-                let there : lookup bytes k t.keys ≡ some held = ap (lookup bytes k) q ∙ look in
-                rw (there, f) (ap (λ m. ok (with_keys m t)) (ap (insert bytes k g') q ∙ sym holds.is));
+                let there : lookup bytes k t.keys ≡ Some held = ap (lookup bytes k) q ∙ look in
+                rw (there, f) (ap (λ m. Ok (with_keys m t)) (ap (insert bytes k g') q ∙ sym holds.is));
             rows_are = rw (look, g, e);
             wf = holds.wf;
           }
@@ -178,33 +176,33 @@ module _ (i : ℕ) (rows bs : List ℕ) where
   unfolding held_of queue_at
   held-rewrite e = rw (number_at i rows bs 2 (omega arith), number_at i rows bs 3 (omega arith), ne_eqb (get_or rows (i * 4 + 2) 0) 0 e)
 
-module _ (n : ℕ) (rows bs k : List ℕ) (s : ℕ) (w : Wf n rows bs) (i : ℕ) (e : place_of k (keys_in n rows bs) ≡ At i) where
-  pub ungated : get_or rows (i * 4 + 2) 0 ≡ 0 → RewriteKey n rows bs k none s Accepted rows
+module _ (n : ℕ) (rows bs k : List ℕ) (s : ℕ) (w : Wf n rows bs) (i : ℕ) (e : place_of k (keys_in n rows bs) ≡ Ok i) where
+  pub ungated : get_or rows (i * 4 + 2) 0 ≡ 0 → RewriteKey n rows bs k None s (Ok tt) rows
   unfolding rewrite_file moves same_queue or_else
-  ungated q = stays n rows bs k none s w i e _ (held-append i rows bs q) refl refl
+  ungated q = stays n rows bs k None s w i e _ (held-append i rows bs q) refl refl
 
   module _ (g : ℕ) (q : get_or rows (i * 4 + 2) 0 ≡ 0) where
-    pub above_gate : g < get_or rows (i * 4 + 3) 0 → RewriteKey n rows bs k (some g) s Accepted rows
+    pub above_gate : g < get_or rows (i * 4 + 3) 0 → RewriteKey n rows bs k (Some g) s (Ok tt) rows
     unfolding rewrite_file moves same_queue or_else
     above_gate l =
         let f = lt-leb (get_or rows (i * 4 + 3) 0) g l in
-        stays n rows bs k (some g) s w i e _ (held-append i rows bs q) (rw f) (rw f)
+        stays n rows bs k (Some g) s w i e _ (held-append i rows bs q) (rw f) (rw f)
 
-    pub up_to_gate : get_or rows (i * 4 + 3) 0 ≤ g → RewriteKey n rows bs k (some g) s Accepted (moved_rows i s rows)
+    pub up_to_gate : get_or rows (i * 4 + 3) 0 ≤ g → RewriteKey n rows bs k (Some g) s (Ok tt) (moved_rows i s rows)
     unfolding rewrite_file moves same_queue or_else
     up_to_gate l =
         let f = le-leb (get_or rows (i * 4 + 3) 0) g l in
-        moved n rows bs k (some g) s w i e _ (held-append i rows bs q) (rw f) (rw f)
+        moved n rows bs k (Some g) s w i e _ (held-append i rows bs q) (rw f) (rw f)
 
   module _ (gate : Option ℕ) (q : get_or rows (i * 4 + 2) 0 ≡ 0 → ⊥) where
-    pub lower : s < get_or rows (i * 4 + 3) 0 → RewriteKey n rows bs k gate s GoesBack rows
+    pub lower : s < get_or rows (i * 4 + 3) 0 → RewriteKey n rows bs k gate s (Err KeyGoesBack) rows
     unfolding rewrite_file moves same_queue
     lower l =
         goes_back n rows bs k gate s w i e _ (held-rewrite i rows bs q)
         (rw (lt-ltb s (get_or rows (i * 4 + 3) 0) l))
         (rw (lt-leb (get_or rows (i * 4 + 3) 0) s l))
 
-    pub not_lower : get_or rows (i * 4 + 3) 0 ≤ s → RewriteKey n rows bs k gate s Accepted (moved_rows i s rows)
+    pub not_lower : get_or rows (i * 4 + 3) 0 ≤ s → RewriteKey n rows bs k gate s (Ok tt) (moved_rows i s rows)
     unfolding rewrite_file moves same_queue
     not_lower l =
         moved n rows bs k gate s w i e _ (held-rewrite i rows bs q)

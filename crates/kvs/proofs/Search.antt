@@ -1,4 +1,5 @@
 -- The turns of the search for a key by halves: the stretch of rows that is left has the place of the whole. Assumes nothing.
+use Rattle.rules.specs.Causes.{Ok, Err}
 use Prim.Native.Nat.{ℕ, suc, ◌+◌, ◌-◌, ◌≤◌, ◌<◌}
 use native.Mathlib.Nat.{add-zero, suc-add, add-suc}
 use native.Mathlib.Numerals.{add-one}
@@ -9,8 +10,8 @@ use mathlib.Core.List.{List, [], ◌∷◌, ◌++◌}
 use lib.ListN.{length}
 use Rattle.cells.specs.Part.{part}
 use Rattle.cells.specs.PartLaws.{part_all, part_none, part_cut, length_part}
-use Rattle.cells.specs.declared.order.Order.{Order}
-use Rattle.cells.specs.declared.order.Order.TheVariants.{Less, Equal, Greater}
+use Rattle.std.specs.declared.cmp.Ordering.{Ordering}
+use Rattle.std.specs.declared.cmp.Ordering.TheVariants.{Less, Equal, Greater}
 use Rattle.cells.specs.Bytes.{byte_order}
 use Rattle.maps.specs.Maps.{Pair, Map, bytes, equal_bytes, bytes_below}
 use Rattle.maps.specs.OrderLaws.{bytes_lawful, below-differs, above-differs, below-not_back}
@@ -22,7 +23,6 @@ use Rattle.kvs.specs.Orders.{below_by-order, same_by-order}
 use Rattle.kvs.specs.Places.{place_from, place_of, Within}
 use Rattle.kvs.specs.PlaceLaws.{place-within}
 use Rattle.kvs.specs.Stretches.{ascending-part, below_through}
-use Rattle.kvs.specs.declared.Place.TheVariants.{At, Before}
 
 -- ---- the place of k among keys with x between them
 
@@ -31,7 +31,7 @@ module _ (k : List ℕ) (x : Pair (List ℕ) Held) (t : Map (List ℕ) Held) whe
   place-front : (i : ℕ) (s : Map (List ℕ) Held) → bytes_below k x.key ≡ true → place_from i k (s ++ (x ∷ t)) ≡ place_from i k s
   unfolding place_from
   place-front i [] b = rw (below-differs bytes bytes_lawful k x.key b, b)
-  place-front i (y ∷ s) b = ap (λ p. cond (equal_bytes k y.key) (At i) (cond (bytes_below k y.key) (Before i) p)) (place-front (suc i) s b)
+  place-front i (y ∷ s) b = ap (λ p. cond (equal_bytes k y.key) (Ok i) (cond (bytes_below k y.key) (Err i) p)) (place-front (suc i) s b)
 
   below-later : (j : List ℕ) (s : Map (List ℕ) Held) → AllBelow bytes j (s ++ (x ∷ t)) → bytes_below j x.key ≡ true
   unfolding AllBelow
@@ -63,7 +63,7 @@ module _ (n : ℕ) (rows bs key : List ℕ) where
       rw (part_all (n - 0) (keys_in n rows bs) e)
 
   -- none is left
-  pub place_none : (low high : ℕ) → high ≤ low → place_from low key (part low (high - low) (keys_in n rows bs)) ≡ Before low
+  pub place_none : (low high : ℕ) → high ≤ low → place_from low key (part low (high - low) (keys_in n rows bs)) ≡ Err low
   unfolding place_from
   place_none low high h =
       let e : high - low ≡ 0 = omega arith in
@@ -88,7 +88,7 @@ module _ (n : ℕ) (rows bs key : List ℕ) where
         let g : length (part low (mid - low) (keys_in n rows bs)) ≡ mid - low = length_part low (mid - low) (keys_in n rows bs) (omega arith) in
         omega arith
 
-    module _ {k : List ℕ} {o : Order} (e : k ≡ key_of (row_at mid rows bs)) (g : o ≡ byte_order key k) where
+    module _ {k : List ℕ} {o : Ordering} (e : k ≡ key_of (row_at mid rows bs)) (g : o ≡ byte_order key k) where
       order : o ≡ byte_order key (key_of (row_at mid rows bs))
       order = rw e at g
 
@@ -98,7 +98,7 @@ module _ (n : ℕ) (rows bs key : List ℕ) where
           rw left_by_lem
           (place-front key (pair_of (row_at mid rows bs)) _ low _ (rw (below_by-order key (key_of (row_at mid rows bs)), ← order, q)))
 
-      pub place_equal : o ≡ Equal → place_from low key (part low (high - low) (keys_in n rows bs)) ≡ At mid
+      pub place_equal : o ≡ Equal → place_from low key (part low (high - low) (keys_in n rows bs)) ≡ Ok mid
       unfolding place_from pair_of
       place_equal q =
           let x = key_of (row_at mid rows bs) in
@@ -113,10 +113,10 @@ module _ (n : ℕ) (rows bs key : List ℕ) where
 -- ---- what a place says
 
 module _ (n : ℕ) (rows bs key : List ℕ) (i : ℕ) where
-  pub at_below : place_of key (keys_in n rows bs) ≡ At i → i < n
+  pub at_below : place_of key (keys_in n rows bs) ≡ Ok i → i < n
   unfolding Within
   at_below e = rw length-keys at (rw e at (place-within key (keys_in n rows bs)))
 
-  pub before_below : place_of key (keys_in n rows bs) ≡ Before i → i ≤ n
+  pub before_below : place_of key (keys_in n rows bs) ≡ Err i → i ≤ n
   unfolding Within
   before_below e = rw length-keys at (rw e at (place-within key (keys_in n rows bs)))

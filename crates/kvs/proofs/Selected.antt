@@ -26,9 +26,9 @@ module _ (p : Pair (List ℕ) Held → Bool) (n : ℕ) (rows bs : List ℕ) wher
   unfolding selected
   selected_all = refl
 
-  pub selected-none : (i : ℕ) → n ≤ i → selected i ≡ []
+  pub selected_none : (i : ℕ) → n ≤ i → selected i ≡ []
   unfolding selected select
-  selected-none i h =
+  selected_none i h =
       let l : length (keys_in n rows bs) ≤ i = rw (length-keys n rows bs) h in
       rw (drop_of_length-le (keys_in n rows bs) l)
 
@@ -36,8 +36,8 @@ module _ (p : Pair (List ℕ) Held → Bool) (n : ℕ) (rows bs : List ℕ) wher
   unfolding selected select
   selected-more i h = rw (keys_from n i rows bs h)
 
-  pub count-more : (i : ℕ) → i < n → length (selected i) ≡ cond (p (pair_of (row_at i rows bs))) 1 0 + length (selected (i + 1))
-  count-more i h =
+  pub count_more : (i : ℕ) → i < n → length (selected i) ≡ cond (p (pair_of (row_at i rows bs))) 1 0 + length (selected (i + 1))
+  count_more i h =
       split (p (pair_of (row_at i rows bs)))
       (λ e. rw (selected-more i h, e, add-one i) (omega arith))
       (λ e. rw (selected-more i h, e, add-one i) (omega arith))
@@ -76,7 +76,7 @@ module _ (p : Pair (List ℕ) Held → Bool) (n : ℕ) (rows bs : List ℕ) wher
 
   pub left-none : (b : Bool) (s : ℕ) → n ≤ s → left b s ≡ []
   unfolding left select
-  left-none false s h = rw (selected-none s h)
+  left-none false s h = rw (selected_none s h)
   left-none true s h = let e : n - s ≡ 0 = omega arith in rw e
 
   back : (s j : ℕ) → s < n → j ≡ n - 1 - s

@@ -1,10 +1,9 @@
 -- A newer table's keys laid over a group's own: what the parts are and stand for at exit.
+use Rattle.rules.specs.Causes.{ByCause, Ok, Err}
 use Rattle.std.specs.Prelude.{Bool, true, false, List, [], ◌∷◌, ◌≡◌, ℕ, length}
 use Rattle.maps.specs.Lists.{select, or_else}
 use Rattle.maps.specs.Maps.{Pair, Map, lookup, insert, bytes}
 use Rattle.rules.specs.Table.{Held, over_keys}
-use Rattle.kvs.specs.declared.Outcome.{Outcome}
-use Rattle.kvs.specs.declared.Outcome.TheVariants.{Done, Full}
 use Rattle.kvs.specs.Rows.{keys_in}
 use Rattle.kvs.specs.Places.{place_of}
 use Rattle.kvs.specs.Calls.{Holds, room_for, Stands, put_rows, put_bytes}
@@ -20,8 +19,8 @@ unfoldable pub put_pair : Pair (List ℕ) Held → Parts → Parts
 put_pair x p =
     record {
       count = length (insert bytes x.key x.val (keys_in p.count p.rows p.bytes));
-      rows = put_rows (Done 0) (place_of x.key (keys_in p.count p.rows p.bytes)) p.count x.key x.val p.rows;
-      bytes = put_bytes (Done 0) (place_of x.key (keys_in p.count p.rows p.bytes)) p.count x.key x.val p.bytes;
+      rows = put_rows (Ok 0) (place_of x.key (keys_in p.count p.rows p.bytes)) p.count x.key x.val p.rows;
+      bytes = put_bytes (Ok 0) (place_of x.key (keys_in p.count p.rows p.bytes)) p.count x.key x.val p.bytes;
     }
 
 -- after each pair in order
@@ -45,11 +44,11 @@ pub record LaidOver (n : ℕ) (rows bs : List ℕ) (newer : Map (List ℕ) Held)
 
 -- ---- `merge_keys`
 
-unfoldable pub merged_parts : Outcome → Map (List ℕ) Held → Parts → Parts
-merged_parts (Done m) newer p = put_all newer p
-merged_parts Full newer p = p
+unfoldable pub merged_parts : ByCause ℕ → Map (List ℕ) Held → Parts → Parts
+merged_parts (Ok m) newer p = put_all newer p
+merged_parts (Err e) newer p = p
 
-pub record MergeKeys (n : ℕ) (rows bs : List ℕ) (newer : Map (List ℕ) Held) (r : Outcome) (rows' bs' : List ℕ) : Type 0 where
+pub record MergeKeys (n : ℕ) (rows bs : List ℕ) (newer : Map (List ℕ) Held) (r : ByCause ℕ) (rows' bs' : List ℕ) : Type 0 where
   pub answer : r ≡ room_for (length (over_keys (keys_in n rows bs) newer)) rows bs
   pub rows_are : rows' ≡ (merged_parts r newer (parts n rows bs)).rows
   pub bytes-are : bs' ≡ (merged_parts r newer (parts n rows bs)).bytes

@@ -4,7 +4,7 @@ use Rattle.std.proofs.Math.Bool.{true, not}
 use Rattle.std.proofs.Common.{true≢false, ◌∙◌, length-append, take-append-drop, take_all}
 use Rattle.std.proofs.Math.Path.{refl, sym, ap}
 use mathlib.Core.List.{List, [], ◌∷◌}
-use Rattle.std.proofs.Math.Option.{Option, none, some}
+use Rattle.std.specs.Prelude.{Option, None, Some}
 use Rattle.std.proofs.Math.Nat.{sub-zero}
 use native.Mathlib.Omega.{arith}
 use Rattle.std.proofs.Math.ListN.{take, length-drop}
@@ -115,14 +115,14 @@ keeps_all (x ∷ xs) = ap (λ l. x ∷ l) (keeps_all xs)
 from_start : (start : Option (List ℕ)) (m : Map (List ℕ) Held) → Ascending bytes m
     → select (λ x. or_else true (λ s. not (bytes_below x.key s)) start) m ≡ drop (below_bound 0 start m) m
 unfolding or_else below_bound
-from_start none m a = keeps_all m
-from_start (some s) m a = sym (rw (place-counts s m a) (drop-count s m a))
+from_start None m a = keeps_all m
+from_start (Some s) m a = sym (rw (place-counts s m a) (drop-count s m a))
 
 to_end : (end : Option (List ℕ)) (m : Map (List ℕ) Held) → Ascending bytes m
     → select (λ x. or_else true (bytes_below x.key) end) m ≡ take (below_bound (length m) end m) m
 unfolding or_else below_bound
-to_end none m a = keeps_all m ∙ sym (take_all (length m) m (omega arith))
-to_end (some e) m a = sym (rw (place-counts e m a) (take_count e m a))
+to_end None m a = keeps_all m ∙ sym (take_all (length m) m (omega arith))
+to_end (Some e) m a = sym (rw (place-counts e m a) (take_count e m a))
 
 module _ (m : Map (List ℕ) Held) (a : Ascending bytes m) where
   -- the bound e from the place of s on
@@ -133,21 +133,21 @@ module _ (m : Map (List ℕ) Held) (a : Ascending bytes m) where
 
   low-within : (start : Option (List ℕ)) → below_bound 0 start m ≤ length m
   unfolding below_bound or_else
-  low-within none = omega arith
-  low-within (some s) = rw (place-counts s m a) (length-select (λ x. bytes_below x.key s) m)
+  low-within None = omega arith
+  low-within (Some s) = rw (place-counts s m a) (length-select (λ x. bytes_below x.key s) m)
 
   high-drop : (start end : Option (List ℕ)) → start_above_end start end ≡ false
       → below_bound (length (drop (below_bound 0 start m) m)) end (drop (below_bound 0 start m) m) ≡ below_bound (length m) end m - below_bound 0 start m
   unfolding below_bound or_else start_above_end
-  high-drop start none h = length-drop (below_bound 0 start m) m
-  high-drop none (some e) h = sym (sub-zero (below_at (place_of e m)))
-  high-drop (some s) (some e) h = omega (arith, high-from s e h)
+  high-drop start None h = length-drop (below_bound 0 start m) m
+  high-drop None (Some e) h = sym (sub-zero (below_at (place_of e m)))
+  high-drop (Some s) (Some e) h = omega (arith, high-from s e h)
 
   pub low-high : (start end : Option (List ℕ)) → start_above_end start end ≡ false → below_bound 0 start m ≤ below_bound (length m) end m
   unfolding below_bound or_else start_above_end
-  low-high start none h = low-within start
-  low-high none (some e) h = omega arith
-  low-high (some s) (some e) h = omega (arith, high-from s e h)
+  low-high start None h = low-within start
+  low-high None (Some e) h = omega arith
+  low-high (Some s) (Some e) h = omega (arith, high-from s e h)
 
   -- the keys in bounds are the stretch between the places of the bounds
   pub in-stretch : (start end : Option (List ℕ)) → start_above_end start end ≡ false → select (λ x. in_bounds start end x.key) m ≡ part (below_bound 0 start m) (below_bound (length m) end m - below_bound 0 start m) m

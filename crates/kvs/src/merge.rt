@@ -1,28 +1,17 @@
 // A newer table's keys laid over a group's own.
-ghost use Rattle.std.specs.Prelude.{true, cond, ◌≡◌, ◌≤◌, ◌<◌, length};
+ghost use Rattle.std.specs.Prelude.{true, ◌≡◌, ◌≤◌, ◌<◌, length};
 ghost use Rattle.rules.specs.Table.{over_keys};
 ghost use Rattle.kvs.specs.Rows.{row_at, key_of, held_of, keys_in, Wf, fits};
 ghost use Rattle.kvs.specs.RowIn.{RowIn};
 ghost use Rattle.kvs.specs.Calls.{PutKey};
-ghost use Rattle.kvs.specs.Merge.{is_absent, missing, LaidOver, MergeKeys};
+ghost use Rattle.kvs.specs.Merge.{missing, LaidOver, MergeKeys};
 
 use crate::rows::{ROW_BYTES, ROW_WIDTH, key_at, value_at};
-use crate::{Outcome, Place, find, put};
-use pipe_log::queue_at;
-
-// 1 for a key that the part lacks, and 0 for one that it has.
-fn one_absent(n: usize, rows: &[u64], bytes: &[u8], key: &[u8]) -> usize
-    requires { Wf n rows.now bytes.now }
-    ensures value { result ≡ cond (is_absent key.now (keys_in n rows.now bytes.now)) 1 0 }
-    ensures upper_bound { result ≤ 1 }
-{
-    let Place::At(_) = find(n, rows, bytes, key) else {
-        return 1;
-    };
-    0
-}
+use crate::{find, put};
+use pipe_log::{Cause, LogQueue};
 
 // How many of the `m` newer keys the part lacks.
+#[tactic(auto, using(crate::proofs::Merges::lacks_all, crate::proofs::Merges::lacks_none, crate::proofs::Merges::lacks_more, crate::proofs::Merges::absent, crate::proofs::Merges::present))]
 fn count_absent(
     n: usize,
     rows: &[u64],
@@ -37,10 +26,10 @@ fn count_absent(
     ensures upper_bound { result ≤ m }
 {
     let mut count = 0;
-    let mut j = 0;
-    while j < m {
-        count += one_absent(n, rows, bytes, key_at(newrows, newbytes, j));
-        j += 1;
+    for j in 0..m {
+        if find(n, rows, bytes, key_at(newrows, newbytes, j)).is_err() {
+            count += 1;
+        }
     }
     count
 }
@@ -53,14 +42,14 @@ fn put_row(
     newrows: &[u64],
     newbytes: &[u8],
     j: usize,
-) -> Outcome
+) -> Result<usize, Cause>
     requires wf { Wf n rows.old bytes.old }
     requires row_in { RowIn j newrows.now newbytes.now }
     ensures { PutKey n rows.old bytes.old (key_of (row_at j newrows.now newbytes.now)) (held_of (row_at j newrows.now newbytes.now)) result rows.new bytes.new }
 {
     let key = key_at(newrows, newbytes, j);
     let value = value_at(newrows, newbytes, j);
-    let queue = queue_at(newrows[j * ROW_WIDTH + 2]);
+    let queue = LogQueue::from(newrows[j * ROW_WIDTH + 2]);
     put(
         n,
         rows,
@@ -73,6 +62,7 @@ fn put_row(
 }
 
 // Puts each of the `m` newer keys, for which there is room.
+#[tactic(auto, using(crate::proofs::Merges::laying_none, crate::proofs::Merges::never_full))]
 fn lay_over(
     n: usize,
     rows: &mut [u64],
@@ -87,13 +77,8 @@ fn lay_over(
     ensures { LaidOver n rows.old bytes.old (keys_in m newrows.now newbytes.now) result rows.new bytes.new }
 {
     let mut count = n;
-    let mut j = 0;
-    while j < m {
-        let Outcome::Done(more) = put_row(count, rows, bytes, newrows, newbytes, j) else {
-            return count;
-        };
-        count = more;
-        j += 1;
+    for j in 0..m {
+        count = put_row(count, rows, bytes, newrows, newbytes, j).unwrap();
     }
     count
 }
@@ -106,17 +91,17 @@ pub fn merge_keys(
     m: usize,
     newrows: &[u64],
     newbytes: &[u8],
-) -> Outcome
+) -> Result<usize, Cause>
     requires wf { Wf n rows.old bytes.old }
     requires wf_2 { Wf m newrows.now newbytes.now }
     ensures { MergeKeys n rows.old bytes.old (keys_in m newrows.now newbytes.now) result rows.new bytes.new }
 {
     let all = n + count_absent(n, rows, bytes, m, newrows, newbytes);
     if rows.len() < all * ROW_WIDTH {
-        return Outcome::Full;
+        return Err(Cause::LimitPassed);
     }
     if bytes.len() < all * ROW_BYTES {
-        return Outcome::Full;
+        return Err(Cause::LimitPassed);
     }
-    Outcome::Done(lay_over(n, rows, bytes, m, newrows, newbytes))
+    Ok(lay_over(n, rows, bytes, m, newrows, newbytes))
 }

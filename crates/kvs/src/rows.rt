@@ -56,10 +56,10 @@ pub fn write_row(
     let at = i * ROW_WIDTH;
     rows[at] = key.len() as u64;
     rows[at + 1] = value.len() as u64;
-    rows[at + 2] = queue.to_u64();
+    rows[at + 2] = u64::from(queue);
     rows[at + 3] = seq;
-    cells::copy_in_u8(bytes, i * ROW_BYTES, key);
-    cells::copy_in_u8(bytes, i * ROW_BYTES + VALUE_AT, value);
+    cells::copy_in(bytes, i * ROW_BYTES, key);
+    cells::copy_in(bytes, i * ROW_BYTES + VALUE_AT, value);
 }
 
 // Moves the rows from row `i` of `n` up by one.
@@ -69,13 +69,13 @@ pub fn open_row(n: usize, rows: &mut [u64], bytes: &mut [u8], i: usize)
     ensures rows_after { rows.new ≡ opened 4 n i rows.old }
     ensures bytes_after { bytes.new ≡ opened 64 n i bytes.old }
 {
-    cells::shift_up_u64(
+    cells::shift(
         rows,
         i * ROW_WIDTH,
         i * ROW_WIDTH + ROW_WIDTH,
         (n - i) * ROW_WIDTH,
     );
-    cells::shift_up_u8(
+    cells::shift(
         bytes,
         i * ROW_BYTES,
         i * ROW_BYTES + ROW_BYTES,
@@ -91,13 +91,13 @@ pub fn close_row(n: usize, rows: &mut [u64], bytes: &mut [u8], i: usize)
     ensures bytes_after { bytes.new ≡ closed 64 n i bytes.old }
 {
     let left = n - (i + 1);
-    cells::shift_down_u64(
+    cells::shift(
         rows,
         i * ROW_WIDTH + ROW_WIDTH,
         i * ROW_WIDTH,
         left * ROW_WIDTH,
     );
-    cells::shift_down_u8(
+    cells::shift(
         bytes,
         i * ROW_BYTES + ROW_BYTES,
         i * ROW_BYTES,

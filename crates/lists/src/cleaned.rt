@@ -14,5 +14,5 @@ pub fn copy_cleaned(ys: &[u64], list: &mut [u64])
     let count = ys[CLEANED_AT] as usize;
     let from = CLEANED_FROM;
     let to = CLEANED_FROM + count;
-    cells::copy_in_u64(list, 0, &ys[from..to]);
+    cells::copy_in(list, 0, &ys[from..to]);
 }

@@ -104,7 +104,7 @@ pub fn clear(ys: &mut [u64], queue: LogQueue)
     requires { length ys.old ≡ 7855 }
     ensures { (cs : List ℕ) → length cs ≡ 22528 → Becomes (fresh queue) ys.old cs ys.new }
 {
-    ys[KIND_AT] = queue.to_u64();
+    ys[KIND_AT] = u64::from(queue);
     ys[TOMBSTONES_AT] = 0;
     ys[CLEANED_AT] = 0;
 }
@@ -214,7 +214,7 @@ pub fn add_all_cleaned(ys: &mut [u64], its_ys: &[u64])
     let its = its_ys[CLEANED_AT] as usize;
     let from = CLEANED_FROM;
     let to = CLEANED_FROM + its;
-    cells::copy_in_u64(ys, CLEANED_FROM + own, &its_ys[from..to]);
+    cells::copy_in(ys, CLEANED_FROM + own, &its_ys[from..to]);
     ys[CLEANED_AT] = own as u64 + its as u64;
 }
 

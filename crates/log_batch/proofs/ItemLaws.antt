@@ -2,7 +2,7 @@
 use mathlib.Core.Bool.{Bool, true, false, ◌&&◌}
 use mathlib.Core.Path.{◌≡◌, refl}
 use mathlib.Core.List.{List, [], ◌∷◌}
-use mathlib.Core.Option.{Option, none, some}
+use Rattle.std.specs.Prelude.{Option, None, Some}
 use Prim.Native.Nat.{ℕ, zero, suc, ◌+◌, ◌*◌, ◌-◌, ◌≤◌, ◌<◌}
 use native.Mathlib.Numerals.{add-one}
 use native.Mathlib.Omega.{arith}
@@ -30,29 +30,29 @@ and-true true = refl
 and-true false = refl
 
 -- a key is compared byte by byte, if it has three
-pub key-three : (k : List ℕ) → length k ≡ 3 → equal_bytes k reserved_key ≡ eqb (get_or k 0 0) 95 && (eqb (get_or k 1 0) 95 && eqb (get_or k 2 0) 1)
+pub key_three : (k : List ℕ) → length k ≡ 3 → equal_bytes k reserved_key ≡ eqb (get_or k 0 0) 95 && (eqb (get_or k 1 0) 95 && eqb (get_or k 2 0) 1)
 unfolding equal_bytes
-key-three [] h = absurd (omega arith)
-key-three (a ∷ []) h = absurd (omega arith)
-key-three (a ∷ (b ∷ [])) h = absurd (omega arith)
-key-three (a ∷ (b ∷ (c ∷ []))) h = rw and-true
-key-three (a ∷ (b ∷ (c ∷ (d ∷ ds)))) h = absurd (omega arith)
+key_three [] h = absurd (omega arith)
+key_three (a ∷ []) h = absurd (omega arith)
+key_three (a ∷ (b ∷ [])) h = absurd (omega arith)
+key_three (a ∷ (b ∷ (c ∷ []))) h = rw and-true
+key_three (a ∷ (b ∷ (c ∷ (d ∷ ds)))) h = absurd (omega arith)
 
-pub key-other : (k : List ℕ) → (length k ≡ 3 → ⊥) → equal_bytes k reserved_key ≡ false
+pub key_other : (k : List ℕ) → (length k ≡ 3 → ⊥) → equal_bytes k reserved_key ≡ false
 unfolding equal_bytes
-key-other [] h = refl
-key-other (a ∷ []) h = and-false (eqb a 95)
-key-other (a ∷ (b ∷ [])) h = rw (and-false (eqb b 95)) (and-false (eqb a 95))
-key-other (a ∷ (b ∷ (c ∷ []))) h = absurd (h refl)
-key-other (a ∷ (b ∷ (c ∷ (d ∷ ds)))) h = rw (and-false (eqb c 1), and-false (eqb b 95)) (and-false (eqb a 95))
+key_other [] h = refl
+key_other (a ∷ []) h = and-false (eqb a 95)
+key_other (a ∷ (b ∷ [])) h = rw (and-false (eqb b 95)) (and-false (eqb a 95))
+key_other (a ∷ (b ∷ (c ∷ []))) h = absurd (h refl)
+key_other (a ∷ (b ∷ (c ∷ (d ∷ ds)))) h = rw (and-false (eqb c 1), and-false (eqb b 95)) (and-false (eqb a 95))
 
 -- ---- marks
 
-pub one-byte-part : (bs : List ℕ) (a : ℕ) → a + 1 ≤ length bs → one_byte (some (part a 1 bs)) ≡ some (get_or bs a 0)
+pub one-byte-part : (bs : List ℕ) (a : ℕ) → a + 1 ≤ length bs → one_byte (Some (part a 1 bs)) ≡ Some (get_or bs a 0)
 unfolding one_byte part
 one-byte-part bs a h = rw (drop-cons bs a 0 (omega arith))
 
-pub not-one-byte : (l : List ℕ) → (length l ≡ 1 → ⊥) → one_byte (some l) ≡ none
+pub not-one-byte : (l : List ℕ) → (length l ≡ 1 → ⊥) → one_byte (Some l) ≡ None
 unfolding one_byte
 not-one-byte [] h = refl
 not-one-byte (a ∷ []) h = absurd (h refl)
@@ -60,15 +60,15 @@ not-one-byte (a ∷ (b ∷ l)) h = refl
 
 -- of the first mark and the marks behind it
 module _ (f : ℕ → Mark) (d : Option Mark) where
-  or-mark : (o : Option ℕ) (m : Mark) → map_option f o ≡ some m → or_else d (λ (b : ℕ). some (f b)) o ≡ some m
+  or-mark : (o : Option ℕ) (m : Mark) → map_option f o ≡ Some m → or_else d (λ (b : ℕ). Some (f b)) o ≡ Some m
   unfolding map_option or_else
-  or-mark none m h = let z : ◌≡◌ {A = ℕ} 0 1 = cc in absurd (omega arith)
-  or-mark (some b) m h = h
+  or-mark None m h = let z : ◌≡◌ {A = ℕ} 0 1 = cc in absurd (omega arith)
+  or-mark (Some b) m h = h
 
-  or-none : (o : Option ℕ) → map_option f o ≡ none → or_else d (λ (b : ℕ). some (f b)) o ≡ d
+  or-none : (o : Option ℕ) → map_option f o ≡ None → or_else d (λ (b : ℕ). Some (f b)) o ≡ d
   unfolding map_option or_else
-  or-none none h = refl
-  or-none (some b) h = let z : ◌≡◌ {A = ℕ} 0 1 = cc in absurd (omega arith)
+  or-none None h = refl
+  or-none (Some b) h = let z : ◌≡◌ {A = ℕ} 0 1 = cc in absurd (omega arith)
 
 -- ---- the items from item i on
 
@@ -89,25 +89,25 @@ module _ (es bs : List ℕ) where
         rw (e, s, drop-drop 9 (i * 9) xs)
 
     -- the first mark
-    pub mark-end : n ≤ i → first_mark i (items_from es bs (n - i) (drop (i * 9) xs)) ≡ none
+    pub mark-end : n ≤ i → first_mark i (items_from es bs (n - i) (drop (i * 9) xs)) ≡ None
     unfolding first_mark
     mark-end h = rw (items-end h)
 
-    pub mark-found : (m : Mark) → i < n → mark_here i (item_at es bs (drop (i * 9) xs)) ≡ some m → first_mark i (items_from es bs (n - i) (drop (i * 9) xs)) ≡ some m
+    pub mark-found : (m : Mark) → i < n → mark_here i (item_at es bs (drop (i * 9) xs)) ≡ Some m → first_mark i (items_from es bs (n - i) (drop (i * 9) xs)) ≡ Some m
     unfolding first_mark mark_here
     mark-found m h e = rw (items_more h) (or-mark _ _ _ m e)
 
-    pub mark-more : i < n → mark_here i (item_at es bs (drop (i * 9) xs)) ≡ none → first_mark i (items_from es bs (n - i) (drop (i * 9) xs)) ≡ first_mark (i + 1) (items_from es bs (n - (i + 1)) (drop ((i + 1) * 9) xs))
+    pub mark-more : i < n → mark_here i (item_at es bs (drop (i * 9) xs)) ≡ None → first_mark i (items_from es bs (n - i) (drop (i * 9) xs)) ≡ first_mark (i + 1) (items_from es bs (n - (i + 1)) (drop ((i + 1) * 9) xs))
     unfolding first_mark mark_here
     mark-more h e = rw (items_more h, add-one i) (or-none _ _ _ e)
 
     -- the first item that meets a test
     module _ (p : ℕ → LogItem → Bool) where
-      pub find-end : n ≤ i → find_from p i (items_from es bs (n - i) (drop (i * 9) xs)) ≡ none
+      pub find-end : n ≤ i → find_from p i (items_from es bs (n - i) (drop (i * 9) xs)) ≡ None
       unfolding find_from
       find-end h = rw (items-end h)
 
-      pub find_here : i < n → p i (item_at es bs (drop (i * 9) xs)) ≡ true → find_from p i (items_from es bs (n - i) (drop (i * 9) xs)) ≡ some i
+      pub find_here : i < n → p i (item_at es bs (drop (i * 9) xs)) ≡ true → find_from p i (items_from es bs (n - i) (drop (i * 9) xs)) ≡ Some i
       unfolding find_from
       find_here h t = rw (items_more h, t)
 
@@ -116,8 +116,8 @@ module _ (es bs : List ℕ) where
       find-more h t = rw (items_more h, t, add-one i)
 
 -- any byte but 0 and 1 stands for the last status
-pub status-end : (b : ℕ) → (b ≡ 0 → ⊥) → (b ≡ 1 → ⊥) → end ≡ status_of b
+pub status_end : (b : ℕ) → (b ≡ 0 → ⊥) → (b ≡ 1 → ⊥) → end ≡ status_of b
 unfolding status_of
-status-end zero p q = absurd (p refl)
-status-end (suc zero) p q = absurd (q refl)
-status-end (suc (suc n)) p q = refl
+status_end zero p q = absurd (p refl)
+status_end (suc zero) p q = absurd (q refl)
+status_end (suc (suc n)) p q = refl

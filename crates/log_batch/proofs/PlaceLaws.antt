@@ -1,15 +1,14 @@
 -- Places within slices, and rows. Assumes nothing.
 use mathlib.Core.Path.{◌≡◌, sym, ◌∙◌}
 use mathlib.Core.List.{List}
-use Prim.Native.Nat.{ℕ, ◌+◌, ◌*◌, ◌-◌, ◌≤◌, ◌<◌}
+use Prim.Native.Nat.{ℕ, ◌+◌, ◌-◌, ◌≤◌}
 use native.Mathlib.Decide.{dec_le}
 use native.Mathlib.Omega.{arith}
 use lib.Dec.{leb}
-use lib.ListN.{length, take, drop, length-drop}
+use lib.ListN.{length, take, drop}
 use borrow.Author.Tests.{le-leb, lt-leb}
 use Rattle.cells.specs.Part.{part}
 use Rattle.cells.specs.PartLaws.{part-is, part_back, length_part}
-use Rattle.log_batch.specs.Lent.{row_count_of}
 
 -- n places from a on end by e
 pub leb-after : (a n e : ℕ) → a ≤ e → leb n (e - a) ≡ leb (a + n) e
@@ -18,14 +17,6 @@ leb-after a n e h =
       | yes l ↦ le-leb n (e - a) (omega arith) ∙ sym (le-leb (a + n) e l)
       | no l ↦ lt-leb n (e - a) (omega arith) ∙ sym (lt-leb (a + n) e (omega arith))
     ]
-
--- the row of an item begins within the slice
-pub row-begins : (xs : List ℕ) (i : ℕ) → i < row_count_of xs → i * 9 < length xs
-unfolding row_count_of
-row-begins xs i h = omega arith
-
-pub row-left : (xs : List ℕ) (i : ℕ) → i < row_count_of xs → 0 < length (drop (i * 9) xs)
-row-left xs i h = let s : i * 9 < length xs = row-begins xs i h in simp length-drop (omega arith)
 
 -- `&s[a..a + n]`
 module _ {A : Type 0} (a n : ℕ) (l : List A) where

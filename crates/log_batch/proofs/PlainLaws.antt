@@ -1,14 +1,14 @@
 -- A list that one pass finds plain meets none of 3 to 6. Assumes nothing.
 use mathlib.Core.Bool.{true, false, ◌&&◌}
-use mathlib.Core.Path.{◌≡◌, refl, sym}
+use mathlib.Core.Path.{◌≡◌, refl}
 use mathlib.Core.List.{List, [], ◌∷◌}
+use Rattle.std.specs.Prelude.{None}
 use Prim.Native.Nat.{ℕ, zero, suc, ◌+◌, ◌-◌, ◌*◌, ◌≤◌, ◌<◌, ◌^◌}
-use native.Mathlib.Nat.{add-zero}
 use native.Mathlib.Omega.{arith}
 use lib.Dec.{eqb, leb, ltb}
 use lib.ListN.{get_or, drop}
 use lib.Seq.{drop-drop}
-use borrow.Author.Tests.{eqb-true, ltb-true, leb-true, lt-ltb, le-ltb, lt-leb, le-leb, eq-eqb, ne_eqb}
+use borrow.Author.Tests.{eqb-true, ltb-true, leb-true, lt-ltb, le-ltb, eq-eqb}
 use Rattle.cells.specs.Part.{part}
 use Rattle.maps.specs.BoolLaws.{clash, and-false, both_left, both_right}
 use Rattle.maps.specs.Lists.{any}
@@ -131,11 +131,11 @@ module _ (q : LogQueue) where
       rest
 
 -- such a list meets none of 3 to 6
-list-least : (call : Call) (es : List EntryIndex) → Unmet (writes call) es → least_content call (entries es) ≡ 7
+list-least : (call : Call) (es : List EntryIndex) → Unmet (writes call) es → least_content call (entries es) ≡ None
 unfolding least_content is_incomplete is_out_of_range is_other_queue is_not_rewritable is_tombstone entry_meets
 list-least call es u = rw (u.filed, u.order, u.range, u.queue, and-false)
 
-pub plain-least : (call : Call) (c : content.LogItemContent) (es bs : List ℕ) → plain_content (writes call) c es ≡ true → least_content call (content_of c es bs) ≡ 7
+pub plain-least : (call : Call) (c : content.LogItemContent) (es bs : List ℕ) → plain_content (writes call) c es ≡ true → least_content call (content_of c es bs) ≡ None
 unfolding plain_content plain_list content_of
 plain-least call (content.TheVariants.EntryIndexes e) es bs p =
     let xs = part (e.at * 8) (e.count * 8) es in
@@ -147,53 +147,7 @@ plain-least call (content.TheVariants.EntryIndexes e) es bs p =
 plain-least call (content.TheVariants.Command c) es bs p = absurd (clash p)
 plain-least call (content.TheVariants.Kv k) es bs p = absurd (clash p)
 
--- ---- the tests of a row, in their order
-
-module _ (q i : ℕ) (xs : List ℕ) where
-  pub other-index : (get_or xs 0 0 ≡ i → ⊥) → false ≡ plain_row q i xs
-  unfolding plain_row
-  other-index n = rw (ne_eqb (get_or xs 0 0) i n)
-
-  module _ (a : get_or xs 0 0 ≡ i) where
-    pub other_number : (get_or xs 1 0 ≡ q → ⊥) → false ≡ plain_row q i xs
-    unfolding plain_row
-    other_number n = rw (eq-eqb (get_or xs 0 0) i a, ne_eqb (get_or xs 1 0) q n)
-
-    module _ (b : get_or xs 1 0 ≡ q) where
-      pub no-compression : 1 < get_or xs 5 0 → false ≡ plain_row q i xs
-      unfolding plain_row
-      no-compression n = rw (eq-eqb (get_or xs 0 0) i a, eq-eqb (get_or xs 1 0) q b, le-ltb (get_or xs 5 0) 2 n)
-
-      module _ (c : get_or xs 5 0 ≤ 1) where
-        pub too_long : 2 ^ 25 < get_or xs 7 0 → false ≡ plain_row q i xs
-        unfolding plain_row
-        too_long n =
-            rw (eq-eqb (get_or xs 0 0) i a, eq-eqb (get_or xs 1 0) q b, lt-ltb (get_or xs 5 0) 2 (omega arith), lt-leb (get_or xs 7 0) (2 ^ 25) n)
-
-        pub by-offset : get_or xs 7 0 ≤ 2 ^ 25 → ltb (get_or xs 6 0) (2 ^ 32) ≡ plain_row q i xs
-        unfolding plain_row
-        by-offset n =
-            rw (eq-eqb (get_or xs 0 0) i a, eq-eqb (get_or xs 1 0) q b, lt-ltb (get_or xs 5 0) 2 (omega arith), le-leb (get_or xs 7 0) (2 ^ 25) n)
-
--- ---- the tests of a list
-
-module _ (q n : ℕ) (xs : List ℕ) where
-  pub no_row : n ≡ 0 → false ≡ plain_list q n xs
-  unfolding plain_list
-  no_row e = rw (le-ltb 0 n (omega arith))
-
-  pub far-index : 2 ^ 63 < get_or xs 0 0 + n → false ≡ plain_list q n xs
-  unfolding plain_list
-  far-index e = rw (lt-leb (get_or xs 0 0 + n) (2 ^ 63) e) (sym (and-false (ltb 0 n)))
-
-  pub by_rows : 0 < n → get_or xs 0 0 + n ≤ 2 ^ 63 → plain_rows q (get_or xs 0 0) n xs ≡ plain_list q n xs
-  unfolding plain_list
-  by_rows l e = rw (lt-ltb 0 n l, le-leb (get_or xs 0 0 + n) (2 ^ 63) e)
-
 -- ---- the turns of the pass
-
-pub plain-start : (q f n : ℕ) (xs : List ℕ) → plain_rows q f n xs ≡ plain_rows q (f + 0) (n - 0) (drop (0 * 8) xs)
-plain-start q f n xs = let e : n - 0 ≡ n = omega arith in rw (e, add-zero f)
 
 module _ (q f n i : ℕ) (xs : List ℕ) where
   pub plain_end : n ≤ i → plain_rows q (f + i) (n - i) (drop (i * 8) xs) ≡ true

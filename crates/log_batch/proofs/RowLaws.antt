@@ -1,23 +1,22 @@
 -- Lists of entries as rows: what a row says of its entry, and scans over the rows from row i on. Assumes nothing.
-use mathlib.Core.Bool.{Bool, true, false, cond, not, ◌&&◌}
-use mathlib.Core.Path.{◌≡◌, refl, sym, ◌∙◌}
+use Rattle.std.specs.Prelude.{None, Some}
+use mathlib.Core.Bool.{Bool, true, false, cond, ◌&&◌}
+use mathlib.Core.Path.{◌≡◌, refl}
 use mathlib.Core.List.{List, [], ◌∷◌}
-use Prim.Native.Nat.{ℕ, suc, ◌+◌, ◌*◌, ◌-◌, ◌≤◌, ◌<◌}
+use Prim.Native.Nat.{ℕ, zero, suc, ◌+◌, ◌*◌, ◌-◌, ◌≤◌, ◌<◌}
 use native.Mathlib.Decide.{dec_le}
 use native.Mathlib.Omega.{arith}
 use lib.Dec.{eqb}
 use lib.ListN.{get_or, drop}
 use lib.Seq.{drop-drop, get_or-drop}
-use borrow.Author.Tests.{eq-eqb, ne_eqb}
 use Rattle.maps.specs.Lists.{any}
 use Rattle.pipe_log.specs.declared.EntryIndex.{EntryIndex}
-use Rattle.pipe_log.specs.declared.EntryBlock.{TheVariants.Absent, TheVariants.At}
 use Rattle.pipe_log.specs.declared.FileBlockHandle.{FileBlockHandle}
 use Rattle.pipe_log.specs.Rows.{is_record, block_at, entry_of, entries_of, queue_at}
-use Rattle.rules.specs.Items.{LogQueue, Append, Rewrite, same_queue, has_file, block_file, file_of}
+use Rattle.rules.specs.Items.{has_file, block_file, file_of}
 use Rattle.rules.specs.Checks.{consecutive}
 
-has_block : (b : Bool) (h : FileBlockHandle) → has_file (cond b (At h) Absent) ≡ b
+has_block : (b : Bool) (h : FileBlockHandle) → has_file (cond b (Some h) None) ≡ b
 unfolding has_file
 has_block true h = refl
 has_block false h = refl
@@ -30,21 +29,6 @@ has-file xs = has_block (is_record xs) (block_at xs)
 pub record-queue : (xs : List ℕ) → is_record xs ≡ true → (file_of (entry_of xs)).queue ≡ queue_at (get_or xs 1 0)
 unfolding file_of block_file entry_of block_at
 record-queue xs h = rw h
-
--- index m follows index k
-pub follows_eqb : (k m : ℕ) → (m ≡ 0 → ⊥) → eqb (m - 1) k ≡ eqb m (suc k)
-follows_eqb k m h =
-    elim (dec_le m k) [
-      | yes l ↦ ne_eqb (m - 1) k (λ e. omega arith) ∙ sym (ne_eqb m (suc k) (λ e. omega arith))
-      | no l ↦
-          elim (dec_le m (suc k)) [
-            | yes g ↦ eq-eqb (m - 1) k (omega arith) ∙ sym (eq-eqb m (suc k) (omega arith))
-            | no g ↦ ne_eqb (m - 1) k (λ e. omega arith) ∙ sym (ne_eqb m (suc k) (λ e. omega arith))
-          ]
-    ]
-
-pub rows_start : (n : ℕ) (xs : List ℕ) → entries_of n xs ≡ entries_of (n - 0) (drop (0 * 8) xs)
-rows_start n xs = let e : n - 0 ≡ n = omega arith in rw e
 
 module _ (n i : ℕ) (xs : List ℕ) where
   pub rows_end : n ≤ i → entries_of (n - i) (drop (i * 8) xs) ≡ []
@@ -94,11 +78,12 @@ module _ (n i : ℕ) (xs : List ℕ) where
       let z : i * 8 + 0 ≡ i * 8 = omega arith in
       rw (consecutive_two h, index_here ((i + 1) * 8), index_here (i * 8), k, z, t)
 
--- a queue is not the one if it is the other
-pub same-queue-not : (q : LogQueue) → not (same_queue q Append) ≡ same_queue q Rewrite
-unfolding same_queue
-same-queue-not Append = refl
-same-queue-not Rewrite = refl
-
-pub follows-none : (k m : ℕ) → m ≡ 0 → false ≡ eqb m (suc k)
-follows-none k m h = sym (ne_eqb m (suc k) (λ e. omega arith))
+-- the same with row i - 1 at the front
+module _ (n : ℕ) (xs : List ℕ) where
+  pub consecutive-next : (i : ℕ) (b : Bool) → 1 ≤ i → i < n → b ≡ eqb (get_or xs (i * 8) 0) (suc (get_or xs ((i - 1) * 8) 0)) → consecutive (entries_of (n - (i - 1)) (drop ((i - 1) * 8) xs)) ≡ b && consecutive (entries_of (n - i) (drop (i * 8) xs))
+  consecutive-next zero b l h t = absurd (omega arith)
+  consecutive-next (suc i) b l h t =
+      let j : i + 1 ≡ suc i = omega arith in
+      let k : suc i * 8 ≡ i * 8 + 8 = omega arith in
+      let p : suc i - 1 ≡ i = omega arith in
+      rw p (rw j at (consecutive-more n i xs b (omega arith) (rw (k, p) at t)))

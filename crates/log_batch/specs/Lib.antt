@@ -4,3 +4,4 @@ pub mod Judged
 pub mod OpenLaws
 pub mod PassedLaws
 pub mod Plain
+pub mod Queues

@@ -1,5 +1,9 @@
 -- The laws of opened rows: what an opened item is, what it depends on, and the list of items by their places. Assumes nothing.
-use Rattle.std.specs.Prelude.{Bool, ◌&&◌, ◌≡◌, List, [], ◌∷◌, ◌++◌, ltb, eqb, length, take, drop}
+use Rattle.pipe_log.specs.declared.FileId.{FileId}
+use Rattle.log_batch.specs.declared.item.Bytes.{Bytes}
+use Rattle.log_batch.specs.Lent.{Opened}
+use Rattle.rules.specs.Causes.{Ok, Err}
+use Rattle.std.specs.Prelude.{Option, Some, None, Bool, ◌&&◌, ◌≡◌, List, [], ◌∷◌, ◌++◌, ltb, eqb, length, take, drop}
 use Rattle.std.proofs.Math.Bool.{true, false, cond}
 use Rattle.std.proofs.Math.Path.{refl, ap}
 use Rattle.std.proofs.Common.{sym, ◌∙◌, get_or-take, le-leb, leb-true, le-ltb}
@@ -14,12 +18,9 @@ use Rattle.maps.specs.BoolLaws.{both_left, both_right, both}
 use Rattle.pipe_log.specs.Rows.{entries_of}
 use Rattle.rules.specs.Items as rules
 use Rattle.log_batch.specs.declared.item.Command as command
-use Rattle.log_batch.specs.declared.item.Value as value
 use Rattle.log_batch.specs.declared.item.OpType as op
-use Rattle.log_batch.specs.declared.item.KeyFile.{KeyFile}
 use Rattle.log_batch.specs.declared.item.LogItemContent as content
 use Rattle.log_batch.specs.declared.item.LogItem.{LogItem}
-use Rattle.log_batch.specs.declared.open.Opened.{Opened, TheVariants.Item, TheVariants.Refused}
 use Rattle.log_batch.specs.Lent.{item_if, value_fits, value_at, file_at, opened_entries, opened_put, opened_del, opened_row, content_of, item_of, opened_of, key_content, key_change, change_of, value_of, item_at, items_from, ValueWithin, Within, OpenedWithin}
 
 -- ---- what holds of every way in which a row is opened
@@ -29,12 +30,12 @@ module _ (P : Opened → Type 0) (row : List ℕ) where
   either true x y p q = p
   either false x y p q = q
 
-  pub if-fits : (b : Bool) (c : content.LogItemContent) → (b ≡ true → P (Item (record { raft_group_id = get_or row 0 0; content = c }))) → P (Refused (get_or row 0 0)) → P (item_if b row c)
+  pub if-fits : (b : Bool) (c : content.LogItemContent) → (b ≡ true → P (Ok (record { raft_group_id = get_or row 0 0; content = c }))) → P (Err (record { raft_group_id = (get_or row 0 0) })) → P (item_if b row c)
   unfolding item_if
   if-fits true c h r = h refl
   if-fits false c h r = r
 
-  module _ (rows bytes : ℕ) (refused : P (Refused (get_or row 0 0))) where
+  module _ (rows bytes : ℕ) (refused : P (Err (record { raft_group_id = (get_or row 0 0) }))) where
     pub by-tag : P (opened_entries row rows) → ((c : command.Command) → P (item_if true row (content.TheVariants.Command c))) → P (opened_put row bytes) → P (opened_del row bytes) → P (opened_row row rows bytes)
     unfolding opened_row
     by-tag list told put del =
@@ -46,7 +47,7 @@ module _ (P : Opened → Type 0) (row : List ℕ) where
 
 -- ---- the places of an opened item are within the slices
 
-value-within : (nb : ℕ) (z o : Bool) (a n : ℕ) → cond z true (o && leb (a + n) nb) ≡ true → ValueWithin (cond z value.TheVariants.Absent (value.TheVariants.At a n)) nb
+value-within : (nb : ℕ) (z o : Bool) (a n : ℕ) → cond z true (o && leb (a + n) nb) ≡ true → ValueWithin (cond z None (Some (record { at = a; len = n }))) nb
 value-within nb true o a n h = tt
 value-within nb false o a n h = leb-true _ _ (both_right o _ h)
 
@@ -68,9 +69,9 @@ opened-within ne nb row =
 
 -- ---- a Del that was opened has no value
 
-abbrev pub BareOp : op.OpType → value.Value → Type 0
+abbrev pub BareOp : op.OpType → Option Bytes → Type 0
 BareOp op.TheVariants.Put v = Unit
-BareOp op.TheVariants.Del v = v ≡ value.TheVariants.Absent
+BareOp op.TheVariants.Del v = v ≡ None
 
 abbrev pub Bare : content.LogItemContent → Type 0
 Bare (content.TheVariants.EntryIndexes e) = Unit
@@ -78,8 +79,8 @@ Bare (content.TheVariants.Command c) = Unit
 Bare (content.TheVariants.Kv k) = BareOp k.op_type k.value
 
 abbrev OpenedBare : Opened → Type 0
-OpenedBare (Item it) = Bare it.content
-OpenedBare (Refused g) = Unit
+OpenedBare (Ok it) = Bare it.content
+OpenedBare (Err u) = Unit
 
 bare-row : (row : List ℕ) (rows bytes : ℕ) → OpenedBare (opened_row row rows bytes)
 unfolding opened_entries opened_put opened_del
@@ -90,20 +91,20 @@ bare-row row rows bytes =
     (if-fits OpenedBare row _ _ (λ h. tt) tt)
     (if-fits OpenedBare row _ _ (λ h. refl) tt)
 
-pub opened_bare : (row : List ℕ) (rows bytes : ℕ) (it : LogItem) → opened_row row rows bytes ≡ Item it → Bare it.content
+pub opened_bare : (row : List ℕ) (rows bytes : ℕ) (it : LogItem) → opened_row row rows bytes ≡ Ok it → Bare it.content
 opened_bare row rows bytes it e = rw e at (bare-row row rows bytes)
 
 -- ---- a row that opens stays open in longer slices
 
-pub refused-item : {P : Type 0} (g : ℕ) (it : LogItem) → Refused g ≡ Item it → P
-refused-item g it e = let z : ◌≡◌ {A = ℕ} 0 1 = cc in absurd (omega arith)
+pub refused-item : {P : Type 0} (g : ℕ) (it : LogItem) → ◌≡◌ {A = Opened} (Err (record { raft_group_id = g })) (Ok it) → P
+refused-item g it e = cc
 
 module _ (it : LogItem) where
-  opens_by : (b : Bool) (x y x' y' : Opened) → (x ≡ Item it → x' ≡ Item it) → (y ≡ Item it → y' ≡ Item it) → cond b x y ≡ Item it → cond b x' y' ≡ Item it
+  opens_by : (b : Bool) (x y x' y' : Opened) → (x ≡ Ok it → x' ≡ Ok it) → (y ≡ Ok it → y' ≡ Ok it) → cond b x y ≡ Ok it → cond b x' y' ≡ Ok it
   opens_by true x y x' y' p q e = p e
   opens_by false x y x' y' p q e = q e
 
-  opens_if : (b b' : Bool) (row : List ℕ) (c : content.LogItemContent) → (b ≡ true → b' ≡ true) → item_if b row c ≡ Item it → item_if b' row c ≡ Item it
+  opens_if : (b b' : Bool) (row : List ℕ) (c : content.LogItemContent) → (b ≡ true → b' ≡ true) → item_if b row c ≡ Ok it → item_if b' row c ≡ Ok it
   unfolding item_if
   opens_if true b' row c h e = rw (h refl) e
   opens_if false b' row c h e = refused-item _ it e
@@ -119,7 +120,7 @@ module _ (it : LogItem) where
       by true y e = refl
       by false y e = both (both_left y _ e) (leb-longer _ b b' h (both_right y _ e))
 
-  pub open-longer : (row : List ℕ) (r b r' b' : ℕ) → r ≤ r' → b ≤ b' → opened_row row r b ≡ Item it → opened_row row r' b' ≡ Item it
+  pub open-longer : (row : List ℕ) (r b r' b' : ℕ) → r ≤ r' → b ≤ b' → opened_row row r b ≡ Ok it → opened_row row r' b' ≡ Ok it
   unfolding opened_row opened_entries opened_put opened_del
   open-longer row r b r' b' h k =
       let keyed : leb (get_or row 2 0 + get_or row 3 0) b ≡ true → leb (get_or row 2 0 + get_or row 3 0) b' ≡ true = leb-longer _ b b' k in
@@ -167,9 +168,9 @@ rows-open_same row row' r b e = sym (row-front row r b) ∙ ap (λ (l : List ℕ
 -- ---- an item's meaning depends on its own places alone
 
 -- the places of an item's rows and of its bytes, each the first and how many
-abbrev pub ValueIn : (ℕ → ℕ → Type 0) → value.Value → Type 0
-ValueIn B value.TheVariants.Absent = Unit
-ValueIn B (value.TheVariants.At a n) = B a n
+abbrev pub ValueIn : (ℕ → ℕ → Type 0) → Option Bytes → Type 0
+ValueIn B None = Unit
+ValueIn B (Some b) = B b.at b.len
 
 abbrev pub PlacesIn : (ℕ → ℕ → Type 0) → (ℕ → ℕ → Type 0) → content.LogItemContent → Type 0
 PlacesIn R B (content.TheVariants.EntryIndexes e) = R (e.at * 8) (e.count * 8)
@@ -177,12 +178,12 @@ PlacesIn R B (content.TheVariants.Command c) = Unit
 PlacesIn R B (content.TheVariants.Kv k) = B k.key_at k.key_len × ValueIn B k.value
 
 module _ (R B : ℕ → ℕ → Type 0) (es bs es' bs' : List ℕ) (e : (a n : ℕ) → R a n → part a n es ≡ part a n es') (b : (a n : ℕ) → B a n → part a n bs ≡ part a n bs') where
-  value_same : (v : value.Value) → ValueIn B v → value_of v bs ≡ value_of v bs'
+  value_same : (v : Option Bytes) → ValueIn B v → value_of v bs ≡ value_of v bs'
   unfolding value_of
-  value_same value.TheVariants.Absent w = refl
-  value_same (value.TheVariants.At a n) w = rw (b a n w)
+  value_same None w = refl
+  value_same (Some v) w = rw (b v.at v.len w)
 
-  change_same : (o : op.OpType) (v : value.Value) (f : KeyFile) → ValueIn B v → change_of o v f bs ≡ change_of o v f bs'
+  change_same : (o : op.OpType) (v : Option Bytes) (f : Option FileId) → ValueIn B v → change_of o v f bs ≡ change_of o v f bs'
   unfolding change_of
   change_same op.TheVariants.Put v f w = rw (value_same v w)
   change_same op.TheVariants.Del v f w = refl
@@ -200,9 +201,9 @@ module _ (R B : ℕ → ℕ → Type 0) (es bs es' bs' : List ℕ) (e : (a n : �
 
 -- where the fronts are the same
 module _ (ne nb : ℕ) where
-  value-in-front : (v : value.Value) → ValueWithin v nb → ValueIn (λ a n. a + n ≤ nb) v
-  value-in-front value.TheVariants.Absent w = tt
-  value-in-front (value.TheVariants.At a n) w = w
+  value-in-front : (v : Option Bytes) → ValueWithin v nb → ValueIn (λ a n. a + n ≤ nb) v
+  value-in-front None w = tt
+  value-in-front (Some b) w = w
 
   in-front : (c : content.LogItemContent) → Within c ne nb → PlacesIn (λ a n. a + n ≤ ne) (λ a n. a + n ≤ nb) c
   in-front (content.TheVariants.EntryIndexes x) w = let h = w.rows in omega arith
@@ -231,9 +232,9 @@ module _ (es bs : List ℕ) where
   unfolding item_at
   item-is row o e = rw e
 
-  pub item-opened : (row : List ℕ) (it : LogItem) → opened_row row (length es / 8) (length bs) ≡ Item it → item_at es bs row ≡ item_of it es bs
+  pub item-opened : (row : List ℕ) (it : LogItem) → opened_row row (length es / 8) (length bs) ≡ Ok it → item_at es bs row ≡ item_of it es bs
   unfolding opened_of
-  item-opened row it e = item-is row (Item it) e
+  item-opened row it e = item-is row (Ok it) e
 
   -- one item more
   pub items-snoc : (n : ℕ) (xs : List ℕ) → items_from es bs (suc n) xs ≡ items_from es bs n xs ++ (item_at es bs (drop (n * 9) xs) ∷ [])

@@ -6,7 +6,7 @@ ghost use Rattle.rules.specs.Items.{same_queue};
 ghost use Rattle.rules.specs.Checks.{consecutive};
 ghost use Rattle.log_batch.specs.Judged.{entry_meets, entries_incomplete};
 
-use pipe_log::{ENTRY_WIDTH, LogQueue, REWRITE, queue_at};
+use pipe_log::{ENTRY_WIDTH, LogQueue, REWRITE};
 
 // The bounds of cause 4.
 pub const MAX_INDEX: u64 = 0x7fff_ffff_ffff_ffff;
@@ -27,56 +27,34 @@ pub enum EntryTest {
 }
 
 // Whether the first row is an entry record; an entry of any other row has no file.
+#[tactic(auto, unfolding(pipe_log::specs::Rows::is_record))]
 fn is_record(row: &[u64]) -> bool
     requires { 8 ≤ length row.now }
     ensures { result ≡ is_record row.now }
 {
-    if REWRITE < row[1] {
-        return false;
-    }
-    if MAX_COMPRESSION < row[5] {
-        return false;
-    }
-    row[6] < ENTRY_OFFSETS
-}
-
-fn is_append(queue: LogQueue) -> bool
-    ensures { result ≡ same_queue queue LogQueue.Append }
-{
-    match queue {
-        LogQueue::Append => true,
-        LogQueue::Rewrite => false,
-    }
+    row[1] <= REWRITE && row[5] <= MAX_COMPRESSION && row[6] < ENTRY_OFFSETS
 }
 
 // Whether two queues are the same.
 pub fn same_queue(a: LogQueue, b: LogQueue) -> bool
     ensures { result ≡ same_queue a b }
 {
-    match b {
-        LogQueue::Append => is_append(a),
-        LogQueue::Rewrite => !is_append(a),
-    }
+    a == b
 }
 
+#[tactic(auto, unfolding(crate::specs::Judged::entry_meets, pipe_log::specs::Rows::entry_of))]
 fn is_out_of_range(row: &[u64]) -> bool
     requires { 8 ≤ length row.now }
     ensures { result ≡ entry_meets EntryTest.OutOfRange (entry_of row.now) }
 {
-    if MAX_INDEX < row[0] {
-        return true;
-    }
-    MAX_ENTRY_LEN < row[7]
+    row[0] > MAX_INDEX || row[7] > MAX_ENTRY_LEN
 }
 
 fn is_of_other_queue(row: &[u64], queue: LogQueue) -> bool
     requires { 8 ≤ length row.now }
     ensures { result ≡ entry_meets (EntryTest.OtherQueue queue) (entry_of row.now) }
 {
-    if !is_record(row) {
-        return false;
-    }
-    !same_queue(queue_at(row[1]), queue)
+    is_record(row) && LogQueue::from(row[1]) != queue
 }
 
 // Whether the entry of the first row meets a test.
@@ -96,13 +74,10 @@ pub fn any_entry(test: EntryTest, rows: &[u64], count: usize) -> bool
     requires { count * 8 ≤ length rows.now }
     ensures { result ≡ any (entry_meets test) (entries_of count rows.now) }
 {
-    let mut i = 0;
-    while i < count {
-        let at = i * ENTRY_WIDTH;
-        if entry_meets(test, &rows[at..]) {
+    for i in 0..count {
+        if entry_meets(test, &rows[i * ENTRY_WIDTH..]) {
             return true;
         }
-        i += 1;
     }
     false
 }
@@ -111,10 +86,7 @@ pub fn any_entry(test: EntryTest, rows: &[u64], count: usize) -> bool
 fn follows(before: u64, index: u64) -> bool
     ensures { result ≡ eqb index (suc before) }
 {
-    if index == 0 {
-        return false;
-    }
-    index - 1 == before
+    before.checked_add(1) == Some(index)
 }
 
 // Whether the indexes of the first `count` rows are consecutive.
@@ -122,24 +94,19 @@ pub fn is_consecutive(rows: &[u64], count: usize) -> bool
     requires { count * 8 ≤ length rows.now }
     ensures { result ≡ consecutive (entries_of count rows.now) }
 {
-    let mut i = 0;
-    while i + 1 < count {
-        let at = i * ENTRY_WIDTH;
-        if !follows(rows[at], rows[at + ENTRY_WIDTH]) {
+    for i in 1..count {
+        if !follows(rows[(i - 1) * ENTRY_WIDTH], rows[i * ENTRY_WIDTH]) {
             return false;
         }
-        i += 1;
     }
     true
 }
 
-// Cause 3 of a list: an entry without a file, or indexes that are not consecutive.
+// Whether a list is incomplete: an entry without a file, or indexes that are not consecutive.
+#[tactic(auto, unfolding(crate::specs::Judged::entries_incomplete))]
 pub fn is_incomplete(rows: &[u64], count: usize) -> bool
     requires { count * 8 ≤ length rows.now }
     ensures { result ≡ entries_incomplete (entries_of count rows.now) }
 {
-    if any_entry(EntryTest::WithoutFile, rows, count) {
-        return true;
-    }
-    !is_consecutive(rows, count)
+    any_entry(EntryTest::WithoutFile, rows, count) || !is_consecutive(rows, count)
 }

@@ -23,18 +23,11 @@ pub struct EntryIndexes {
     pub count: usize,
 }
 
-// The place of a value in the lent bytes; a Put may lack one.
+// The place of a value in the lent bytes.
 #[derive(Clone, Copy)]
-pub enum Value {
-    Absent,
-    At { at: usize, len: usize },
-}
-
-// The file of a key change; a Put may lack one.
-#[derive(Clone, Copy)]
-pub enum KeyFile {
-    Absent,
-    Of(FileId),
+pub struct Bytes {
+    pub at: usize,
+    pub len: usize,
 }
 
 // A key change, with the place of its key in the lent bytes.
@@ -43,8 +36,9 @@ pub struct KeyValue {
     pub op_type: OpType,
     pub key_at: usize,
     pub key_len: usize,
-    pub value: Value,
-    pub file_id: KeyFile,
+    // A Put may lack its value and its file.
+    pub value: Option<Bytes>,
+    pub file_id: Option<FileId>,
 }
 
 #[derive(Clone, Copy)]

@@ -11,4 +11,4 @@ pub mod open;
 pub mod plain;
 
 pub use causes::Call;
-pub use checks::{Checked, check};
+pub use checks::check;

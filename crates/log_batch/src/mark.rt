@@ -1,14 +1,16 @@
 // Reserved keys (src/lib.rs's `is_internal_key`) and the marks of atomic groups.
+#![tactic(auto, unfolding(crate::specs::Judged::mark_of, crate::specs::Judged::mark_as, crate::specs::Judged::mark_here, crate::specs::Lent::value_of, crate::specs::Lent::change_of, crate::specs::Lent::key_change, crate::specs::Lent::key_content, crate::specs::Lent::content_of, rules::specs::Items::is_reserved, rules::specs::Items::one_byte, rules::specs::Items::mark_byte, maps::specs::Lists::map_option))]
+
 ghost use Rattle.std.specs.Prelude.{◌≡◌, List, ℕ, ◌+◌, ◌*◌, ◌≤◌, ◌<◌, length, drop};
 ghost use Rattle.maps.specs.Maps.{equal_bytes};
 ghost use Rattle.rules.specs.Limits.{reserved_key};
 ghost use Rattle.rules.specs.Items.{is_reserved, one_byte, mark_byte, status_of};
 ghost use Rattle.rules.specs.Checks.{first_mark};
 ghost use Rattle.log_batch.specs.Lent.{row_count_of, key_content, content_of, BytesWithin, value_of, ValueWithin, item_at, items_of};
-ghost use Rattle.log_batch.specs.Judged.{status_as, byte_as, mark_as, mark_here};
+ghost use Rattle.log_batch.specs.Judged.{status_as, mark_as, mark_here};
 
-use crate::item::{KeyValue, LogItemContent, OpType, Value, bytes_of};
-use crate::open::{Opened, open_item, row_count};
+use crate::item::{Bytes, KeyValue, LogItemContent, OpType, bytes_of};
+use crate::open::{open_item, row_count};
 
 // The length of the reserved key.
 pub const RESERVED_LEN: usize = 3;
@@ -28,13 +30,6 @@ pub enum AtomicGroupStatus {
     End,
 }
 
-// The status byte of a mark, which an item that is no mark lacks.
-#[derive(Clone, Copy)]
-pub enum MarkByte {
-    Absent,
-    Byte(u8),
-}
-
 // A mark: its place in the batch, its group and its status byte.
 #[derive(Clone, Copy)]
 pub struct Mark {
@@ -43,18 +38,12 @@ pub struct Mark {
     pub byte: u8,
 }
 
-// The first mark of a batch, if it has one.
-#[derive(Clone, Copy)]
-pub enum FirstMark {
-    Absent,
-    Found(Mark),
-}
+// The status that a byte stands for; a byte above 2 is no mark's, and stands for the last one too.
+impl From<u8> for AtomicGroupStatus {
+    ghost from_gives = { λ byte s. status_as s ≡ status_of byte };
 
-impl AtomicGroupStatus {
-    // The status that a byte stands for; a byte above 2 is refused by 7.
-    pub fn from_u8(byte: u8) -> AtomicGroupStatus
-        ensures { status_as result ≡ status_of byte }
-    {
+    #[tactic(auto, using(crate::proofs::ItemLaws::status_end), unfolding(crate::specs::Judged::status_as, rules::specs::Items::status_of))]
+    fn from(byte: u8) -> AtomicGroupStatus {
         match byte {
             BEGIN => AtomicGroupStatus::Begin,
             MIDDLE => AtomicGroupStatus::Middle,
@@ -64,19 +53,11 @@ impl AtomicGroupStatus {
 }
 
 // Whether a key is reserved: "__" and then byte 1, and no more.
+#[tactic(auto, using(crate::proofs::ItemLaws::key_three, crate::proofs::ItemLaws::key_other))]
 pub fn is_internal_key(key: &[u8]) -> bool
     ensures { result ≡ equal_bytes key.now reserved_key }
 {
-    if key.len() != RESERVED_LEN {
-        return false;
-    }
-    if key[0] != b'_' {
-        return false;
-    }
-    if key[1] != b'_' {
-        return false;
-    }
-    key[2] == 1
+    key.len() == RESERVED_LEN && key[0] == b'_' && key[1] == b'_' && key[2] == 1
 }
 
 // Whether a key change is of a reserved key.
@@ -84,9 +65,7 @@ fn is_reserved_key(kv: KeyValue, bytes: &[u8]) -> bool
     requires { kv.key_at + kv.key_len ≤ length bytes.now }
     ensures { result ≡ is_reserved (key_content kv bytes.now) }
 {
-    let at = kv.key_at;
-    let len = kv.key_len;
-    is_internal_key(bytes_of(bytes, at, len))
+    is_internal_key(bytes_of(bytes, kv.key_at, kv.key_len))
 }
 
 // Whether an item is of a reserved key.
@@ -95,86 +74,68 @@ pub fn is_reserved(content: LogItemContent, bytes: &[u8]) -> bool
     ensures { (entries : List ℕ) → result ≡ is_reserved (content_of content entries bytes.now) }
 {
     match content {
-        LogItemContent::EntryIndexes(_) => false,
-        LogItemContent::Command(_) => false,
+        LogItemContent::EntryIndexes(_) | LogItemContent::Command(_) => false,
         LogItemContent::Kv(kv) => is_reserved_key(kv, bytes),
     }
 }
 
 // The byte of a value of one byte.
-fn one_byte(value: Value, bytes: &[u8]) -> MarkByte
+fn one_byte(value: Option<Bytes>, bytes: &[u8]) -> Option<u8>
     requires { ValueWithin value (length bytes.now) }
-    ensures { byte_as result ≡ one_byte (value_of value bytes.now) }
+    ensures { result ≡ one_byte (value_of value bytes.now) }
 {
-    let Value::At { at, len } = value else {
-        return MarkByte::Absent;
-    };
-    if len != 1 {
-        return MarkByte::Absent;
+    match value {
+        Some(value) if value.len == 1 => Some(bytes[value.at]),
+        _ => None,
     }
-    MarkByte::Byte(bytes[at])
 }
 
 // The status byte of a key change that is a mark: a Put of a reserved key with one value byte.
-fn mark_byte_of_key(kv: KeyValue, bytes: &[u8]) -> MarkByte
+fn mark_byte_of_key(kv: KeyValue, bytes: &[u8]) -> Option<u8>
     requires { (kv.key_at + kv.key_len ≤ length bytes.now) × ValueWithin kv.value (length bytes.now) }
-    ensures { byte_as result ≡ mark_byte (key_content kv bytes.now) }
+    ensures { result ≡ mark_byte (key_content kv bytes.now) }
 {
-    let op_type = kv.op_type;
-    let OpType::Put = op_type else {
-        return MarkByte::Absent;
-    };
-    if !is_reserved_key(kv, bytes) {
-        return MarkByte::Absent;
+    match kv.op_type {
+        OpType::Put if is_reserved_key(kv, bytes) => one_byte(kv.value, bytes),
+        _ => None,
     }
-    let value = kv.value;
-    one_byte(value, bytes)
 }
 
 // The status byte of an item that is a mark.
-pub fn mark_byte(content: LogItemContent, bytes: &[u8]) -> MarkByte
+pub fn mark_byte(content: LogItemContent, bytes: &[u8]) -> Option<u8>
     requires { BytesWithin content (length bytes.now) }
-    ensures { (entries : List ℕ) → byte_as result ≡ mark_byte (content_of content entries bytes.now) }
+    ensures { (entries : List ℕ) → result ≡ mark_byte (content_of content entries bytes.now) }
 {
     match content {
-        LogItemContent::EntryIndexes(_) => MarkByte::Absent,
-        LogItemContent::Command(_) => MarkByte::Absent,
+        LogItemContent::EntryIndexes(_) | LogItemContent::Command(_) => None,
         LogItemContent::Kv(kv) => mark_byte_of_key(kv, bytes),
     }
 }
 
 // The mark that item i is, if it is one.
-fn mark_at(items: &[u64], entries: &[u64], bytes: &[u8], i: usize) -> FirstMark
+fn mark_at(items: &[u64], entries: &[u64], bytes: &[u8], i: usize) -> Option<Mark>
     requires { i < row_count_of items.now }
     ensures { mark_as result ≡ mark_here i (item_at entries.now bytes.now (drop (i * 9) items.now)) }
 {
-    let Opened::Item(item) = open_item(items, entries, bytes, i) else {
-        return FirstMark::Absent;
+    let Ok(item) = open_item(items, entries, bytes, i) else {
+        return None;
     };
-    let content = item.content;
-    let MarkByte::Byte(byte) = mark_byte(content, bytes) else {
-        return FirstMark::Absent;
-    };
-    let raft_group_id = item.raft_group_id;
-    FirstMark::Found(Mark {
+    let byte = mark_byte(item.content, bytes)?;
+    Some(Mark {
         at: i,
-        raft_group_id,
+        raft_group_id: item.raft_group_id,
         byte,
     })
 }
 
 // The first mark of a batch.
-pub fn first_mark(items: &[u64], entries: &[u64], bytes: &[u8]) -> FirstMark
+pub fn first_mark(items: &[u64], entries: &[u64], bytes: &[u8]) -> Option<Mark>
     ensures { mark_as result ≡ first_mark 0 (items_of items.now entries.now bytes.now) }
 {
-    let rows = row_count(items);
-    let mut i = 0;
-    while i < rows {
-        let mark = mark_at(items, entries, bytes, i);
-        if let FirstMark::Found(m) = mark {
-            return FirstMark::Found(m);
+    for i in 0..row_count(items) {
+        if let Some(mark) = mark_at(items, entries, bytes, i) {
+            return Some(mark);
         }
-        i += 1;
     }
-    FirstMark::Absent
+    None
 }

@@ -1,10 +1,10 @@
 // Opening an item: a row of numbers into its group and its entries, command or key change.
+#![tactic(auto, unfolding(crate::specs::Lent::item_if, crate::specs::Lent::value_fits, crate::specs::Lent::value_at, crate::specs::Lent::file_at, crate::specs::Lent::opened_entries, crate::specs::Lent::opened_put, crate::specs::Lent::opened_del, crate::specs::Lent::opened_row, crate::specs::Lent::row_count_of))]
+
 ghost use Rattle.std.specs.Prelude.{◌≡◌, ◌+◌, ◌*◌, ◌/◌, ◌≤◌, ◌<◌, leb, length, drop};
 ghost use Rattle.log_batch.specs.Lent.{row_count_of, value_fits, value_at, file_at, opened_entries, opened_put, opened_del, opened_row, OpenedWithin};
 
-use crate::item::{
-    Command, EntryIndexes, KeyFile, KeyValue, LogItem, LogItemContent, OpType, Value,
-};
+use crate::item::{Bytes, Command, EntryIndexes, KeyValue, LogItem, LogItemContent, OpType};
 use pipe_log::{APPEND, ENTRY_WIDTH, FileId, LogQueue, REWRITE};
 
 // Numbers in a row of items: group, tag, and by the tag the first row and the count of a list, the index of a Compact, or the place and
@@ -33,11 +33,10 @@ pub const HAS_VALUE: u64 = 1;
 // What a row without a file has for the file's queue; any number above the queues' tells the same.
 pub const NO_FILE: u64 = 2;
 
-// An item, or the group of a row that is none, which every call refuses by 3.
+// A row that opens to no item, of which the group alone is known.
 #[derive(Clone, Copy)]
-pub enum Opened {
-    Item(LogItem),
-    Refused { raft_group_id: u64 },
+pub struct Unopened {
+    pub raft_group_id: u64,
 }
 
 // The number of items: a last row that is cut short counts.
@@ -51,10 +50,7 @@ pub fn row_count(items: &[u64]) -> usize
 fn within(at: usize, len: usize, end: usize) -> bool
     ensures { result ≡ leb (at + len) end }
 {
-    if end < at {
-        return false;
-    }
-    len <= end - at
+    at <= end && len <= end - at
 }
 
 // Whether a row says that there is no value, or one within the bytes.
@@ -62,51 +58,39 @@ fn value_fits(row: &[u64], bytes: usize) -> bool
     requires { 9 ≤ length row.now }
     ensures { result ≡ value_fits row.now bytes }
 {
-    let told = row[4];
-    if told == NO_VALUE {
-        return true;
+    match row[4] {
+        NO_VALUE => true,
+        HAS_VALUE => within(row[5] as usize, row[6] as usize, bytes),
+        _ => false,
     }
-    if told == HAS_VALUE {
-        return within(row[5] as usize, row[6] as usize, bytes);
-    }
-    false
 }
 
-fn value_at(row: &[u64]) -> Value
+fn value_at(row: &[u64]) -> Option<Bytes>
     requires { 9 ≤ length row.now }
     ensures { result ≡ value_at row.now }
 {
     if row[4] == NO_VALUE {
-        return Value::Absent;
+        return None;
     }
-    Value::At {
+    Some(Bytes {
         at: row[5] as usize,
         len: row[6] as usize,
-    }
+    })
 }
 
-fn file_at(row: &[u64]) -> KeyFile
+fn file_at(row: &[u64]) -> Option<FileId>
     requires { 9 ≤ length row.now }
     ensures { result ≡ file_at row.now }
 {
-    let told = row[7];
-    let seq = row[8];
-    if told == APPEND {
-        return KeyFile::Of(FileId {
-            queue: LogQueue::Append,
-            seq,
-        });
-    }
-    if told == REWRITE {
-        return KeyFile::Of(FileId {
-            queue: LogQueue::Rewrite,
-            seq,
-        });
-    }
-    KeyFile::Absent
+    let queue = match row[7] {
+        APPEND => LogQueue::Append,
+        REWRITE => LogQueue::Rewrite,
+        _ => return None,
+    };
+    Some(FileId { queue, seq: row[8] })
 }
 
-fn open_entries(row: &[u64], rows: usize) -> Opened
+fn open_entries(row: &[u64], rows: usize) -> Result<LogItem, Unopened>
     requires { 9 ≤ length row.now }
     ensures { result ≡ opened_entries row.now rows }
 {
@@ -114,44 +98,39 @@ fn open_entries(row: &[u64], rows: usize) -> Opened
     let count = row[3] as usize;
     let raft_group_id = row[0];
     if !within(at, count, rows) {
-        return Opened::Refused { raft_group_id };
+        return Err(Unopened { raft_group_id });
     }
     let content = LogItemContent::EntryIndexes(EntryIndexes { at, count });
-    Opened::Item(LogItem {
+    Ok(LogItem {
         raft_group_id,
         content,
     })
 }
 
-fn open_put(row: &[u64], bytes: usize) -> Opened
+fn open_put(row: &[u64], bytes: usize) -> Result<LogItem, Unopened>
     requires { 9 ≤ length row.now }
     ensures { result ≡ opened_put row.now bytes }
 {
     let key_at = row[2] as usize;
     let key_len = row[3] as usize;
     let raft_group_id = row[0];
-    if !within(key_at, key_len, bytes) {
-        return Opened::Refused { raft_group_id };
+    if !within(key_at, key_len, bytes) || !value_fits(row, bytes) {
+        return Err(Unopened { raft_group_id });
     }
-    if !value_fits(row, bytes) {
-        return Opened::Refused { raft_group_id };
-    }
-    let value = value_at(row);
-    let file_id = file_at(row);
     let kv = KeyValue {
         op_type: OpType::Put,
         key_at,
         key_len,
-        value,
-        file_id,
+        value: value_at(row),
+        file_id: file_at(row),
     };
-    Opened::Item(LogItem {
+    Ok(LogItem {
         raft_group_id,
         content: LogItemContent::Kv(kv),
     })
 }
 
-fn open_del(row: &[u64], bytes: usize) -> Opened
+fn open_del(row: &[u64], bytes: usize) -> Result<LogItem, Unopened>
     requires { 9 ≤ length row.now }
     ensures { result ≡ opened_del row.now bytes }
 {
@@ -159,39 +138,38 @@ fn open_del(row: &[u64], bytes: usize) -> Opened
     let key_len = row[3] as usize;
     let raft_group_id = row[0];
     if !within(key_at, key_len, bytes) {
-        return Opened::Refused { raft_group_id };
+        return Err(Unopened { raft_group_id });
     }
     let kv = KeyValue {
         op_type: OpType::Del,
         key_at,
         key_len,
-        value: Value::Absent,
-        file_id: KeyFile::Absent,
+        value: None,
+        file_id: None,
     };
-    Opened::Item(LogItem {
+    Ok(LogItem {
         raft_group_id,
         content: LogItemContent::Kv(kv),
     })
 }
 
-fn open_command(raft_group_id: u64, command: Command) -> Opened
-    ensures { result ≡ Opened.Item (record { raft_group_id = raft_group_id; content = LogItemContent.Command command }) }
+fn open_command(raft_group_id: u64, command: Command) -> Result<LogItem, Unopened>
+    ensures { result ≡ Ok (record { raft_group_id = raft_group_id; content = LogItemContent.Command command }) }
 {
-    let content = LogItemContent::Command(command);
-    Opened::Item(LogItem {
+    Ok(LogItem {
         raft_group_id,
-        content,
+        content: LogItemContent::Command(command),
     })
 }
 
 // Opens the row at the front of `row`.
-fn open_row(row: &[u64], rows: usize, bytes: usize) -> Opened
+fn open_row(row: &[u64], rows: usize, bytes: usize) -> Result<LogItem, Unopened>
     requires { 0 < length row.now }
     ensures { result ≡ opened_row row.now rows bytes }
 {
     let raft_group_id = row[0];
     if row.len() < ITEM_WIDTH {
-        return Opened::Refused { raft_group_id };
+        return Err(Unopened { raft_group_id });
     }
     match row[1] {
         LIST => open_entries(row, rows),
@@ -199,12 +177,17 @@ fn open_row(row: &[u64], rows: usize, bytes: usize) -> Opened
         COMPACT => open_command(raft_group_id, Command::Compact { index: row[2] }),
         PUT => open_put(row, bytes),
         DEL => open_del(row, bytes),
-        _ => Opened::Refused { raft_group_id },
+        _ => Err(Unopened { raft_group_id }),
     }
 }
 
 // Opens item i.
-pub fn open_item(items: &[u64], entries: &[u64], bytes: &[u8], i: usize) -> Opened
+pub fn open_item(
+    items: &[u64],
+    entries: &[u64],
+    bytes: &[u8],
+    i: usize,
+) -> Result<LogItem, Unopened>
     requires { i < row_count_of items.now }
     ensures value { result ≡ opened_row (drop (i * 9) items.now) (length entries.now / 8) (length bytes.now) }
     ensures opened_within { OpenedWithin result (length entries.now) (length bytes.now) }

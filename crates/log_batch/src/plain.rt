@@ -1,4 +1,6 @@
 // A list of entries that meets none of 3 to 6, told by one pass over its rows.
+#![tactic(auto, unfolding(crate::specs::Plain::plain_row, crate::specs::Plain::plain_list, crate::specs::Plain::plain_content))]
+
 ghost use Rattle.std.specs.Prelude.{◌≡◌, ◌+◌, ◌*◌, ◌≤◌, ◌^◌, length};
 ghost use Rattle.rules.specs.Items.{writes};
 ghost use Rattle.log_batch.specs.Lent.{RowsWithin};
@@ -15,19 +17,11 @@ fn is_plain(row: &[u64], index: u64, queue: u64) -> bool
     requires { 8 ≤ length row.now }
     ensures { result ≡ plain_row queue index row.now }
 {
-    if row[0] != index {
-        return false;
-    }
-    if row[1] != queue {
-        return false;
-    }
-    if MAX_COMPRESSION < row[5] {
-        return false;
-    }
-    if MAX_ENTRY_LEN < row[7] {
-        return false;
-    }
-    row[6] < ENTRY_OFFSETS
+    row[0] == index
+        && row[1] == queue
+        && row[5] <= MAX_COMPRESSION
+        && row[7] <= MAX_ENTRY_LEN
+        && row[6] < ENTRY_OFFSETS
 }
 
 // Whether the first `count` rows are such records, at the indexes from `first` on.
@@ -35,13 +29,10 @@ fn are_plain(rows: &[u64], count: usize, first: u64, queue: u64) -> bool
     requires { (count * 8 ≤ length rows.now) × (first + count ≤ 2 ^ 63) }
     ensures { result ≡ plain_rows queue first count rows.now }
 {
-    let mut i = 0;
-    while i < count {
-        let at = i * ENTRY_WIDTH;
-        if !is_plain(&rows[at..], first + i as u64, queue) {
+    for i in 0..count {
+        if !is_plain(&rows[i * ENTRY_WIDTH..], first + i as u64, queue) {
             return false;
         }
-        i += 1;
     }
     true
 }
@@ -55,13 +46,9 @@ fn is_plain_list(rows: &[u64], count: usize, queue: u64) -> bool
         return false;
     }
     let first = rows[0];
-    if MAX_INDEX < first {
-        return false;
-    }
-    if MAX_INDEX - first < (count - 1) as u64 {
-        return false;
-    }
-    are_plain(rows, count, first, queue)
+    first <= MAX_INDEX
+        && (count - 1) as u64 <= MAX_INDEX - first
+        && are_plain(rows, count, first, queue)
 }
 
 // Whether an item is such a list, of a queue.
@@ -70,14 +57,11 @@ pub fn is_plain_of(queue: LogQueue, content: LogItemContent, entries: &[u64]) ->
     ensures { result ≡ plain_content queue content entries.now }
 {
     match content {
-        LogItemContent::EntryIndexes(e) => {
-            let at = e.at;
-            let count = e.count;
-            let number = queue.to_u64();
-            is_plain_list(entries_of(entries, at, count), count, number)
+        LogItemContent::EntryIndexes(list) => {
+            let rows = entries_of(entries, list.at, list.count);
+            is_plain_list(rows, list.count, u64::from(queue))
         }
-        LogItemContent::Command(_) => false,
-        LogItemContent::Kv(_) => false,
+        LogItemContent::Command(_) | LogItemContent::Kv(_) => false,
     }
 }
 

@@ -4,7 +4,8 @@ use Rattle.std.specs.Prelude.{Bool, ◌&&◌, ◌||◌, ◌≡◌, get_or}
 use Rattle.std.proofs.Math.Bool.{true, false, cond, not, and_assoc, or_assoc, and_comm}
 use Rattle.std.proofs.lemmas.Bool.{false≢true}
 use mathlib.Core.List.{List, [], ◌∷◌, ◌++◌, map}
-use Rattle.std.proofs.Math.Option.{Option, none, some, some-injective, none-ne-some, some-ne-none}
+use Rattle.std.specs.Prelude.{Option, None, Some}
+use Rattle.std.proofs.lemmas.Option.{same_Some, none-some}
 use Rattle.std.proofs.Math.Path.{refl}
 use Rattle.std.proofs.Common.{sym, ap, ◌∙◌}
 use Prim.Native.Nat.{ℕ, zero, suc, ◌+◌, ◌≤◌, ◌<◌}
@@ -13,6 +14,10 @@ use native.Mathlib.Omega.{arith}
 use Rattle.std.proofs.Math.ListN.{length}
 use Rattle.maps.specs.Lists.{select, front, rest, any, every, sum, first, last, find_from, map_option, or_else}
 use Rattle.maps.specs.OrderLaws.{split, and_both}
+
+-- a value is no absent one (`none-some` the other way)
+pub some-none : {A : Type 0} (x : A) → Some x ≡ None → ⊥
+some-none x e = none-some x (sym e)
 
 module _ {A : Type 0} where
   -- ---- every, any
@@ -224,11 +229,11 @@ module _ {A : Type 0} where
 
   -- ---- first, last
 
-  pub first-append : (x : A) (xs ys : List A) → first ((x ∷ xs) ++ ys) ≡ some x
+  pub first-append : (x : A) (xs ys : List A) → first ((x ∷ xs) ++ ys) ≡ Some x
   unfolding first
   first-append x xs ys = refl
 
-  pub first-get_or : (xs : List A) (z : A) → 0 < length xs → first xs ≡ some (get_or xs 0 z)
+  pub first-get_or : (xs : List A) (z : A) → 0 < length xs → first xs ≡ Some (get_or xs 0 z)
   unfolding first
   first-get_or [] z l = absurd (omega arith)
   first-get_or (x ∷ xs) z l = refl
@@ -239,11 +244,11 @@ module _ {A : Type 0} where
   last-append (x ∷ []) y ys = refl
   last-append (x ∷ (w ∷ xs)) y ys = last-append (w ∷ xs) y ys
 
-  pub last_snoc : (xs : List A) (y : A) → last (xs ++ (y ∷ [])) ≡ some y
+  pub last_snoc : (xs : List A) (y : A) → last (xs ++ (y ∷ [])) ≡ Some y
   unfolding last
   last_snoc xs y = last-append xs y []
 
-  pub last-get_or : (xs : List A) (i : ℕ) (z : A) → length xs ≡ suc i → last xs ≡ some (get_or xs i z)
+  pub last-get_or : (xs : List A) (i : ℕ) (z : A) → length xs ≡ suc i → last xs ≡ Some (get_or xs i z)
   unfolding last
   last-get_or [] i z e = absurd (omega arith)
   last-get_or (x ∷ []) zero z e = refl
@@ -254,15 +259,15 @@ module _ {A : Type 0} where
   -- ---- find_from
 
   -- nothing found: no element meets it at its place
-  pub find_from-none : (p : ℕ → A → Bool) (i : ℕ) (xs : List A) (j : ℕ) (z : A) → find_from p i xs ≡ none → j < length xs → p (i + j) (get_or xs j z) ≡ false
+  pub find_from-none : (p : ℕ → A → Bool) (i : ℕ) (xs : List A) (j : ℕ) (z : A) → find_from p i xs ≡ None → j < length xs → p (i + j) (get_or xs j z) ≡ false
   unfolding find_from
   find_from-none p i [] j z e l = absurd (omega arith)
-  find_from-none p i (x ∷ xs) zero z e l = split (p i x) (λ s. absurd (some-ne-none _ (rw s at e))) (λ s. rw add-zero s)
+  find_from-none p i (x ∷ xs) zero z e l = split (p i x) (λ s. absurd (some-none _ (rw s at e))) (λ s. rw add-zero s)
   find_from-none p i (x ∷ xs) (suc j) z e l =
       let q : i + suc j ≡ suc i + j = omega arith in
-      split (p i x) (λ s. absurd (some-ne-none _ (rw s at e))) (λ s. rw q (find_from-none p (suc i) xs j z (rw s at e) (omega arith)))
+      split (p i x) (λ s. absurd (some-none _ (rw s at e))) (λ s. rw q (find_from-none p (suc i) xs j z (rw s at e) (omega arith)))
 
-  pub find_from-none_if : (p : ℕ → A → Bool) (i : ℕ) (xs : List A) (z : A) → ((j : ℕ) → j < length xs → p (i + j) (get_or xs j z) ≡ false) → find_from p i xs ≡ none
+  pub find_from-none_if : (p : ℕ → A → Bool) (i : ℕ) (xs : List A) (z : A) → ((j : ℕ) → j < length xs → p (i + j) (get_or xs j z) ≡ false) → find_from p i xs ≡ None
   unfolding find_from
   find_from-none_if p i [] z f = refl
   find_from-none_if p i (x ∷ xs) z f =
@@ -291,17 +296,17 @@ module _ {A : Type 0} where
       before zero l = rw add-zero s
       before (suc m) l = let q : i + suc m ≡ suc i + m = omega arith in rw q (r.earlier m (omega arith))
 
-  pub find_from-some : (p : ℕ → A → Bool) (i : ℕ) (xs : List A) (z : A) (j : ℕ) → find_from p i xs ≡ some j → FirstAt p i xs z j
+  pub find_from-some : (p : ℕ → A → Bool) (i : ℕ) (xs : List A) (z : A) (j : ℕ) → find_from p i xs ≡ Some j → FirstAt p i xs z j
   unfolding find_from
-  find_from-some p i [] z j e = absurd (none-ne-some _ e)
+  find_from-some p i [] z j e = absurd (none-some _ e)
   find_from-some p i (x ∷ xs) z j e =
       split (p i x)
       (λ s.
-      let q : i ≡ j = some-injective _ _ (rw s at e) in
+      let q : i ≡ j = same_Some _ _ (rw s at e) in
       record { n = 0; place = omega arith; inside = omega arith; meets = rw (← q) s; earlier = λ m l. absurd (omega arith) })
       (λ s. first_next p i x xs z j s (find_from-some p (suc i) xs z j (rw s at e)))
 
-  pub find_from-some_if : (p : ℕ → A → Bool) (i : ℕ) (xs : List A) (z : A) (n : ℕ) → n < length xs → p (i + n) (get_or xs n z) ≡ true → ((m : ℕ) → m < n → p (i + m) (get_or xs m z) ≡ false) → find_from p i xs ≡ some (i + n)
+  pub find_from-some_if : (p : ℕ → A → Bool) (i : ℕ) (xs : List A) (z : A) (n : ℕ) → n < length xs → p (i + n) (get_or xs n z) ≡ true → ((m : ℕ) → m < n → p (i + m) (get_or xs m z) ≡ false) → find_from p i xs ≡ Some (i + n)
   unfolding find_from
   find_from-some_if p i [] z n l t f = absurd (omega arith)
   find_from-some_if p i (x ∷ xs) z zero l t f = let s : p i x ≡ true = rw add-zero at t in rw (s, add-zero)
@@ -311,7 +316,7 @@ module _ {A : Type 0} where
       rw (s, q) (find_from-some_if p (suc i) xs z n (omega arith) (rw q at t)
       (λ m b. let r : suc i + m ≡ i + suc m = omega arith in rw r (f (suc m) (omega arith))))
 
-  pub find_from-append : (p : ℕ → A → Bool) (i : ℕ) (xs ys : List A) → find_from p i (xs ++ ys) ≡ or_else (find_from p (i + length xs) ys) some (find_from p i xs)
+  pub find_from-append : (p : ℕ → A → Bool) (i : ℕ) (xs ys : List A) → find_from p i (xs ++ ys) ≡ or_else (find_from p (i + length xs) ys) Some (find_from p i xs)
   unfolding find_from or_else
   find_from-append p i [] ys = rw add-zero
   find_from-append p i (x ∷ xs) ys =
@@ -360,12 +365,12 @@ module _ {A B : Type 0} where
 
   -- ---- an option's value
 
-  pub map_option-none : (f : A → B) (x : Option A) → map_option f x ≡ none → x ≡ none
+  pub map_option-none : (f : A → B) (x : Option A) → map_option f x ≡ None → x ≡ None
   unfolding map_option
-  map_option-none f none e = refl
-  map_option-none f (some a) e = absurd (some-ne-none _ e)
+  map_option-none f None e = refl
+  map_option-none f (Some a) e = absurd (some-none _ e)
 
   pub or_else_const : (d : B) (x : Option A) → or_else d (λ a. d) x ≡ d
   unfolding or_else
-  or_else_const d none = refl
-  or_else_const d (some a) = refl
+  or_else_const d None = refl
+  or_else_const d (Some a) = refl

@@ -1,6 +1,6 @@
 -- Functions on lists that the rules are written with.
 use Rattle.std.specs.Prelude.{Bool, true, false, cond, ◌&&◌, ◌||◌, List, [], ◌∷◌, ℕ, suc, ◌+◌, min}
-use Rattle.std.proofs.Math.Option.{Option, none, some}
+use Rattle.std.specs.Prelude.{Option, None, Some}
 
 module _ {A : Type 0} where
   -- the elements that meet p
@@ -31,31 +31,31 @@ module _ {A : Type 0} where
   sum f (x ∷ xs) = f x + sum f xs
 
   unfoldable pub first : List A → Option A
-  first [] = none
-  first (x ∷ xs) = some x
+  first [] = None
+  first (x ∷ xs) = Some x
 
   unfoldable pub last : List A → Option A
-  last [] = none
-  last (x ∷ []) = some x
+  last [] = None
+  last (x ∷ []) = Some x
   last (x ∷ (y ∷ ys)) = last (y ∷ ys)
 
   -- the first position, counted from i, of an element that meets p at its position
   unfoldable pub find_from : (ℕ → A → Bool) → ℕ → List A → Option ℕ
-  find_from p i [] = none
-  find_from p i (x ∷ xs) = cond (p i x) (some i) (find_from p (suc i) xs)
+  find_from p i [] = None
+  find_from p i (x ∷ xs) = cond (p i x) (Some i) (find_from p (suc i) xs)
 
 module _ {A B : Type 0} where
   unfoldable pub map_option : (A → B) → Option A → Option B
-  map_option f none = none
-  map_option f (some a) = some (f a)
+  map_option f None = None
+  map_option f (Some a) = Some (f a)
 
   -- f of what is there, and otherwise d
   unfoldable pub or_else : B → (A → B) → Option A → B
-  or_else d f none = d
-  or_else d f (some a) = f a
+  or_else d f None = d
+  or_else d f (Some a) = f a
 
 -- the lesser of two numbers that may be absent
 unfoldable pub least : Option ℕ → Option ℕ → Option ℕ
-least none b = b
-least (some a) none = some a
-least (some a) (some b) = some (min a b)
+least None b = b
+least (Some a) None = Some a
+least (Some a) (Some b) = Some (min a b)

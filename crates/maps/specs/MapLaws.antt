@@ -3,7 +3,9 @@
 use Rattle.std.specs.Prelude.{Bool, true, ◌≡◌, get_or}
 use Rattle.std.proofs.Math.Bool.{false, cond}
 use mathlib.Core.List.{[], ◌∷◌, ◌++◌, map}
-use Rattle.std.proofs.Math.Option.{Option, none, some, some-injective, none-ne-some, some-ne-none}
+use Rattle.std.specs.Prelude.{Option, None, Some}
+use Rattle.std.proofs.lemmas.Option.{same_Some, none-some}
+use Rattle.maps.specs.ListLaws.{some-none}
 use Rattle.std.proofs.Math.Path.{refl, sym}
 use Rattle.std.proofs.Common.{ap, ◌∙◌}
 use Prim.Native.Nat.{ℕ, zero, suc, ◌+◌, ◌≤◌, ◌<◌}
@@ -47,13 +49,13 @@ ascending-tail o x xs h = h.1
 module _ {A : Type 0} where
   -- what b laid over x by f is
   unfoldable pub laid : (Option A → A → A) → Option A → Option A → Option A
-  laid f x none = x
-  laid f x (some b) = some (f x b)
+  laid f x None = x
+  laid f x (Some b) = Some (f x b)
 
   -- what is there, if it meets p
   unfoldable pub kept : (A → Bool) → Option A → Option A
-  kept p none = none
-  kept p (some a) = cond (p a) (some a) none
+  kept p None = None
+  kept p (Some a) = cond (p a) (Some a) None
 
 module _ {K A : Type 0} (o : Order K) (law : Lawful o) where
   -- ---- what is below all
@@ -63,7 +65,7 @@ module _ {K A : Type 0} (o : Order K) (law : Lawful o) where
   below_all j k [] b h = tt
   below_all j k (x ∷ xs) b h = (law.below-trans j k x.key b h.0, below_all j k xs b h.1)
 
-  pub lookup_below : (k : K) (m : Map K A) → AllBelow o k m → lookup o k m ≡ none
+  pub lookup_below : (k : K) (m : Map K A) → AllBelow o k m → lookup o k m ≡ None
   unfolding AllBelow lookup
   lookup_below k [] h = refl
   lookup_below k (x ∷ xs) h = rw (below-differs o law k x.key h.0) (lookup_below k xs h.1)
@@ -101,8 +103,8 @@ module _ {K A : Type 0} (o : Order K) (law : Lawful o) where
 
   pub ascending-store : (k : K) (x : Option A) (m : Map K A) → Ascending o m → Ascending o (store o k x m)
   unfolding store
-  ascending-store k none m h = ascending-remove k m h
-  ascending-store k (some a) m h = ascending-insert k a m h
+  ascending-store k None m h = ascending-remove k m h
+  ascending-store k (Some a) m h = ascending-insert k a m h
 
   pub ascending-merge_with : (f : Option A → A → A) (older newer : Map K A) → Ascending o older → Ascending o (merge_with o f older newer)
   unfolding merge_with
@@ -111,7 +113,7 @@ module _ {K A : Type 0} (o : Order K) (law : Lawful o) where
 
   -- ---- lookups
 
-  pub lookup-insert_same : (k : K) (a : A) (m : Map K A) → lookup o k (insert o k a m) ≡ some a
+  pub lookup-insert_same : (k : K) (a : A) (m : Map K A) → lookup o k (insert o k a m) ≡ Some a
   unfolding lookup insert
   lookup-insert_same k a [] = rw (law.same_refl k)
   lookup-insert_same k a (x ∷ xs) =
@@ -127,9 +129,9 @@ module _ {K A : Type 0} (o : Order K) (law : Lawful o) where
       three o law k x.key
       (λ e p. let q : o.same j x.key ≡ false = rw p at n in rw (e, n, q))
       (λ e p. rw (e, p, n))
-      (λ e p q. rw (e, p) (ap (λ z. cond (o.same j x.key) (some x.val) z) (lookup-insert-other j k a xs n)))
+      (λ e p q. rw (e, p) (ap (λ z. cond (o.same j x.key) (Some x.val) z) (lookup-insert-other j k a xs n)))
 
-  pub lookup-remove_same : (k : K) (m : Map K A) → Ascending o m → lookup o k (remove o k m) ≡ none
+  pub lookup-remove_same : (k : K) (m : Map K A) → Ascending o m → lookup o k (remove o k m) ≡ None
   unfolding lookup remove Ascending
   lookup-remove_same k [] h = refl
   lookup-remove_same k (x ∷ xs) h =
@@ -143,17 +145,17 @@ module _ {K A : Type 0} (o : Order K) (law : Lawful o) where
   lookup-remove-other j k (x ∷ xs) n =
       split (o.same k x.key)
       (λ e. let q : o.same j x.key ≡ false = rw (law.same-eq k x.key e) at n in rw (e, q))
-      (λ e. rw e (ap (λ z. cond (o.same j x.key) (some x.val) z) (lookup-remove-other j k xs n)))
+      (λ e. rw e (ap (λ z. cond (o.same j x.key) (Some x.val) z) (lookup-remove-other j k xs n)))
 
   pub lookup-store_same : (k : K) (x : Option A) (m : Map K A) → Ascending o m → lookup o k (store o k x m) ≡ x
   unfolding store
-  lookup-store_same k none m h = lookup-remove_same k m h
-  lookup-store_same k (some a) m h = lookup-insert_same k a m
+  lookup-store_same k None m h = lookup-remove_same k m h
+  lookup-store_same k (Some a) m h = lookup-insert_same k a m
 
   pub lookup-store-other : (j k : K) (x : Option A) (m : Map K A) → o.same j k ≡ false → lookup o j (store o k x m) ≡ lookup o j m
   unfolding store
-  lookup-store-other j k none m n = lookup-remove-other j k m n
-  lookup-store-other j k (some a) m n = lookup-insert-other j k a m n
+  lookup-store-other j k None m n = lookup-remove-other j k m n
+  lookup-store-other j k (Some a) m n = lookup-insert-other j k a m n
 
   -- the same as one equation
   pub lookup-store : (j k : K) (x : Option A) (m : Map K A) → Ascending o m → lookup o j (store o k x m) ≡ cond (o.same j k) x (lookup o j m)
@@ -173,7 +175,7 @@ module _ {K A : Type 0} (o : Order K) (law : Lawful o) where
       (λ e. rw (e, law.same-eq k j e, lookup_below j xs h.0, lookup-insert_same j v older))
       (λ e. rw (e, lookup-insert-other k j v older e))
 
-  pub lookup_head : (x : Pair K A) (xs : Map K A) → lookup o x.key (x ∷ xs) ≡ some x.val
+  pub lookup_head : (x : Pair K A) (xs : Map K A) → lookup o x.key (x ∷ xs) ≡ Some x.val
   unfolding lookup
   lookup_head x xs = rw (law.same_refl x.key)
 
@@ -187,51 +189,51 @@ module _ {K A : Type 0} (o : Order K) (law : Lawful o) where
       (λ s. let t : o.same k y.key ≡ false = rw p at s in rw (s, t) at (e k))
 
   -- `lookup_head` at an equal key
-  head_at : (k : K) (y : Pair K A) (ys : Map K A) → k ≡ y.key → lookup o k (y ∷ ys) ≡ some y.val
+  head_at : (k : K) (y : Pair K A) (ys : Map K A) → k ≡ y.key → lookup o k (y ∷ ys) ≡ Some y.val
   head_at k y ys p = rw p (lookup_head y ys)
 
   pub ext : (m n : Map K A) → Ascending o m → Ascending o n → ((k : K) → lookup o k m ≡ lookup o k n) → m ≡ n
   unfolding lookup AllBelow Ascending
   ext [] [] hm hn e = refl
-  ext [] (y ∷ ys) hm hn e = absurd (none-ne-some _ (e y.key ∙ lookup_head y ys))
-  ext (x ∷ xs) [] hm hn e = absurd (some-ne-none _ (sym (lookup_head x xs) ∙ e x.key))
+  ext [] (y ∷ ys) hm hn e = absurd (none-some _ (e y.key ∙ lookup_head y ys))
+  ext (x ∷ xs) [] hm hn e = absurd (some-none _ (sym (lookup_head x xs) ∙ e x.key))
   ext (x ∷ xs) (y ∷ ys) hm hn e =
       three o law x.key y.key
       (λ s p.
-      let v : x.val ≡ y.val = some-injective _ _ (sym (lookup_head x xs) ∙ e x.key ∙ head_at x.key y ys p) in
+      let v : x.val ≡ y.val = same_Some _ _ (sym (lookup_head x xs) ∙ e x.key ∙ head_at x.key y ys p) in
       let t : xs ≡ ys = ext xs ys hm.1 hn.1 (tails x y xs ys p hm.0 hn.0 e) in
       λ i. pair (p i) (v i) ∷ t i)
-      (λ s p. absurd (some-ne-none _ (sym (lookup_head x xs) ∙ e x.key ∙ lookup_below x.key (y ∷ ys) (p, below_all x.key y.key ys p hn.0))))
-      (λ s p q. absurd (some-ne-none _ (sym (lookup_head y ys) ∙ sym (e y.key) ∙ lookup_below y.key (x ∷ xs) (q, below_all y.key x.key xs q hm.0))))
+      (λ s p. absurd (some-none _ (sym (lookup_head x xs) ∙ e x.key ∙ lookup_below x.key (y ∷ ys) (p, below_all x.key y.key ys p hn.0))))
+      (λ s p q. absurd (some-none _ (sym (lookup_head y ys) ∙ sym (e y.key) ∙ lookup_below y.key (x ∷ xs) (q, below_all y.key x.key xs q hm.0))))
 
   -- ---- what is there, or absent, already
 
   -- a key before the first is absent
-  absent : (k : K) (a : A) (x : Pair K A) (xs : Map K A) → Ascending o (x ∷ xs) → o.below k x.key ≡ true → lookup o k (x ∷ xs) ≡ some a → ⊥
+  absent : (k : K) (a : A) (x : Pair K A) (xs : Map K A) → Ascending o (x ∷ xs) → o.below k x.key ≡ true → lookup o k (x ∷ xs) ≡ Some a → ⊥
   unfolding AllBelow Ascending
-  absent k a x xs h b e = some-ne-none _ (sym e ∙ lookup_below k (x ∷ xs) (b, below_all k x.key xs b h.0))
+  absent k a x xs h b e = some-none _ (sym e ∙ lookup_below k (x ∷ xs) (b, below_all k x.key xs b h.0))
 
-  pub insert-again : (k : K) (a : A) (m : Map K A) → lookup o k m ≡ some a → Ascending o m → insert o k a m ≡ m
+  pub insert-again : (k : K) (a : A) (m : Map K A) → lookup o k m ≡ Some a → Ascending o m → insert o k a m ≡ m
   unfolding lookup insert Ascending
-  insert-again k a [] e h = absurd (none-ne-some _ e)
+  insert-again k a [] e h = absurd (none-some _ e)
   insert-again k a (x ∷ xs) e h =
       three o law k x.key
-      (λ s p. rw s (let v : a ≡ x.val = sym (some-injective _ _ (rw s at e)) in λ i. pair (p i) (v i) ∷ xs))
+      (λ s p. rw s (let v : a ≡ x.val = sym (same_Some _ _ (rw s at e)) in λ i. pair (p i) (v i) ∷ xs))
       (λ s p. absurd (absent k a x xs h p e))
       (λ s p q. rw (s, p) (ap (λ z. x ∷ z) (insert-again k a xs (rw s at e) h.1)))
 
-  pub remove_absent : (k : K) (m : Map K A) → lookup o k m ≡ none → remove o k m ≡ m
+  pub remove_absent : (k : K) (m : Map K A) → lookup o k m ≡ None → remove o k m ≡ m
   unfolding lookup remove
   remove_absent k [] e = refl
   remove_absent k (x ∷ xs) e =
       split (o.same k x.key)
-      (λ s. absurd (some-ne-none _ (rw s at e)))
+      (λ s. absurd (some-none _ (rw s at e)))
       (λ s. rw s (ap (λ z. x ∷ z) (remove_absent k xs (rw s at e))))
 
   pub store-again : (k : K) (x : Option A) (m : Map K A) → lookup o k m ≡ x → Ascending o m → store o k x m ≡ m
   unfolding store
-  store-again k none m e h = remove_absent k m e
-  store-again k (some a) m e h = insert-again k a m e h
+  store-again k None m e h = remove_absent k m e
+  store-again k (Some a) m e h = insert-again k a m e h
 
   -- ---- two stores
 
@@ -257,76 +259,76 @@ module _ {K A : Type 0} (o : Order K) (law : Lawful o) where
 
   pub insert-insert : (k : K) (a b : A) (m : Map K A) → Ascending o m → insert o k a (insert o k b m) ≡ insert o k a m
   unfolding store
-  insert-insert k a b m h = store-store k (some a) (some b) m h
+  insert-insert k a b m h = store-store k (Some a) (Some b) m h
 
-  pub remove-insert : (k : K) (a : A) (m : Map K A) → lookup o k m ≡ none → Ascending o m → remove o k (insert o k a m) ≡ m
+  pub remove-insert : (k : K) (a : A) (m : Map K A) → lookup o k m ≡ None → Ascending o m → remove o k (insert o k a m) ≡ m
   unfolding store
-  remove-insert k a m n h = store-store k none (some a) m h ∙ remove_absent k m n
+  remove-insert k a m n h = store-store k None (Some a) m h ∙ remove_absent k m n
 
   pub insert_comm : (j k : K) (a b : A) (m : Map K A) → o.same j k ≡ false → Ascending o m → insert o j a (insert o k b m) ≡ insert o k b (insert o j a m)
   unfolding store
-  insert_comm j k a b m n h = store_comm j k (some a) (some b) m n h
+  insert_comm j k a b m n h = store_comm j k (Some a) (Some b) m n h
 
   pub insert-remove_comm : (j k : K) (a : A) (m : Map K A) → o.same j k ≡ false → Ascending o m → insert o j a (remove o k m) ≡ remove o k (insert o j a m)
   unfolding store
-  insert-remove_comm j k a m n h = store_comm j k (some a) none m n h
+  insert-remove_comm j k a m n h = store_comm j k (Some a) None m n h
 
   -- ---- sums over a map
 
-  pub sum-insert-none : (g : Pair K A → ℕ) (k : K) (a : A) (m : Map K A) → lookup o k m ≡ none → sum g (insert o k a m) ≡ g (pair k a) + sum g m
+  pub sum-insert-none : (g : Pair K A → ℕ) (k : K) (a : A) (m : Map K A) → lookup o k m ≡ None → sum g (insert o k a m) ≡ g (pair k a) + sum g m
   unfolding lookup insert sum
   sum-insert-none g k a [] e = refl
   sum-insert-none g k a (x ∷ xs) e =
       three o law k x.key
-      (λ s p. absurd (some-ne-none _ (rw s at e)))
+      (λ s p. absurd (some-none _ (rw s at e)))
       (λ s p. rw (s, p))
       (λ s p q. rw (s, p) (let ih = sum-insert-none g k a xs (rw s at e) in omega (arith, ih)))
 
-  pub sum-insert-some : (g : Pair K A → ℕ) (k : K) (a b : A) (m : Map K A) → lookup o k m ≡ some b → Ascending o m → sum g (insert o k a m) + g (pair k b) ≡ g (pair k a) + sum g m
+  pub sum-insert-some : (g : Pair K A → ℕ) (k : K) (a b : A) (m : Map K A) → lookup o k m ≡ Some b → Ascending o m → sum g (insert o k a m) + g (pair k b) ≡ g (pair k a) + sum g m
   unfolding lookup insert sum Ascending
-  sum-insert-some g k a b [] e h = absurd (none-ne-some _ e)
+  sum-insert-some g k a b [] e h = absurd (none-some _ e)
   sum-insert-some g k a b (x ∷ xs) e h =
       three o law k x.key
-      (λ s p. rw s (let v : g x ≡ g (pair k b) = λ i. g (pair (sym p i) (some-injective _ _ (rw s at e) i)) in omega (arith, v)))
+      (λ s p. rw s (let v : g x ≡ g (pair k b) = λ i. g (pair (sym p i) (same_Some _ _ (rw s at e) i)) in omega (arith, v)))
       (λ s p. absurd (absent k b x xs h p e))
       (λ s p q. rw (s, p) (let ih = sum-insert-some g k a b xs (rw s at e) h.1 in omega (arith, ih)))
 
-  pub sum-remove-some : (g : Pair K A → ℕ) (k : K) (b : A) (m : Map K A) → lookup o k m ≡ some b → sum g (remove o k m) + g (pair k b) ≡ sum g m
+  pub sum-remove-some : (g : Pair K A → ℕ) (k : K) (b : A) (m : Map K A) → lookup o k m ≡ Some b → sum g (remove o k m) + g (pair k b) ≡ sum g m
   unfolding lookup remove sum
-  sum-remove-some g k b [] e = absurd (none-ne-some _ e)
+  sum-remove-some g k b [] e = absurd (none-some _ e)
   sum-remove-some g k b (x ∷ xs) e =
       split (o.same k x.key)
-      (λ s. rw s (let v : g x ≡ g (pair k b) = λ i. g (pair (sym (law.same-eq k x.key s) i) (some-injective _ _ (rw s at e) i)) in omega (arith, v)))
+      (λ s. rw s (let v : g x ≡ g (pair k b) = λ i. g (pair (sym (law.same-eq k x.key s) i) (same_Some _ _ (rw s at e) i)) in omega (arith, v)))
       (λ s. rw s (let ih = sum-remove-some g k b xs (rw s at e) in omega (arith, ih)))
 
   -- what is stored comes in, what was there goes out
   pub sum-store : (g : Pair K A → ℕ) (k : K) (x : Option A) (m : Map K A) → Ascending o m → sum g (store o k x m) + or_else 0 (λ a. g (pair k a)) (lookup o k m) ≡ or_else 0 (λ a. g (pair k a)) x + sum g m
   unfolding store or_else
-  sum-store g k none m h = go (lookup o k m) refl
+  sum-store g k None m h = go (lookup o k m) refl
     where
       go : (y : Option A) → lookup o k m ≡ y → sum g (remove o k m) + or_else 0 (λ a. g (pair k a)) (lookup o k m) ≡ 0 + sum g m
-      go none e = rw (e, remove_absent k m e) (omega arith)
-      go (some b) e = rw e (let s = sum-remove-some g k b m e in omega arith)
-  sum-store g k (some c) m h = go (lookup o k m) refl
+      go None e = rw (e, remove_absent k m e) (omega arith)
+      go (Some b) e = rw e (let s = sum-remove-some g k b m e in omega arith)
+  sum-store g k (Some c) m h = go (lookup o k m) refl
     where
       go : (y : Option A) → lookup o k m ≡ y → sum g (insert o k c m) + or_else 0 (λ a. g (pair k a)) (lookup o k m) ≡ g (pair k c) + sum g m
-      go none e = rw (e, sum-insert-none g k c m e) (omega arith)
-      go (some b) e = rw e (sum-insert-some g k c b m e h)
+      go None e = rw (e, sum-insert-none g k c m e) (omega arith)
+      go (Some b) e = rw e (sum-insert-some g k c b m e h)
 
   -- ---- lengths
 
-  pub length-insert-none : (k : K) (a : A) (m : Map K A) → lookup o k m ≡ none → length (insert o k a m) ≡ suc (length m)
+  pub length-insert-none : (k : K) (a : A) (m : Map K A) → lookup o k m ≡ None → length (insert o k a m) ≡ suc (length m)
   unfolding lookup insert
   length-insert-none k a [] e = refl
   length-insert-none k a (x ∷ xs) e =
       three o law k x.key
-      (λ s p. absurd (some-ne-none _ (rw s at e)))
+      (λ s p. absurd (some-none _ (rw s at e)))
       (λ s p. rw (s, p))
       (λ s p q. rw (s, p) (ap suc (length-insert-none k a xs (rw s at e))))
 
-  pub length-insert-some : (k : K) (a b : A) (m : Map K A) → lookup o k m ≡ some b → Ascending o m → length (insert o k a m) ≡ length m
+  pub length-insert-some : (k : K) (a b : A) (m : Map K A) → lookup o k m ≡ Some b → Ascending o m → length (insert o k a m) ≡ length m
   unfolding lookup insert Ascending
-  length-insert-some k a b [] e h = absurd (none-ne-some _ e)
+  length-insert-some k a b [] e h = absurd (none-some _ e)
   length-insert-some k a b (x ∷ xs) e h =
       three o law k x.key
       (λ s p. rw s)
@@ -351,12 +353,12 @@ module _ {K A : Type 0} (o : Order K) (law : Lawful o) where
       (λ s p. rw (s, p) (omega arith))
       (λ s p q. rw (s, p) (let ih = length-insert-most k a xs in omega arith))
 
-  pub length-remove-some : (k : K) (b : A) (m : Map K A) → lookup o k m ≡ some b → suc (length (remove o k m)) ≡ length m
+  pub length-remove-some : (k : K) (b : A) (m : Map K A) → lookup o k m ≡ Some b → suc (length (remove o k m)) ≡ length m
   unfolding lookup remove
-  length-remove-some k b [] e = absurd (none-ne-some _ e)
+  length-remove-some k b [] e = absurd (none-some _ e)
   length-remove-some k b (x ∷ xs) e = split (o.same k x.key) (λ s. rw s) (λ s. rw s (ap suc (length-remove-some k b xs (rw s at e))))
 
-  pub length-remove-none : (k : K) (m : Map K A) → lookup o k m ≡ none → length (remove o k m) ≡ length m
+  pub length-remove-none : (k : K) (m : Map K A) → lookup o k m ≡ None → length (remove o k m) ≡ length m
   length-remove-none k m e = rw (remove_absent k m e)
 
   pub length-remove-le : (k : K) (m : Map K A) → length (remove o k m) ≤ length m
@@ -376,23 +378,23 @@ module _ {K A : Type 0} (o : Order K) (law : Lawful o) where
 
   -- ---- every pair of a map
 
-  pub every-lookup : (P : Pair K A → Bool) (k : K) (a : A) (m : Map K A) → every P m ≡ true → lookup o k m ≡ some a → P (pair k a) ≡ true
+  pub every-lookup : (P : Pair K A → Bool) (k : K) (a : A) (m : Map K A) → every P m ≡ true → lookup o k m ≡ Some a → P (pair k a) ≡ true
   unfolding lookup every
-  every-lookup P k a [] h e = absurd (none-ne-some _ e)
+  every-lookup P k a [] h e = absurd (none-some _ e)
   every-lookup P k a (x ∷ xs) h e =
       and_both (P x) (every P xs) h
       (λ p q. split (o.same k x.key)
-      (λ s. (λ i. P (pair (law.same-eq k x.key s i) (sym (some-injective _ _ (rw s at e)) i))) ∙ p)
+      (λ s. (λ i. P (pair (law.same-eq k x.key s i) (sym (same_Some _ _ (rw s at e)) i))) ∙ p)
       (λ s. every-lookup P k a xs q (rw s at e)))
 
-  pub every_intro : (P : Pair K A → Bool) (m : Map K A) → Ascending o m → ((k : K) (a : A) → lookup o k m ≡ some a → P (pair k a) ≡ true) → every P m ≡ true
+  pub every_intro : (P : Pair K A → Bool) (m : Map K A) → Ascending o m → ((k : K) (a : A) → lookup o k m ≡ Some a → P (pair k a) ≡ true) → every P m ≡ true
   unfolding lookup every Ascending
   every_intro P [] h f = refl
   every_intro P (x ∷ xs) h f =
       rw (f x.key x.val (lookup_head x xs))
       (every_intro P xs h.1
       (λ k a e. split (o.same k x.key)
-      (λ s. absurd (some-ne-none _ (sym e ∙ rw (law.same-eq k x.key s) (lookup_below x.key xs h.0))))
+      (λ s. absurd (some-none _ (sym e ∙ rw (law.same-eq k x.key s) (lookup_below x.key xs h.0))))
       (λ s. f k a (rw s e))))
 
   pub every-insert : (P : Pair K A → Bool) (k : K) (a : A) (m : Map K A) → every P m ≡ true → P (pair k a) ≡ true → every P (insert o k a m) ≡ true
@@ -412,10 +414,10 @@ module _ {K A : Type 0} (o : Order K) (law : Lawful o) where
       and_both (P x) (every P xs) h
       (λ p q. split (o.same k x.key) (λ s. rw s q) (λ s. rw (s, p) (every-remove P k xs q)))
 
-  pub every-store : (P : Pair K A → Bool) (k : K) (x : Option A) (m : Map K A) → every P m ≡ true → ((a : A) → x ≡ some a → P (pair k a) ≡ true) → every P (store o k x m) ≡ true
+  pub every-store : (P : Pair K A → Bool) (k : K) (x : Option A) (m : Map K A) → every P m ≡ true → ((a : A) → x ≡ Some a → P (pair k a) ≡ true) → every P (store o k x m) ≡ true
   unfolding store
-  every-store P k none m h f = every-remove P k m h
-  every-store P k (some a) m h f = every-insert P k a m h (f a refl)
+  every-store P k None m h f = every-remove P k m h
+  every-store P k (Some a) m h f = every-insert P k a m h (f a refl)
 
   -- ---- the pairs that meet a test
 
@@ -437,7 +439,7 @@ module _ {K A : Type 0} (o : Order K) (law : Lawful o) where
       split (o.same k x.key)
       (λ s.
       let p = law.same-eq k x.key s in
-      let n : lookup o k (select P xs) ≡ none = rw p (lookup_below x.key (select P xs) (below-select x.key P xs h.0)) in
+      let n : lookup o k (select P xs) ≡ None = rw p (lookup_below x.key (select P xs) (below-select x.key P xs h.0)) in
       split (P x) (λ e. rw (e, s, p, e)) (λ e. rw (e, s, n, p, e)))
       (λ s. split (P x) (λ e. rw (e, s) (lookup-select P k xs h.1)) (λ e. rw (e, s) (lookup-select P k xs h.1)))
 
@@ -464,7 +466,7 @@ module _ {K A : Type 0} (o : Order K) (law : Lawful o) where
       (λ p q. rw (above-differs o law x.key k p, below-not_back o law x.key k p) (ap (λ z. x ∷ z) (insert-past k a xs ys q)))
 
   -- at the first pair: k itself, or a later key
-  pub lookup_here : (k : K) (x : Pair K A) (xs : Map K A) → o.same k x.key ≡ true → lookup o k (x ∷ xs) ≡ some x.val
+  pub lookup_here : (k : K) (x : Pair K A) (xs : Map K A) → o.same k x.key ≡ true → lookup o k (x ∷ xs) ≡ Some x.val
   unfolding lookup
   lookup_here k x xs e = rw e
 
@@ -508,7 +510,7 @@ module _ {K A : Type 0} (o : Order K) (law : Lawful o) where
       let t = ascending_if (y ∷ ys) z (λ i l. f (suc i) (omega arith)) in
       (below-first x.key y ys t (f 0 (omega arith)), t)
 
-  pub lookup-get_or : (m : Map K A) (i : ℕ) (z : Pair K A) → Ascending o m → i < length m → lookup o (get_or m i z).key m ≡ some (get_or m i z).val
+  pub lookup-get_or : (m : Map K A) (i : ℕ) (z : Pair K A) → Ascending o m → i < length m → lookup o (get_or m i z).key m ≡ Some (get_or m i z).val
   unfolding lookup Ascending
   lookup-get_or [] i z h l = absurd (omega arith)
   lookup-get_or (x ∷ xs) zero z h l = lookup_head x xs
@@ -516,24 +518,24 @@ module _ {K A : Type 0} (o : Order K) (law : Lawful o) where
       rw (above-differs o law x.key (get_or xs i z).key (below-get_or x.key xs i z h.0 (omega arith))) (lookup-get_or xs i z h.1 (omega arith))
 
   -- what is found has a place
-  pub lookup-place : (k : K) (a : A) (m : Map K A) (z : Pair K A) → lookup o k m ≡ some a → (i : ℕ) × (i < length m) × (get_or m i z ≡ pair k a)
+  pub lookup-place : (k : K) (a : A) (m : Map K A) (z : Pair K A) → lookup o k m ≡ Some a → (i : ℕ) × (i < length m) × (get_or m i z ≡ pair k a)
   unfolding lookup
-  lookup-place k a [] z e = absurd (none-ne-some _ e)
+  lookup-place k a [] z e = absurd (none-some _ e)
   lookup-place k a (x ∷ xs) z e =
       split (o.same k x.key)
-      (λ s. (0, omega arith, λ i. pair (sym (law.same-eq k x.key s) i) (some-injective _ _ (rw s at e) i)))
+      (λ s. (0, omega arith, λ i. pair (sym (law.same-eq k x.key s) i) (same_Some _ _ (rw s at e) i)))
       (λ s. let r = lookup-place k a xs z (rw s at e) in (suc r.0, omega (arith, r.1), r.2))
 
 module _ {K A B : Type 0} (o : Order K) (law : Lawful o) where
   -- no longer than a map that has all its keys
-  pub length-sub : (m : Map K A) (n : Map K B) → Ascending o m → ((k : K) → lookup o k n ≡ none → lookup o k m ≡ none) → length m ≤ length n
+  pub length-sub : (m : Map K A) (n : Map K B) → Ascending o m → ((k : K) → lookup o k n ≡ None → lookup o k m ≡ None) → length m ≤ length n
   unfolding lookup Ascending
   length-sub [] n h f = omega arith
   length-sub (x ∷ xs) n h f = go (lookup o x.key n) refl (length-sub xs (remove o x.key n) h.1)
     where
-      go : (y : Option B) → lookup o x.key n ≡ y → (((k : K) → lookup o k (remove o x.key n) ≡ none → lookup o k xs ≡ none) → length xs ≤ length (remove o x.key n)) → suc (length xs) ≤ length n
-      go none e ih = absurd (some-ne-none _ (sym (lookup_head o law x xs) ∙ f x.key e))
-      go (some b) e ih =
+      go : (y : Option B) → lookup o x.key n ≡ y → (((k : K) → lookup o k (remove o x.key n) ≡ None → lookup o k xs ≡ None) → length xs ≤ length (remove o x.key n)) → suc (length xs) ≤ length n
+      go None e ih = absurd (some-none _ (sym (lookup_head o law x xs) ∙ f x.key e))
+      go (Some b) e ih =
           let l = ih (λ k z. split (o.same k x.key)
           (λ s. rw (law.same-eq k x.key s) (lookup_below o law x.key xs h.0))
           (λ s. rw s at (f k (sym (lookup-remove-other o law k x.key n s) ∙ z)))) in
@@ -557,10 +559,10 @@ module _ {K A B : Type 0} (o : Order K) (law : Lawful o) where
   lookup-map f k (x ∷ xs) = split (o.same k x.key) (λ s. rw s) (λ s. rw s (lookup-map f k xs))
 
 module _ {K A : Type 0} (o : Order K) (law : Lawful o) where
-  laid_none : (f : Option A → A → A) (x y : Option A) → laid f x y ≡ none → y ≡ none
+  laid_none : (f : Option A → A → A) (x y : Option A) → laid f x y ≡ None → y ≡ None
   unfolding laid
-  laid_none f x none e = refl
-  laid_none f x (some b) e = absurd (some-ne-none _ e)
+  laid_none f x None e = refl
+  laid_none f x (Some b) e = absurd (some-none _ e)
 
   pub length-newer : (f : Option A → A → A) (older newer : Map K A) → Ascending o newer → length newer ≤ length (merge_with o f older newer)
   length-newer f older newer h =

@@ -1,6 +1,6 @@
 -- Maps as association lists that ascend strictly by their keys, over one record of an order: groups by number, keys in byte order.
 use Rattle.std.specs.Prelude.{Bool, true, false, cond, ◌&&◌, ◌||◌, List, [], ◌∷◌, ℕ, ltb, eqb}
-use Rattle.std.proofs.Math.Option.{Option, none, some}
+use Rattle.std.specs.Prelude.{Option, None, Some}
 
 pub record Order (K : Type 0) : Type 0 where
   pub same : K → K → Bool
@@ -15,8 +15,8 @@ Map K A = List (Pair K A)
 
 module _ {K A : Type 0} (o : Order K) where
   unfoldable pub lookup : K → Map K A → Option A
-  lookup k [] = none
-  lookup k (x ∷ xs) = cond (o.same k x.key) (some x.val) (lookup k xs)
+  lookup k [] = None
+  lookup k (x ∷ xs) = cond (o.same k x.key) (Some x.val) (lookup k xs)
 
   unfoldable pub insert : K → A → Map K A → Map K A
   insert k a [] = record { key = k; val = a } ∷ []
@@ -31,8 +31,8 @@ module _ {K A : Type 0} (o : Order K) where
 
   -- the map with k at what is given, or without k
   unfoldable pub store : K → Option A → Map K A → Map K A
-  store k none m = remove k m
-  store k (some a) m = insert k a m
+  store k None m = remove k m
+  store k (Some a) m = insert k a m
 
   -- each pair of the newer map laid over the older map by f
   unfoldable pub merge_with : (Option A → A → A) → Map K A → Map K A → Map K A

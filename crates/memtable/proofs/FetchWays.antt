@@ -1,4 +1,5 @@
 -- Each way through the fetches gives what its contract says. Assumes nothing.
+use Rattle.std.specs.Prelude.{Option, None, Some}
 use mathlib.Core.Bool.{Bool, true, false, ◌&&◌}
 use mathlib.Core.List.{List, ◌++◌, append-nil}
 use mathlib.Core.Path.{◌≡◌, sym, ap}
@@ -9,18 +10,14 @@ use lib.Dec.{ltb, leb}
 use lib.ListN.{drop}
 use borrow.Author.Tests.{lt-ltb, le-ltb, le-leb, lt-leb}
 use Rattle.maps.specs.Lists.{first, map_option, or_else}
-use Rattle.pipe_log.specs.declared.Bound.{Bound}
-use Rattle.pipe_log.specs.declared.Bound.TheVariants as size
-use Rattle.pipe_log.specs.Numbers.{bound_of}
 use Rattle.pipe_log.specs.Rows.{with_index, window}
-use Rattle.rules.specs.Causes.{ok}
+use Rattle.rules.specs.Causes.{EntryCompacted, EntryNotFound, Err, Ok}
 use Rattle.rules.specs.Items.{EntryIndex}
 use Rattle.rules.specs.Table.{first_index_of}
 use Rattle.rules.specs.TableQueries.{within, sized, fetch_entries_to, fetch_entry_indexes_before, fetch_rewritten_entry_indexes}
 use Rattle.maps.specs.BoolLaws.{and-false}
 use Rattle.memtable.specs.declared.Head.{Head}
-use Rattle.memtable.specs.Views.{table_of, row_at, AnyRows, Wf}
-use Rattle.memtable.specs.declared.Range.{TheVariants.Rows, TheVariants.EntryCompacted, TheVariants.EntryNotFound}
+use Rattle.memtable.specs.Views.{table_of, row_at, Wf}
 use Rattle.memtable.specs.Fetches.{entries_at, RangeAnswer}
 use Rattle.memtable.specs.Scans.{count_before, size_count}
 use Rattle.memtable.specs.ListLaws.{select-append, select_all, select-none}
@@ -61,18 +58,18 @@ module _ (f n begin end : ℕ) (xs : List ℕ) (a : f ≤ begin) (b : begin ≤ 
 
 -- ---- `range_to`
 
-module _ (h : Head) (xs : List ℕ) (begin end : ℕ) (s : Bound) where
-  pub range_empty : end ≤ begin → RangeAnswer h xs (fetch_entries_to begin end (bound_of s)) (Rows 0 0)
+module _ (h : Head) (xs : List ℕ) (begin end : ℕ) (s : Option ℕ) where
+  pub range_empty : end ≤ begin → RangeAnswer h xs (fetch_entries_to begin end s) (Ok (record { from = 0; count = 0 }))
   unfolding fetch_entries_to entries_at window
   range_empty l = record { rule = λ keys counted. rw (le-leb end begin l); within = omega arith }
 
   module _ (l : begin < end) where
-    pub range_none : h.len ≡ 0 → RangeAnswer h xs (fetch_entries_to begin end (bound_of s)) EntryNotFound
+    pub range_none : h.len ≡ 0 → RangeAnswer h xs (fetch_entries_to begin end s) (Err EntryNotFound)
     unfolding fetch_entries_to table_of window first_index_of map_option first or_else
     range_none e = record { rule = λ keys counted. rw (lt-leb end begin l, e); within = omega arith }
 
     module _ (n : h.len ≡ 0 → ⊥) where
-      pub range-compacted : begin < h.first_index → RangeAnswer h xs (fetch_entries_to begin end (bound_of s)) EntryCompacted
+      pub range-compacted : begin < h.first_index → RangeAnswer h xs (fetch_entries_to begin end s) (Err EntryCompacted)
       unfolding fetch_entries_to table_of or_else
       range-compacted c =
           record {
@@ -82,7 +79,7 @@ module _ (h : Head) (xs : List ℕ) (begin end : ℕ) (s : Bound) where
           }
 
       module _ (c : h.first_index ≤ begin) where
-        pub range_above : h.first_index + h.len < end → RangeAnswer h xs (fetch_entries_to begin end (bound_of s)) EntryNotFound
+        pub range_above : h.first_index + h.len < end → RangeAnswer h xs (fetch_entries_to begin end s) (Err EntryNotFound)
         unfolding fetch_entries_to table_of or_else
         range_above d =
             record {
@@ -97,8 +94,8 @@ module _ (h : Head) (xs : List ℕ) (begin end : ℕ) (s : Bound) where
               within = omega arith;
             }
 
-        range-rows : (m : ℕ) → end ≤ h.first_index + h.len → m ≤ end - begin → entries_at (begin - h.first_index) m h xs ≡ sized (bound_of s) (entries_at (begin - h.first_index) (end - begin) h xs)
-            → RangeAnswer h xs (fetch_entries_to begin end (bound_of s)) (Rows (begin - h.first_index) m)
+        range-rows : (m : ℕ) → end ≤ h.first_index + h.len → m ≤ end - begin → entries_at (begin - h.first_index) m h xs ≡ sized s (entries_at (begin - h.first_index) (end - begin) h xs)
+            → RangeAnswer h xs (fetch_entries_to begin end s) (Ok (record { from = (begin - h.first_index); count = m }))
         unfolding fetch_entries_to table_of or_else entries_at
         range-rows m d b e =
             record {
@@ -111,30 +108,26 @@ module _ (h : Head) (xs : List ℕ) (begin end : ℕ) (s : Bound) where
                     le-ltb (h.first_index + h.len) end d,
                     in-range h.first_index h.len begin end xs c (omega arith) d,
                   )
-                  (ap ok e);
+                  (ap Ok e);
               within = omega arith;
             }
 
-        pub range_all : end ≤ h.first_index + h.len → s ≡ size.None → RangeAnswer h xs (fetch_entries_to begin end (bound_of s)) (Rows (begin - h.first_index) (end - begin))
+        pub range_all : end ≤ h.first_index + h.len → s ≡ None → RangeAnswer h xs (fetch_entries_to begin end s) (Ok (record { from = (begin - h.first_index); count = (end - begin) }))
         unfolding sized
         range_all d e = range-rows (end - begin) d (omega arith) (rw e)
 
-        pub range-sized : (k m : ℕ) → end ≤ h.first_index + h.len → s ≡ size.At k → m ≡ size_count k 0 (end - begin) (drop ((begin - h.first_index) * 8) xs) → m ≤ end - begin
-            → RangeAnswer h xs (fetch_entries_to begin end (bound_of s)) (Rows (begin - h.first_index) m)
+        pub range-sized : (k m : ℕ) → end ≤ h.first_index + h.len → s ≡ Some k → m ≡ size_count k 0 (end - begin) (drop ((begin - h.first_index) * 8) xs) → m ≤ end - begin
+            → RangeAnswer h xs (fetch_entries_to begin end s) (Ok (record { from = (begin - h.first_index); count = m }))
         unfolding sized entries_at
         range-sized k m d e g b =
             range-rows m d b
             (rw (e, g) (sym (size-window k 0 (h.first_index + (begin - h.first_index)) (end - begin) (drop ((begin - h.first_index) * 8) xs))))
 
--- the rows that it scans are records
-pub range-held : (h : Head) (xs : List ℕ) → Wf h xs → (a n : ℕ) → a + n ≤ h.len → AnyRows a (a + n) xs
-range-held h xs w a n b i l u = held-row h xs w i (omega arith)
-
 -- ---- `range_before`, `range_rewritten`
 
 module _ (h : Head) (xs : List ℕ) (w : Wf h xs) where
   pub range-before : (gate c : ℕ) → c ≡ count_before gate (h.len - h.rewrite_count) (drop (h.rewrite_count * 8) xs) → c ≤ h.len - h.rewrite_count
-      → RangeAnswer h xs (λ t. ok (fetch_entry_indexes_before gate t)) (Rows h.rewrite_count c)
+      → RangeAnswer h xs (λ t. Ok (fetch_entry_indexes_before gate t)) (Ok (record { from = h.rewrite_count; count = c }))
   unfolding fetch_entry_indexes_before table_of entries_at
   range-before gate c e l =
       record {
@@ -148,7 +141,7 @@ module _ (h : Head) (xs : List ℕ) (w : Wf h xs) where
         within = omega arith;
       }
 
-  pub range-rewritten : RangeAnswer h xs (λ t. ok (fetch_rewritten_entry_indexes t)) (Rows 0 h.rewrite_count)
+  pub range-rewritten : RangeAnswer h xs (λ t. Ok (fetch_rewritten_entry_indexes t)) (Ok (record { from = 0; count = h.rewrite_count }))
   unfolding fetch_rewritten_entry_indexes table_of entries_at
   range-rewritten =
       record { rule = λ keys counted. rw (select-rewrite h xs w, add-zero h.first_index); within = omega arith }

@@ -1,15 +1,13 @@
 -- Each way through `rewrite` gives what its contract says. Assumes nothing.
 use mathlib.Core.Bool.{Bool, true, false, cond, not}
 use mathlib.Core.List.{List, [], ◌∷◌, ◌++◌, append-nil}
-use mathlib.Core.Option.{Option, none, some}
+use Rattle.std.specs.Prelude.{Option, None, Some}
 use mathlib.Core.Path.{◌≡◌, refl, sym, ap, ◌∙◌}
-use Prim.Native.Nat.{ℕ, zero, suc, ◌+◌, ◌-◌, ◌*◌, ◌/◌, ◌^◌, ◌≤◌, ◌<◌, min, max}
+use Prim.Native.Nat.{ℕ, zero, suc, ◌+◌, ◌-◌, ◌*◌, ◌/◌, ◌≤◌, ◌<◌, min, max}
 use native.Mathlib.Decide.{dec_lt}
 use native.Mathlib.Omega.{arith}
-use lib.ListN.{length, get_or, set, take, drop, length-set}
+use lib.ListN.{length, get_or, set, take, drop}
 use lib.Seq.{get_or-drop, take-nil}
-use mir.Syntax.{w64}
-use mir.Val.{Fits}
 use borrow.Author.Tests.{le-leb, lt-leb}
 use Rattle.cells.specs.Part.{part, put}
 use Rattle.cells.proofs.Steps.{Laid, laid_none, laid-snoc}
@@ -17,11 +15,10 @@ use Rattle.cells.specs.PartLaws.{length_part, get_or-part, part_none, part-snoc,
 use Rattle.maps.specs.Lists.{front, first, last, map_option, or_else}
 use Rattle.maps.specs.Maps.{Map}
 use Rattle.pipe_log.specs.Rows.{window}
-use Rattle.rules.specs.Causes.{ok, refuse, and_then, append_left, already_rewritten}
+use Rattle.rules.specs.Causes.{AppendLeft, AlreadyRewritten, Err, Ok, refuse, and_then}
 use Rattle.rules.specs.Items.{EntryIndex, is_rewrite, file_of}
 use Rattle.rules.specs.Table.{Held, with_entries, first_index_of, entries_below, entries_from, replaces, replaced, stops_at, meets_rewrite, rewrite_overlap, rewritten}
 use Rattle.memtable.specs.declared.Head.{Head}
-use Rattle.memtable.specs.declared.Rewritten.{TheVariants.Done, TheVariants.AppendLeft, TheVariants.AlreadyRewritten}
 use Rattle.memtable.specs.Views.{table_of, row_at, Row, Wf}
 use Rattle.memtable.specs.Appends.{Lent}
 use Rattle.memtable.specs.Rewrites.{moved, replaced_part, Rewriting, Run, Met, Overlap, Passed, counting, Replaced}
@@ -35,18 +32,18 @@ use Rattle.memtable.specs.WindowLaws.{row_at-drop, window_same, window-cut, wind
 overlap-some : (gate : Option ℕ) (before : List EntryIndex) (a n b m : ℕ) (ys zs : List ℕ) → 0 < n → 0 < m
     → rewrite_overlap gate before (window a n ys) (window b m zs)
     ≡ cond (or_else false (λ (e : EntryIndex). not (is_rewrite e)) (last before))
-    (refuse append_left)
+    (refuse AppendLeft)
     (cond (meets_rewrite gate (stops_at gate (window a n ys) (window b m zs)))
-    (refuse already_rewritten)
-    (ok (before ++ replaced gate (window a n ys) (window b m zs))))
+    (refuse AlreadyRewritten)
+    (Ok (before ++ replaced gate (window a n ys) (window b m zs))))
 unfolding rewrite_overlap window
 overlap-some gate before a zero b m ys zs u v = absurd (omega arith)
 overlap-some gate before a (suc n) b zero ys zs u v = absurd (omega arith)
 overlap-some gate before a (suc n) b (suc m) ys zs u v = refl
 
-overlap-none : (gate : Option ℕ) (before es : List EntryIndex) → rewrite_overlap gate before es [] ≡ ok (before ++ es)
+overlap-none : (gate : Option ℕ) (before es : List EntryIndex) → rewrite_overlap gate before es [] ≡ Ok (before ++ es)
 unfolding rewrite_overlap
-overlap-none gate before [] = ap ok (sym (append-nil before))
+overlap-none gate before [] = ap Ok (sym (append-nil before))
 overlap-none gate before (e ∷ es) = refl
 
 module _ (gate : Option ℕ) (h : Head) (xs : List ℕ) (s : ℕ) (rows : List ℕ) (w : Wf h xs) where
@@ -60,17 +57,17 @@ module _ (gate : Option ℕ) (h : Head) (xs : List ℕ) (s : ℕ) (rows : List �
   -- a list and entries that are not empty
   by_overlap : (keys : Map (List ℕ) Held) (counted : Bool) → 0 < h.len → 0 < length rows / 8
       → rewritten gate list (table_of h xs keys counted)
-      ≡ and_then (rewrite_overlap gate (entries_below s entries) (entries_from s entries) (entries_from h.first_index list)) (λ es. ok (with_entries es (table_of h xs keys counted)))
+      ≡ and_then (rewrite_overlap gate (entries_below s entries) (entries_from s entries) (entries_from h.first_index list)) (λ es. Ok (with_entries es (table_of h xs keys counted)))
   unfolding rewritten table_of or_else
   by_overlap keys counted u v =
       rw (first_index-window s (length rows / 8) rows v, first_index-window h.first_index h.len xs u)
 
   -- no list, and no entries
-  no_list : (keys : Map (List ℕ) Held) (counted : Bool) → length rows / 8 ≡ 0 → rewritten gate list (table_of h xs keys counted) ≡ ok (table_of h xs keys counted)
+  no_list : (keys : Map (List ℕ) Held) (counted : Bool) → length rows / 8 ≡ 0 → rewritten gate list (table_of h xs keys counted) ≡ Ok (table_of h xs keys counted)
   unfolding rewritten or_else first_index_of map_option first window
   no_list keys counted e = rw e
 
-  no-entries : (keys : Map (List ℕ) Held) (counted : Bool) → 0 < length rows / 8 → h.len ≡ 0 → rewritten gate list (table_of h xs keys counted) ≡ ok (table_of h xs keys counted)
+  no-entries : (keys : Map (List ℕ) Held) (counted : Bool) → 0 < length rows / 8 → h.len ≡ 0 → rewritten gate list (table_of h xs keys counted) ≡ Ok (table_of h xs keys counted)
   unfolding rewritten table_of or_else first_index_of map_option first window
   no-entries keys counted v e = rw (first_index-window s (length rows / 8) rows v, e)
 
@@ -107,7 +104,7 @@ module _ (gate : Option ℕ) (h : Head) (xs : List ℕ) (s : ℕ) (rows : List �
   unfolding replaced_part
   unmoved e = rw (e, part_none ((h.first_index - s) * 8) rows) (sym (put-nil xs ((s - h.first_index) * 8)))
 
-  pub rewrite_above : h.len ≤ s - h.first_index → Rewriting gate h xs s rows (Done h) xs
+  pub rewrite_above : h.len ≤ s - h.first_index → Rewriting gate h xs s rows (Ok h) xs
   unfolding moved front rewrite_overlap and_then
   rewrite_above l =
       record {
@@ -118,7 +115,7 @@ module _ (gate : Option ℕ) (h : Head) (xs : List ℕ) (s : ℕ) (rows : List �
                   elim (dec_lt 0 h.len) [
                     | no u ↦ sym (no-entries keys counted v (omega arith))
                     | yes u ↦
-                        rw (by_overlap keys counted u v, none_from l, all_below l) (ap ok (same-table keys counted))
+                        rw (by_overlap keys counted u v, none_from l, all_below l) (ap Ok (same-table keys counted))
                   ]
             ];
         laid = unmoved (rw (none_from l, take-nil {A = EntryIndex} (length (entries_from h.first_index list))));
@@ -126,7 +123,7 @@ module _ (gate : Option ℕ) (h : Head) (xs : List ℕ) (s : ℕ) (rows : List �
         wf = w;
       }
 
-  pub rewrite_below : length rows / 8 ≤ h.first_index - s → Rewriting gate h xs s rows (Done h) xs
+  pub rewrite_below : length rows / 8 ≤ h.first_index - s → Rewriting gate h xs s rows (Ok h) xs
   unfolding moved front and_then
   rewrite_below l =
       record {
@@ -137,7 +134,7 @@ module _ (gate : Option ℕ) (h : Head) (xs : List ℕ) (s : ℕ) (rows : List �
                   elim (dec_lt 0 h.len) [
                     | no u ↦ sym (no-entries keys counted v (omega arith))
                     | yes u ↦
-                        rw (by_overlap keys counted u v, none-listed l, overlap-none gate (entries_below s entries) (entries_from s entries), cut) (ap ok (same-table keys counted))
+                        rw (by_overlap keys counted u v, none-listed l, overlap-none gate (entries_below s entries) (entries_from s entries), cut) (ap Ok (same-table keys counted))
                   ]
             ];
         laid = unmoved (rw (none-listed l));
@@ -184,9 +181,9 @@ module _ (gate : Option ℕ) (h : Head) (xs : List ℕ) (s : ℕ) (rows : List �
         → rewritten gate list (table_of h xs keys counted)
         ≡ and_then
         (cond (or_else false (λ (e : EntryIndex). not (is_rewrite e)) (last before))
-        (refuse append_left)
-        (cond (meets_rewrite gate (stops_at gate held lent)) (refuse already_rewritten) (ok (before ++ replaced gate held lent))))
-        (λ es. ok (with_entries es (table_of h xs keys counted)))
+        (refuse AppendLeft)
+        (cond (meets_rewrite gate (stops_at gate held lent)) (refuse AlreadyRewritten) (Ok (before ++ replaced gate held lent))))
+        (λ es. Ok (with_entries es (table_of h xs keys counted)))
     by_rows keys counted =
         by_overlap keys counted (omega arith) (omega arith)
         ∙ rw (before-is, held-is, lent_is, overlap-some gate before (h.first_index + p) (h.len - p) (h.first_index + p) (length rows / 8 - q) (drop (p * 8) xs) (drop (q * 8) rows) (omega arith) (omega arith))
@@ -212,11 +209,11 @@ module _ (gate : Option ℕ) (h : Head) (xs : List ℕ) (s : ℕ) (rows : List �
           | no b ↦ (let e : p ≡ 0 = omega arith in rw e)
         ]
 
-    pub rewrite-left : h.rewrite_count < p → Rewriting gate h xs s rows AppendLeft xs
+    pub rewrite-left : h.rewrite_count < p → Rewriting gate h xs s rows (Err AppendLeft) xs
     unfolding and_then
     rewrite-left l = record { rule = λ keys counted. rw (by_rows keys counted, append-before l); laid = refl; first = refl; wf = w }
 
-    pub rewrite-met : p ≤ h.rewrite_count → meets_rewrite gate (stops_at gate held lent) ≡ true → Rewriting gate h xs s rows AlreadyRewritten xs
+    pub rewrite-met : p ≤ h.rewrite_count → meets_rewrite gate (stops_at gate held lent) ≡ true → Rewriting gate h xs s rows (Err AlreadyRewritten) xs
     unfolding and_then
     rewrite-met l e = record { rule = λ keys counted. rw (by_rows keys counted, rewrite-before l, e); laid = refl; first = refl; wf = w }
 
@@ -264,7 +261,7 @@ module _ (gate : Option ℕ) (h : Head) (xs : List ℕ) (s : ℕ) (rows : List �
           rw d (rw z at x ∙ get_or-part (q * 8) (k * 8) rows ((i - p) * 8 + j) 0 (omega arith) ∙ rw y))
           (l.are (q + (i - p)) (omega arith) (omega (arith, r.most)))
 
-      done : p ≤ h.rewrite_count → (n : ℕ) → n ≡ max h.rewrite_count (p + k) → Rewriting gate h xs s rows (Done (counting n h)) ys
+      done : p ≤ h.rewrite_count → (n : ℕ) → n ≡ max h.rewrite_count (p + k) → Rewriting gate h xs s rows (Ok (counting n h)) ys
       unfolding and_then with_entries table_of
       done a n e =
           record {
@@ -297,10 +294,10 @@ module _ (gate : Option ℕ) (h : Head) (xs : List ℕ) (s : ℕ) (rows : List �
 
     pub rewrite-done : (k : ℕ) (g : Head) (ys : List ℕ) → Lent 1 s rows → p ≤ h.rewrite_count
         → Run gate (h.first_index + p) (drop (p * 8) xs) (min (h.len - p) (length rows / 8 - q)) k
-        → Replaced h xs rows p q k g ys → Rewriting gate h xs s rows (Done g) ys
+        → Replaced h xs rows p q k g ys → Rewriting gate h xs s rows (Ok g) ys
     rewrite-done k g ys l a r d = rw d.head (done k r l ys d.laid a (max h.rewrite_count (p + k)) refl)
 
-    pub rewrite_already : p ≤ h.rewrite_count → Met gate (h.first_index + p) (drop (p * 8) xs) → Rewriting gate h xs s rows AlreadyRewritten xs
+    pub rewrite_already : p ≤ h.rewrite_count → Met gate (h.first_index + p) (drop (p * 8) xs) → Rewriting gate h xs s rows (Err AlreadyRewritten) xs
     rewrite_already l m =
         rewrite-met l
         (rw (stops_first gate (h.first_index + p) (h.len - p) (length rows / 8 - q) (drop (p * 8) xs) (drop (q * 8) rows) (omega arith) (omega arith) m.stop) m.meets)
@@ -309,11 +306,11 @@ module _ (gate : Option ℕ) (h : Head) (xs : List ℕ) (s : ℕ) (rows : List �
 
 module _ (gate : Option ℕ) (h : Head) (xs : List ℕ) (s : ℕ) (rows : List ℕ) (w : Wf h xs) (p q : ℕ) (a : p ≡ s - h.first_index) (b : q ≡ h.first_index - s)
     (u : p < h.len) (v : h.first_index - s < length rows / 8) (l : p ≤ h.rewrite_count) where
-  pub replace_already : Met gate (h.first_index + p) (drop (p * 8) xs) → Rewriting gate h xs s rows AlreadyRewritten xs
+  pub replace_already : Met gate (h.first_index + p) (drop (p * 8) xs) → Rewriting gate h xs s rows (Err AlreadyRewritten) xs
   replace_already m = rewrite_already gate h xs s rows w (rw a at u) v (rw a at l) (rw a at m)
 
   pub replace-done : (c k : ℕ) (g : Head) (ys : List ℕ) → c ≡ min (h.len - p) (length rows / 8 - q) → Lent 1 s rows
-      → Run gate (h.first_index + p) (drop (p * 8) xs) c k → Replaced h xs rows p q k g ys → Rewriting gate h xs s rows (Done g) ys
+      → Run gate (h.first_index + p) (drop (p * 8) xs) c k → Replaced h xs rows p q k g ys → Rewriting gate h xs s rows (Ok g) ys
   replace-done c k g ys e n r d = rewrite-done gate h xs s rows w (rw a at u) v k g ys n (rw a at l) (rw (e, a, b) at r) (rw (a, b) at d)
 
 -- ---- how many entries are replaced
@@ -326,7 +323,7 @@ module _ (h : Head) (xs : List ℕ) (w : Wf h xs) (p c : ℕ) (l : p + c ≤ h.l
   in-appends : (i : ℕ) → h.rewrite_count ≤ p + i → i < c → is_rewrite (row_at (h.first_index + p) (drop (p * 8) xs) i) ≡ false
   in-appends i b d = rw (row_at-drop h.first_index p xs i) (row_at-append h.first_index xs (p + i) (w.appended (p + i) b (omega arith)))
 
-  pub run-ungated : (k : ℕ) → k ≡ min c (h.rewrite_count - p) → Run none (h.first_index + p) (drop (p * 8) xs) c k
+  pub run-ungated : (k : ℕ) → k ≡ min c (h.rewrite_count - p) → Run None (h.first_index + p) (drop (p * 8) xs) c k
   unfolding replaces meets_rewrite
   run-ungated k e =
       record {
@@ -336,7 +333,7 @@ module _ (h : Head) (xs : List ℕ) (w : Wf h xs) (p c : ℕ) (l : p + c ≤ h.l
         meets = λ b. refl;
       }
 
-  pub met_gated : (gate : ℕ) → p < h.rewrite_count → Met (some gate) (h.first_index + p) (drop (p * 8) xs)
+  pub met_gated : (gate : ℕ) → p < h.rewrite_count → Met (Some gate) (h.first_index + p) (drop (p * 8) xs)
   unfolding replaces meets_rewrite or_else
   met_gated gate b =
       let e = in-rewrites 0 (omega arith) in
@@ -345,7 +342,7 @@ module _ (h : Head) (xs : List ℕ) (w : Wf h xs) (p c : ℕ) (l : p + c ≤ h.l
   held-seq : (i : ℕ) → i < c → (file_of (row_at (h.first_index + p) (drop (p * 8) xs) i)).seq ≡ get_or (drop (p * 8) xs) (i * 8 + 2) 0
   held-seq i b = row-seq (h.first_index + p) (drop (p * 8) xs) i (any-drop xs p i (held-row h xs w (p + i) (omega arith)))
 
-  pub run_gated : (gate k : ℕ) → h.rewrite_count ≤ p → k ≡ count_before gate c (drop (p * 8) xs) → k ≤ c → Run (some gate) (h.first_index + p) (drop (p * 8) xs) c k
+  pub run_gated : (gate k : ℕ) → h.rewrite_count ≤ p → k ≡ count_before gate c (drop (p * 8) xs) → k ≤ c → Run (Some gate) (h.first_index + p) (drop (p * 8) xs) c k
   unfolding replaces meets_rewrite or_else
   run_gated gate k a e d =
       record {
@@ -367,33 +364,21 @@ module _ (h : Head) (xs : List ℕ) (w : Wf h xs) (p c : ℕ) (l : p + c ≤ h.l
 
 -- ---- an overlap without a gate, and with one
 
-within : (p k n x : ℕ) → k ≤ n - p → p < n → n * 8 ≤ x → (p + k) * 8 ≤ x
-within p k n x a b c = omega arith
-
 module _ (h : Head) (xs : List ℕ) (s : ℕ) (rows : List ℕ) (w : Wf h xs) (l : Lent 1 s rows) (p q c : ℕ) (o : Overlap h s rows p q c) where
-  -- k rows of it are within the part and within the list
-  pub overlap-within : (k : ℕ) → k ≤ c → ((p + k) * 8 ≤ length xs) × ((q + k) * 8 ≤ length rows)
-  overlap-within k b =
-      let a : k ≤ h.len - p = omega (arith, o.most) in
-      let d : k ≤ length rows / 8 - q = omega (arith, o.most) in
-      let e : q < length rows / 8 = omega (arith, o.skipped, o.listed) in
-      let f : length rows / 8 * 8 ≤ length rows = omega (arith, l.whole) in
-      (within p k h.len (length xs) a o.held w.room, within q k (length rows / 8) (length rows) d e f)
-
-  pub overlap-ungated : (k : ℕ) (g : Head) (ys : List ℕ) → k ≡ min c (h.rewrite_count - p) → Replaced h xs rows p q k g ys → Rewriting none h xs s rows (Done g) ys
+  pub overlap-ungated : (k : ℕ) (g : Head) (ys : List ℕ) → k ≡ min c (h.rewrite_count - p) → Replaced h xs rows p q k g ys → Rewriting None h xs s rows (Ok g) ys
   overlap-ungated k g ys e d =
-      replace-done none h xs s rows w p q o.place o.skipped o.held o.listed o.behind c k g ys o.most l
+      replace-done None h xs s rows w p q o.place o.skipped o.held o.listed o.behind c k g ys o.most l
       (run-ungated h xs w p c (omega (arith, o.most, o.held)) k e) d
 
-  pub overlap-met : (gate : ℕ) → p < h.rewrite_count → Rewriting (some gate) h xs s rows AlreadyRewritten xs
+  pub overlap-met : (gate : ℕ) → p < h.rewrite_count → Rewriting (Some gate) h xs s rows (Err AlreadyRewritten) xs
   overlap-met gate b =
-      replace_already (some gate) h xs s rows w p q o.place o.skipped o.held o.listed o.behind
+      replace_already (Some gate) h xs s rows w p q o.place o.skipped o.held o.listed o.behind
       (met_gated h xs w p c (omega (arith, o.most, o.held)) gate b)
 
   pub overlap_gated : (gate k : ℕ) (g : Head) (ys : List ℕ) → h.rewrite_count ≤ p → Passed gate xs rows p q c k ys → g ≡ counting (max h.rewrite_count (p + k)) h
-      → Rewriting (some gate) h xs s rows (Done g) ys
+      → Rewriting (Some gate) h xs s rows (Ok g) ys
   overlap_gated gate k g ys b d e =
-      replace-done (some gate) h xs s rows w p q o.place o.skipped o.held o.listed o.behind c k g ys o.most l
+      replace-done (Some gate) h xs s rows w p q o.place o.skipped o.held o.listed o.behind c k g ys o.most l
       (run_gated h xs w p c (omega (arith, o.most, o.held)) gate k b d.count d.most) (record { head = e; laid = d.laid })
 
 -- ---- `lay_replaced`
@@ -407,15 +392,6 @@ module _ (h : Head) (xs rows : List ℕ) (p q k : ℕ) (ys : List ℕ) (d : ys �
 
   pub lay_done : (g : Head) → g ≡ counting (max h.rewrite_count (p + k)) h → Replaced h xs rows p q k g ys
   lay_done g e = record { head = e; laid = laid-part }
-
--- ---- `replaced_to`
-
-module _ (h : Head) (n : ℕ) where
-  pub to-more : h.rewrite_count < n → counting n h ≡ counting (max h.rewrite_count n) h
-  to-more l = let e : n ≡ max h.rewrite_count n = omega arith in ap (λ (k : ℕ). counting k h) e
-
-  pub to_same : n ≤ h.rewrite_count → h ≡ counting (max h.rewrite_count n) h
-  to_same l = let e : h.rewrite_count ≡ max h.rewrite_count n = omega arith in ap (λ (k : ℕ). counting k h) e
 
 -- ---- the pass of a gated rewrite
 
@@ -439,96 +415,6 @@ row_copied d rows at from a b =
     let l₇ = next_number at from 6 7 (at + 6) (from + 6) rows refl refl refl l₆ (omega arith) (omega arith) in
     let l₈ = next_number at from 7 8 (at + 7) (from + 7) rows refl refl refl l₇ (omega arith) (omega arith) in
     l₈.is
-
--- a row of eight numbers within n numbers that have room: its places, and where they lie in bytes
-module _ (at n : ℕ) (a : at + 8 ≤ n) where
-  pub first-in : at < n
-  first-in = omega arith
-
-  pub cell_in : (j : ℕ) → j < 8 → at + j < n
-  cell_in j l = omega arith
-
-  module _ (r : (n < 2 ^ 64) × (n * 8 < 2 ^ 63)) where
-    pub first_byte : Fits w64 (at * 8)
-    first_byte = omega (arith, r)
-
-    pub cell-fits : (j : ℕ) → j < 8 → Fits w64 (at + j)
-    cell-fits j l = omega (arith, r)
-
-    pub cell-byte : (j : ℕ) → j < 8 → Fits w64 ((at + j) * 8)
-    cell-byte j l = omega (arith, r)
-
--- each number that is written leaves the length
-module _ (d rows : List ℕ) (at from : ℕ) where
-  abbrev written₁ : List ℕ
-  written₁ = set d at (get_or rows from 0)
-
-  abbrev written₂ : List ℕ
-  written₂ = set written₁ (at + 1) (get_or rows (from + 1) 0)
-
-  abbrev written₃ : List ℕ
-  written₃ = set written₂ (at + 2) (get_or rows (from + 2) 0)
-
-  abbrev written₄ : List ℕ
-  written₄ = set written₃ (at + 3) (get_or rows (from + 3) 0)
-
-  abbrev written₅ : List ℕ
-  written₅ = set written₄ (at + 4) (get_or rows (from + 4) 0)
-
-  abbrev written₆ : List ℕ
-  written₆ = set written₅ (at + 5) (get_or rows (from + 5) 0)
-
-  abbrev written₇ : List ℕ
-  written₇ = set written₆ (at + 6) (get_or rows (from + 6) 0)
-
-  abbrev written₈ : List ℕ
-  written₈ = set written₇ (at + 7) (get_or rows (from + 7) 0)
-
-  long₁ : length written₁ ≡ length d
-  long₁ = length-set d at (get_or rows from 0)
-
-  long₂ : length written₂ ≡ length d
-  long₂ = length-set written₁ (at + 1) (get_or rows (from + 1) 0) ∙ long₁
-
-  long₃ : length written₃ ≡ length d
-  long₃ = length-set written₂ (at + 2) (get_or rows (from + 2) 0) ∙ long₂
-
-  long₄ : length written₄ ≡ length d
-  long₄ = length-set written₃ (at + 3) (get_or rows (from + 3) 0) ∙ long₃
-
-  long₅ : length written₅ ≡ length d
-  long₅ = length-set written₄ (at + 4) (get_or rows (from + 4) 0) ∙ long₄
-
-  long₆ : length written₆ ≡ length d
-  long₆ = length-set written₅ (at + 5) (get_or rows (from + 5) 0) ∙ long₅
-
-  long₇ : length written₇ ≡ length d
-  long₇ = length-set written₆ (at + 6) (get_or rows (from + 6) 0) ∙ long₆
-
-  pub long₈ : length written₈ ≡ length d
-  long₈ = length-set written₇ (at + 7) (get_or rows (from + 7) 0) ∙ long₇
-
-  module _ (a : at + 8 ≤ length d) where
-    pub in₁ : at + 1 < length written₁
-    in₁ = omega (arith, long₁)
-
-    pub in₂ : at + 2 < length written₂
-    in₂ = omega (arith, long₂)
-
-    pub in₃ : at + 3 < length written₃
-    in₃ = omega (arith, long₃)
-
-    pub in₄ : at + 4 < length written₄
-    in₄ = omega (arith, long₄)
-
-    pub in₅ : at + 5 < length written₅
-    in₅ = omega (arith, long₅)
-
-    pub in₆ : at + 6 < length written₆
-    in₆ = omega (arith, long₆)
-
-    pub in₇ : at + 7 < length written₇
-    in₇ = omega (arith, long₇)
 
 -- what lies behind what is laid in is as it was
 behind-laid : {d s l : List ℕ} (at i j : ℕ) → Laid d at s l → length s ≡ i → at + i ≤ j → at ≤ length d → get_or l j 0 ≡ get_or d j 0

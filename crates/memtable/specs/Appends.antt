@@ -2,11 +2,10 @@
 use Rattle.std.specs.Prelude.{Bool, true, false, cond, not, ◌&&◌, List, [], ◌∷◌, ◌≡◌, ℕ, ◌+◌, ◌-◌, ◌*◌, ◌/◌, ◌≤◌, ◌^◌, leb, length}
 use Rattle.cells.specs.Part.{put}
 use Rattle.maps.specs.Maps.{Map}
-use Rattle.rules.specs.Causes.{Result, ok, refuse, and_then, below_first, above_last, limit_passed}
+use Rattle.rules.specs.Causes.{BelowFirst, AboveLast, ByCause, Err, Result, Ok, refuse, and_then, LimitPassed}
 use Rattle.rules.specs.Items.{EntryIndex}
 use Rattle.rules.specs.Table.{Held, Table, with_entries, is_below_first, is_above_last, over}
 use Rattle.memtable.specs.declared.Head.{Head}
-use Rattle.memtable.specs.declared.Appended.{Appended, TheVariants.Done, TheVariants.BelowFirst, TheVariants.AboveLast, TheVariants.Full}
 use Rattle.memtable.specs.Views.{table_of, Rows, Wf}
 
 -- the number of the queue that rows are of
@@ -26,32 +25,26 @@ pub record Lent (q s : ℕ) (rows : List ℕ) : Type 0 where
   pub are : Rows q 0 (length rows / 8) rows
 
 -- the head after the call
-abbrev pub head_after : Head → Appended → Head
-head_after h (Done g) = g
-head_after h BelowFirst = h
-head_after h AboveLast = h
-head_after h Full = h
+abbrev pub head_after : Head → ByCause Head → Head
+head_after h (Ok g) = g
+head_after h (Err e) = h
 
 -- the part after the call: the rows laid in as the last ones, or all as it was
-abbrev pub part_after : Appended → List ℕ → List ℕ → List ℕ
-part_after (Done h) xs rows = put xs (h.len * 8 - length rows) rows
-part_after BelowFirst xs rows = xs
-part_after AboveLast xs rows = xs
-part_after Full xs rows = xs
+abbrev pub part_after : ByCause Head → List ℕ → List ℕ → List ℕ
+part_after (Ok h) xs rows = put xs (h.len * 8 - length rows) rows
+part_after (Err e) xs rows = xs
 
 -- the rules' result for each answer: 13, 14, and 18 where the part has no room
-abbrev pub appended_of : Appended → List ℕ → Map (List ℕ) Held → Bool → Result Table
-appended_of (Done h) xs keys counted = ok (table_of h xs keys counted)
-appended_of BelowFirst xs keys counted = refuse below_first
-appended_of AboveLast xs keys counted = refuse above_last
-appended_of Full xs keys counted = refuse limit_passed
+abbrev pub appended_of : ByCause Head → List ℕ → Map (List ℕ) Held → Bool → Result Table
+appended_of (Ok h) xs keys counted = Ok (table_of h xs keys counted)
+appended_of (Err e) xs keys counted = refuse e
 
 -- a result with more entries than there is room for is refused
 unfoldable pub fitting : ℕ → Result Table → Result Table
-fitting room r = and_then r (λ t. cond (leb (length t.entries) room) (ok t) (refuse limit_passed))
+fitting room r = and_then r (λ t. cond (leb (length t.entries) room) (Ok t) (refuse LimitPassed))
 
 -- of head h and part xs, with rows laid over by a rule; ys is the part at exit
-pub record Laying (by : Table → Result Table) (h : Head) (xs rows : List ℕ) (r : Appended) (ys : List ℕ) : Type 0 where
+pub record Laying (by : Table → Result Table) (h : Head) (xs rows : List ℕ) (r : ByCause Head) (ys : List ℕ) : Type 0 where
   pub rule : (keys : Map (List ℕ) Held) (counted : Bool) → appended_of r ys keys counted ≡ fitting (length xs / 8) (by (table_of h xs keys counted))
   pub laid : ys ≡ part_after r xs rows
   -- without entries the first index is the one before the call
@@ -60,10 +53,10 @@ pub record Laying (by : Table → Result Table) (h : Head) (xs rows : List ℕ) 
 
 -- a list laid over, where a start below the first entry drops all or is refused, and a gap drops all or is refused
 unfoldable pub laid_by : Bool → Bool → List EntryIndex → Table → Result Table
-laid_by overwrite hole [] t = ok t
+laid_by overwrite hole [] t = Ok t
 laid_by overwrite hole (e ∷ es) t =
     cond (not overwrite && is_below_first e.index t.entries)
-    (refuse below_first)
+    (refuse BelowFirst)
     (cond (is_above_last e.index t.entries)
-    (cond hole (ok (with_entries (e ∷ es) t)) (refuse above_last))
-    (ok (with_entries (over t.entries (e ∷ es)) t)))
+    (cond hole (Ok (with_entries (e ∷ es) t)) (refuse AboveLast))
+    (Ok (with_entries (over t.entries (e ∷ es)) t)))

@@ -1,6 +1,6 @@
 -- Lent rows of a batch that the checks 3 to 5 let pass: their records are a window, and they meet what the writers require.
 -- Assumes nothing.
-use Rattle.std.specs.Prelude.{Bool, true, false, cond, not, ◌&&◌, ◌||◌, List, ◌∷◌, ◌≡◌, refl, ℕ, zero, suc, ◌+◌, ◌-◌, ◌*◌, ◌/◌, ◌≤◌, ◌<◌, ◌^◌, eqb, length, get_or, drop}
+use Rattle.std.specs.Prelude.{None, Some, Bool, true, false, cond, not, ◌&&◌, ◌||◌, List, ◌∷◌, ◌≡◌, refl, ℕ, zero, suc, ◌+◌, ◌-◌, ◌*◌, ◌/◌, ◌≤◌, ◌<◌, ◌^◌, eqb, length, get_or, drop}
 use Rattle.std.proofs.Math.Path.{sym, ap}
 use Rattle.std.proofs.Common.{◌∙◌, arith}
 use Rattle.std.proofs.Math.Decide.{dec_lt}
@@ -10,7 +10,7 @@ use borrow.Author.Tests.{ltb-true, ltb-false, eqb-true, not-false}
 use Rattle.maps.specs.Lists.{any}
 use Rattle.pipe_log.specs.Numbers.{queue_number}
 use Rattle.pipe_log.specs.Rows.{queue_at, is_record, block_at, entry_of, entries_of, with_index, window}
-use Rattle.rules.specs.Items.{LogQueue, Append, Rewrite, EntryIndex, Absent, At, same_queue, has_file, block_file, file_of, entries, Call, writes}
+use Rattle.rules.specs.Items.{LogQueue, Append, Rewrite, EntryIndex, same_queue, has_file, block_file, file_of, entries, Call, writes}
 use Rattle.pipe_log.specs.declared.FileBlockHandle.{FileBlockHandle}
 use Rattle.rules.specs.Limits.{max_index, max_entry_len}
 use Rattle.rules.specs.Checks.{consecutive, is_incomplete, is_out_of_range, is_other_queue}
@@ -47,7 +47,7 @@ entry_len_lem : (f : ℕ) (xs : List ℕ) (i : ℕ) → (row_at f xs i).entry_le
 unfolding row_at with_index entry_of
 entry_len_lem f xs i = rw (get_or-drop (i * 8) xs 7 0)
 
-filed : (b : Bool) (block : FileBlockHandle) → not (has_file (cond b (At block) Absent)) ≡ false → b ≡ true
+filed : (b : Bool) (block : FileBlockHandle) → not (has_file (cond b (Some block) None)) ≡ false → b ≡ true
 unfolding has_file
 filed true block e = refl
 filed false block e = sym e

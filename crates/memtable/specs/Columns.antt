@@ -1,10 +1,9 @@
 -- Fetched records as parallel slices of numbers, one for each field in the order of a row.
-use Rattle.std.specs.Prelude.{cond, List, [], ◌∷◌, map, ◌≡◌, ℕ, zero, suc, leb, length, get_or, drop}
+use Rattle.std.specs.Prelude.{None, Some, Option, cond, List, [], ◌∷◌, map, ◌≡◌, ℕ, zero, suc, leb, length, get_or, drop}
 use Rattle.cells.specs.Part.{put}
 use Rattle.pipe_log.specs.Numbers.{queue_number, compression_number}
-use Rattle.rules.specs.Causes.{Result, ok, refused, refuse, and_then, entry_compacted, entry_not_found, list_too_short}
-use Rattle.rules.specs.Items.{EntryIndex, EntryBlock, Absent, At, file_of}
-use Rattle.memtable.specs.declared.Fetched.{Fetched, TheVariants.Done, TheVariants.EntryCompacted, TheVariants.EntryNotFound, TheVariants.ListTooShort}
+use Rattle.rules.specs.Causes.{by_cause, ListTooShort, ByCause, Result, Ok, Err, refuse, and_then}
+use Rattle.rules.specs.Items.{EntryIndex, FileBlockHandle, file_of}
 
 -- the eight lent slices
 pub record Columns : Type 0 where
@@ -21,13 +20,13 @@ abbrev pub columns : List ℕ → List ℕ → List ℕ → List ℕ → List �
 columns a b c d e f g h =
     record { index = a; queue = b; seq = c; offset = d; len = e; compression = f; entry_offset = g; entry_len = h }
 
-unfoldable pub block_offset : EntryBlock → ℕ
-block_offset Absent = 0
-block_offset (At block) = block.offset
+unfoldable pub block_offset : Option FileBlockHandle → ℕ
+block_offset None = 0
+block_offset (Some block) = block.offset
 
-unfoldable pub block_len : EntryBlock → ℕ
-block_len Absent = 0
-block_len (At block) = block.len
+unfoldable pub block_len : Option FileBlockHandle → ℕ
+block_len None = 0
+block_len (Some block) = block.len
 
 -- the slices with records laid in from their first place, everything else as it was
 unfoldable pub laid_into : Columns → List EntryIndex → Columns
@@ -44,19 +43,12 @@ laid_into out es =
 
 -- an answer longer than the lent list, which has room for n records, is refused (rules' `answered`)
 unfoldable pub judged : ℕ → Result (List EntryIndex) → Result (List EntryIndex)
-judged n r = and_then r (λ es. cond (leb (length es) n) (ok es) (refuse list_too_short))
+judged n r = and_then r (λ es. cond (leb (length es) n) (Ok es) (refuse ListTooShort))
 
 -- the slices after the call
 unfoldable pub columns_after : Columns → Result (List EntryIndex) → Columns
-columns_after out (ok es) = laid_into out es
-columns_after out (refused r) = out
-
--- the rules' result for each answer: the number of records, or 11, 12 and 19
-abbrev pub fetched_of : Fetched → Result ℕ
-fetched_of (Done n) = ok n
-fetched_of EntryCompacted = refuse entry_compacted
-fetched_of EntryNotFound = refuse entry_not_found
-fetched_of ListTooShort = refuse list_too_short
+columns_after out (Ok es) = laid_into out es
+columns_after out (Err r) = out
 
 -- the slices have one length
 pub record SameLength (out : Columns) : Type 0 where
@@ -69,8 +61,8 @@ pub record SameLength (out : Columns) : Type 0 where
   pub entry_len : length out.entry_len ≡ length out.index
 
 -- an answer of the rules, given in lent slices: r is returned, and exits are the slices at exit
-pub record Answered (answer : Result (List EntryIndex)) (out : Columns) (r : Fetched) (exits : Columns) : Type 0 where
-  pub number : fetched_of r ≡ and_then (judged (length out.index) answer) (λ es. ok (length es))
+pub record Answered (answer : Result (List EntryIndex)) (out : Columns) (r : ByCause ℕ) (exits : Columns) : Type 0 where
+  pub number : by_cause r ≡ and_then (judged (length out.index) answer) (λ es. Ok (length es))
   pub slices : exits ≡ columns_after out (judged (length out.index) answer)
 
 -- cell k of each of the first n rows

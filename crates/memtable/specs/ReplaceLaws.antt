@@ -2,7 +2,7 @@
 use Rattle.std.proofs.Math.Bool.{true}
 use Rattle.std.specs.Prelude.{false, ◌≡◌, take, drop}
 use mathlib.Core.List.{List, [], ◌∷◌, ◌++◌, append-nil}
-use Rattle.std.proofs.Math.Option.{Option, none, some}
+use Rattle.std.specs.Prelude.{Option, None, Some}
 use Rattle.std.proofs.Math.Path.{refl}
 use Rattle.std.proofs.Common.{sym, ap, ◌∙◌, add-zero, drop-drop}
 use Prim.Native.Nat.{ℕ, zero, suc, ◌+◌, ◌-◌, ◌*◌, ◌≤◌, ◌<◌, min}
@@ -57,12 +57,12 @@ module _ (gate : Option ℕ) where
   replaced_stop a (suc n) zero ys zs h = refl
   replaced_stop a (suc n) (suc m) ys zs h = rw (rw (row_at-zero a ys) at (h (omega arith) (omega arith)))
 
-  none-meets : (g : Option ℕ) → meets_rewrite g none ≡ false
+  none-meets : (g : Option ℕ) → meets_rewrite g None ≡ false
   unfolding meets_rewrite or_else
-  none-meets none = refl
-  none-meets (some g) = refl
+  none-meets None = refl
+  none-meets (Some g) = refl
 
-  stops_stop : (a n m : ℕ) (ys zs : List ℕ) → (0 < n → 0 < m → replaces gate (row_at a ys 0) ≡ false) → (0 < n → 0 < m → meets_rewrite gate (some (row_at a ys 0)) ≡ false)
+  stops_stop : (a n m : ℕ) (ys zs : List ℕ) → (0 < n → 0 < m → replaces gate (row_at a ys 0) ≡ false) → (0 < n → 0 < m → meets_rewrite gate (Some (row_at a ys 0)) ≡ false)
       → meets_rewrite gate (stops_at gate (window a n ys) (window a m zs)) ≡ false
   unfolding window stops_at
   stops_stop a zero m ys zs h d = none-meets gate
@@ -71,11 +71,11 @@ module _ (gate : Option ℕ) where
       rw (rw (row_at-zero a ys) at (h (omega arith) (omega arith))) (rw (row_at-zero a ys) at (d (omega arith) (omega arith)))
 
   -- an overlap whose first entry is not replaced
-  pub stops_first : (a n m : ℕ) (ys zs : List ℕ) → 0 < n → 0 < m → replaces gate (row_at a ys 0) ≡ false → stops_at gate (window a n ys) (window a m zs) ≡ some (row_at a ys 0)
+  pub stops_first : (a n m : ℕ) (ys zs : List ℕ) → 0 < n → 0 < m → replaces gate (row_at a ys 0) ≡ false → stops_at gate (window a n ys) (window a m zs) ≡ Some (row_at a ys 0)
   unfolding window stops_at
   stops_first a zero m ys zs u v h = absurd (omega arith)
   stops_first a (suc n) zero ys zs u v h = absurd (omega arith)
-  stops_first a (suc n) (suc m) ys zs u v h = rw (rw (row_at-zero a ys) at h) (ap some (sym (row_at-zero a ys)))
+  stops_first a (suc n) (suc m) ys zs u v h = rw (rw (row_at-zero a ys) at h) (ap Some (sym (row_at-zero a ys)))
 
   front_stop : (a n : ℕ) (ys : List ℕ) → (0 < n → replaces gate (row_at a ys 0) ≡ false) → front (replaces gate) (window a n ys) ≡ []
   unfolding window front
@@ -99,7 +99,7 @@ module _ (gate : Option ℕ) where
     at_stop : 0 < n - k → 0 < m - k → replaces gate (row_at (a + k) (drop (k * 8) ys) 0) ≡ false
     at_stop u v = rw (row_at-drop a k ys 0, add-zero k) (r.stop (omega arith))
 
-    at_meets : 0 < n - k → 0 < m - k → meets_rewrite gate (some (row_at (a + k) (drop (k * 8) ys) 0)) ≡ false
+    at_meets : 0 < n - k → 0 < m - k → meets_rewrite gate (Some (row_at (a + k) (drop (k * 8) ys) 0)) ≡ false
     at_meets u v = rw (row_at-drop a k ys 0, add-zero k) (r.meets (omega arith))
 
     pub replaced_run : replaced gate (window a n ys) (window a m zs) ≡ window a k zs ++ window (a + k) (n - k) (drop (k * 8) ys)

@@ -1,29 +1,26 @@
 -- `rewrite`: what its answers say.
 use Rattle.std.specs.Prelude.{Bool, true, false, List, ◌≡◌, ℕ, ◌+◌, ◌-◌, ◌*◌, ◌/◌, ◌≤◌, ◌<◌, min, max, length, take, drop}
-use Rattle.std.proofs.Math.Option.{Option, some}
+use Rattle.std.specs.Prelude.{Option, Some}
 use Rattle.cells.specs.Part.{part, put}
 use Rattle.maps.specs.Lists.{front}
 use Rattle.maps.specs.Maps.{Map}
 use Rattle.pipe_log.specs.Rows.{window}
-use Rattle.rules.specs.Causes.{Result, ok, refuse, append_left, already_rewritten}
+use Rattle.rules.specs.Causes.{ByCause, Err, Result, Ok, refuse}
 use Rattle.rules.specs.Items.{EntryIndex}
 use Rattle.rules.specs.Table.{Held, Table, entries_from, replaces, meets_rewrite, rewritten}
 use Rattle.memtable.specs.declared.Head.{Head}
-use Rattle.memtable.specs.declared.Rewritten.{Rewritten, TheVariants.Done, TheVariants.AppendLeft, TheVariants.AlreadyRewritten}
 use Rattle.memtable.specs.Scans.{count_before}
 use Rattle.memtable.specs.Views.{table_of, row_at, Wf}
 
 -- the rules' result for each answer
-abbrev pub rewritten_of : Rewritten → List ℕ → Map (List ℕ) Held → Bool → Result Table
-rewritten_of (Done h) xs keys counted = ok (table_of h xs keys counted)
-rewritten_of AppendLeft xs keys counted = refuse append_left
-rewritten_of AlreadyRewritten xs keys counted = refuse already_rewritten
+abbrev pub rewritten_of : ByCause Head → List ℕ → Map (List ℕ) Held → Bool → Result Table
+rewritten_of (Ok h) xs keys counted = Ok (table_of h xs keys counted)
+rewritten_of (Err e) xs keys counted = refuse e
 
 -- the head after the call
-abbrev pub rewritten_head : Head → Rewritten → Head
-rewritten_head h (Done g) = g
-rewritten_head h AppendLeft = h
-rewritten_head h AlreadyRewritten = h
+abbrev pub rewritten_head : Head → ByCause Head → Head
+rewritten_head h (Ok g) = g
+rewritten_head h (Err e) = h
 
 -- how many entries from the overlap's start the list from its start replaces
 unfoldable pub moved : Option ℕ → List EntryIndex → List EntryIndex → ℕ
@@ -39,13 +36,12 @@ replaced_part gate h xs s rows =
     rows)
 
 -- the part after the call
-abbrev pub rewritten_part : Option ℕ → Head → List ℕ → ℕ → List ℕ → Rewritten → List ℕ
-rewritten_part gate h xs s rows (Done g) = replaced_part gate h xs s rows
-rewritten_part gate h xs s rows AppendLeft = xs
-rewritten_part gate h xs s rows AlreadyRewritten = xs
+abbrev pub rewritten_part : Option ℕ → Head → List ℕ → ℕ → List ℕ → ByCause Head → List ℕ
+rewritten_part gate h xs s rows (Ok g) = replaced_part gate h xs s rows
+rewritten_part gate h xs s rows (Err e) = xs
 
 -- of head h and part xs, rewritten by rows that start at s; ys is the part at exit
-pub record Rewriting (gate : Option ℕ) (h : Head) (xs : List ℕ) (s : ℕ) (rows : List ℕ) (r : Rewritten) (ys : List ℕ) : Type 0 where
+pub record Rewriting (gate : Option ℕ) (h : Head) (xs : List ℕ) (s : ℕ) (rows : List ℕ) (r : ByCause Head) (ys : List ℕ) : Type 0 where
   pub rule : (keys : Map (List ℕ) Held) (counted : Bool)
       → rewritten_of r ys keys counted ≡ rewritten gate (window s (length rows / 8) rows) (table_of h xs keys counted)
   pub laid : ys ≡ rewritten_part gate h xs s rows r
@@ -59,12 +55,12 @@ pub record Run (gate : Option ℕ) (a : ℕ) (ys : List ℕ) (c k : ℕ) : Type 
   pub all : (i : ℕ) → i < k → replaces gate (row_at a ys i) ≡ true
   pub most : k ≤ c
   pub stop : k < c → replaces gate (row_at a ys k) ≡ false
-  pub meets : k < c → meets_rewrite gate (some (row_at a ys k)) ≡ false
+  pub meets : k < c → meets_rewrite gate (Some (row_at a ys k)) ≡ false
 
 -- the first entry from index a on is a Rewrite one that a gated rewrite meets
 pub record Met (gate : Option ℕ) (a : ℕ) (ys : List ℕ) : Type 0 where
   pub stop : replaces gate (row_at a ys 0) ≡ false
-  pub meets : meets_rewrite gate (some (row_at a ys 0)) ≡ true
+  pub meets : meets_rewrite gate (Some (row_at a ys 0)) ≡ true
 
 -- where a list that starts at s overlaps entries: from place p of the entries and place q of the list on, c of them
 pub record Overlap (h : Head) (s : ℕ) (rows : List ℕ) (p q c : ℕ) : Type 0 where

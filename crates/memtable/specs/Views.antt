@@ -1,23 +1,16 @@
 -- A group's head and part, read as the rules' table.
 use Rattle.std.specs.Prelude.{Bool, List, ◌≡◌, ℕ, ◌+◌, ◌*◌, ◌≤◌, ◌<◌, ◌^◌, length, get_or, drop}
-use Rattle.std.proofs.Math.Option.{Option, none, some}
 use Rattle.maps.specs.Maps.{Map}
 use Rattle.pipe_log.specs.Rows.{entry_width, entry_of, with_index, window}
 use Rattle.rules.specs.Items.{EntryIndex}
 use Rattle.rules.specs.Limits.{max_entry_len}
-use Rattle.rules.specs.Table.{Held, Span, Table}
-use Rattle.memtable.specs.declared.AtomicGroup.{AtomicGroup}
-use Rattle.memtable.specs.declared.AtomicGroup.TheVariants as group
+use Rattle.rules.specs.Table.{Held, Table}
 use Rattle.memtable.specs.declared.Head.{Head}
-
-unfoldable pub span_of : AtomicGroup → Option Span
-span_of group.None = none
-span_of (group.Span s e) = some (record { start = s; end = e })
 
 -- the table that a head and its part stand for, with the keys and the mark of counting that the group has beside them
 unfoldable pub table_of : Head → List ℕ → Map (List ℕ) Held → Bool → Table
 table_of h xs keys counted =
-    record { entries = window h.first_index h.len xs; keys = keys; span = span_of h.atomic_group; counted = counted }
+    record { entries = window h.first_index h.len xs; keys = keys; span = h.atomic_group; counted = counted }
 
 -- the record of row i of a window that starts at f
 unfoldable pub row_at : ℕ → List ℕ → ℕ → EntryIndex

@@ -1,12 +1,12 @@
 -- The laws of `window`: the records of the first n rows of a list of numbers, at the indexes from f on. Assumes nothing.
-use Rattle.std.specs.Prelude.{Bool, List, [], ◌++◌, ◌≡◌, refl, ℕ, zero, suc, ◌+◌, ◌-◌, ◌*◌, ◌≤◌, ◌<◌, min, ltb, leb, eqb, length, get_or, drop}
+use Rattle.std.specs.Prelude.{None, Bool, List, [], ◌++◌, ◌≡◌, refl, ℕ, zero, suc, ◌+◌, ◌-◌, ◌*◌, ◌≤◌, ◌<◌, min, ltb, leb, eqb, length, get_or, drop}
 use Rattle.std.proofs.Math.Bool.{true, false}
 use Rattle.std.proofs.Common.{append-nil, append_assoc, ap, ◌∙◌, zero-add, add-zero, suc-add, arith, get_or-drop, drop-drop}
-use Rattle.std.proofs.Math.Option.{some}
-use Rattle.std.proofs.Math.Option as option
+use Rattle.std.specs.Prelude.{Some}
 use Rattle.std.proofs.Math.Nat.{sub-zero}
 use Rattle.std.proofs.Math.Decide.{dec_le}
-use Rattle.std.proofs.Math.ListN.{get_elem?, get_or-append}
+use Rattle.std.proofs.Math.ListN.{get_or-append}
+use Rattle.std.specs.Prelude.{slice_get}
 use Rattle.cells.specs.Part.{put}
 use Rattle.cells.specs.PartLaws.{from-put, drop-put, get_or-put-before}
 use borrow.Author.Tests.{lt-ltb, le-ltb, le-leb, lt-leb, eq-eqb, ne_eqb}
@@ -117,22 +117,22 @@ from_cut f k m xs =
 
 -- ---- the first and the last record
 
-pub first-window : (f n : ℕ) (xs : List ℕ) → 0 < n → first (window f n xs) ≡ some (row_at f xs 0)
+pub first-window : (f n : ℕ) (xs : List ℕ) → 0 < n → first (window f n xs) ≡ Some (row_at f xs 0)
 unfolding window first
 first-window f zero xs h = absurd (omega arith)
 first-window f (suc n) xs h = rw (row_at-zero f xs)
 
-last-suc : (f n : ℕ) (xs : List ℕ) → last (window f (suc n) xs) ≡ some (row_at f xs n)
+last-suc : (f n : ℕ) (xs : List ℕ) → last (window f (suc n) xs) ≡ Some (row_at f xs n)
 unfolding window last
 last-suc f zero xs = rw (row_at-zero f xs)
 last-suc f (suc n) xs = last-suc (suc f) n (drop 8 xs) ∙ rw (row_at-suc f xs n)
 
-pub last-window : (f n : ℕ) (xs : List ℕ) → 0 < n → last (window f n xs) ≡ some (row_at f xs (n - 1))
+pub last-window : (f n : ℕ) (xs : List ℕ) → 0 < n → last (window f n xs) ≡ Some (row_at f xs (n - 1))
 last-window f n xs h =
     let e : n ≡ suc (n - 1) = omega arith in
     ap (λ (k : ℕ). last (window f k xs)) e ∙ last-suc f (n - 1) xs
 
-pub first_index-window : (f n : ℕ) (xs : List ℕ) → 0 < n → first_index_of (window f n xs) ≡ some f
+pub first_index-window : (f n : ℕ) (xs : List ℕ) → 0 < n → first_index_of (window f n xs) ≡ Some f
 unfolding first_index_of map_option row_at with_index
 first_index-window f n xs h = rw (first-window f n xs h, add-zero f)
 
@@ -142,7 +142,7 @@ unfolding first_index_of map_option first window or_else
 first_or d f zero xs e = e refl
 first_or d f (suc n) xs e = rw (first_index-window f (suc n) xs (omega arith))
 
-pub last_index-window : (f n : ℕ) (xs : List ℕ) → 0 < n → last_index (window f n xs) ≡ some (f + (n - 1))
+pub last_index-window : (f n : ℕ) (xs : List ℕ) → 0 < n → last_index (window f n xs) ≡ Some (f + (n - 1))
 unfolding last_index map_option row_at with_index
 last_index-window f n xs h = rw (last-window f n xs h)
 
@@ -158,17 +158,17 @@ is_above_last-window s f n xs h =
 
 -- ---- the record at a place
 
-pub get_elem-window : (f n : ℕ) (xs : List ℕ) (i : ℕ) → i < n → get_elem? (window f n xs) i ≡ some (row_at f xs i)
+pub slice_get-window : (f n : ℕ) (xs : List ℕ) (i : ℕ) → i < n → slice_get (window f n xs) i ≡ Some (row_at f xs i)
 unfolding window
-get_elem-window f zero xs i h = absurd (omega arith)
-get_elem-window f (suc n) xs zero h = rw (row_at-zero f xs)
-get_elem-window f (suc n) xs (suc i) h = get_elem-window (suc f) n (drop 8 xs) i (omega arith) ∙ rw (row_at-suc f xs i)
+slice_get-window f zero xs i h = absurd (omega arith)
+slice_get-window f (suc n) xs zero h = rw (row_at-zero f xs)
+slice_get-window f (suc n) xs (suc i) h = slice_get-window (suc f) n (drop 8 xs) i (omega arith) ∙ rw (row_at-suc f xs i)
 
-pub get_elem-window-none : (f n : ℕ) (xs : List ℕ) (i : ℕ) → n ≤ i → get_elem? (window f n xs) i ≡ option.none
+pub slice_get-window-none : (f n : ℕ) (xs : List ℕ) (i : ℕ) → n ≤ i → slice_get (window f n xs) i ≡ None
 unfolding window
-get_elem-window-none f zero xs i h = refl
-get_elem-window-none f (suc n) xs zero h = absurd (omega arith)
-get_elem-window-none f (suc n) xs (suc i) h = get_elem-window-none (suc f) n (drop 8 xs) i (omega arith)
+slice_get-window-none f zero xs i h = refl
+slice_get-window-none f (suc n) xs zero h = absurd (omega arith)
+slice_get-window-none f (suc n) xs (suc i) h = slice_get-window-none (suc f) n (drop 8 xs) i (omega arith)
 
 -- ---- the records below an index, and those from it, wherever it lies
 
@@ -225,14 +225,14 @@ window-cut f n k xs h =
 
 -- ---- the record at an index
 
-pub entry_at : (f n : ℕ) (xs : List ℕ) (k i : ℕ) → k < n → i ≡ f + k → first (select (λ (e : EntryIndex). eqb e.index i) (window f n xs)) ≡ some (row_at f xs k)
+pub entry_at : (f n : ℕ) (xs : List ℕ) (k i : ℕ) → k < n → i ≡ f + k → first (select (λ (e : EntryIndex). eqb e.index i) (window f n xs)) ≡ Some (row_at f xs k)
 unfolding window select first with_index
 entry_at f zero xs k i h e = absurd (omega arith)
 entry_at f (suc n) xs zero i h e = rw (eq-eqb f i (omega arith), row_at-zero f xs)
 entry_at f (suc n) xs (suc k) i h e =
     rw (ne_eqb f i (λ z. omega arith)) (entry_at (suc f) n (drop 8 xs) k i (omega arith) (omega arith) ∙ rw (row_at-suc f xs k))
 
-pub entry_absent : (f n : ℕ) (xs : List ℕ) (i : ℕ) → ((k : ℕ) → k < n → f + k ≡ i → ⊥) → first (select (λ (e : EntryIndex). eqb e.index i) (window f n xs)) ≡ option.none
+pub entry_absent : (f n : ℕ) (xs : List ℕ) (i : ℕ) → ((k : ℕ) → k < n → f + k ≡ i → ⊥) → first (select (λ (e : EntryIndex). eqb e.index i) (window f n xs)) ≡ None
 unfolding row_at with_index first
 entry_absent f n xs i h =
     rw (select-none (λ (e : EntryIndex). eqb e.index i) (window_all (λ (e : EntryIndex). eqb e.index i) false f n xs (λ k l. ne_eqb (f + k) i (h k l))))

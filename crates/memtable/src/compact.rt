@@ -2,7 +2,6 @@
 ghost use Rattle.memtable.specs.Views.{Wf};
 ghost use Rattle.memtable.specs.Compaction.{Compaction};
 
-use crate::numbers::lesser;
 use crate::{Compacted, Head};
 use pipe_log::ENTRY_WIDTH;
 
@@ -20,11 +19,11 @@ impl Head {
             };
         }
         let len = self.len;
-        let count = lesser((index - first) as usize, len);
+        let count = ((index - first) as usize).min(len);
         let left = len - count;
-        cells::shift_down_u64(part, count * ENTRY_WIDTH, 0, left * ENTRY_WIDTH);
+        cells::shift(part, count * ENTRY_WIDTH, 0, left * ENTRY_WIDTH);
         let old = self.rewrite_count;
-        let gone = lesser(count, old);
+        let gone = count.min(old);
         let head = Head {
             first_index: first + count as u64,
             len: left,

@@ -3,10 +3,9 @@ ghost use Rattle.std.specs.Prelude.{◌≡◌, ◌+◌, ◌*◌, ◌≤◌, leng
 ghost use Rattle.pipe_log.specs.Rows.{compression_at, entry_of, with_index};
 ghost use Rattle.memtable.specs.Views.{AnyRow};
 
-use pipe_log::{
-    CompressionType, ENTRY_WIDTH, EntryBlock, EntryIndex, FileBlockHandle, FileId, queue_at,
-};
+use pipe_log::{CompressionType, ENTRY_WIDTH, EntryIndex, FileBlockHandle, FileId, LogQueue};
 
+#[tactic(auto, unfolding(pipe_log::specs::Rows::compression_at))]
 fn compression_at(n: u64) -> CompressionType
     ensures { result ≡ compression_at n }
 {
@@ -23,7 +22,7 @@ pub fn entry_at(part: &[u64], i: usize, index: u64) -> EntryIndex
     ensures { result ≡ with_index index (entry_of (drop (i * 8) part.now)) }
 {
     let at = i * ENTRY_WIDTH;
-    let queue = queue_at(part[at + 1]);
+    let queue = LogQueue::from(part[at + 1]);
     let id = FileId {
         queue,
         seq: part[at + 2],
@@ -36,7 +35,7 @@ pub fn entry_at(part: &[u64], i: usize, index: u64) -> EntryIndex
     let compression_type = compression_at(part[at + 5]);
     EntryIndex {
         index,
-        entries: EntryBlock::At(block),
+        entries: Some(block),
         compression_type,
         entry_offset: part[at + 6] as u32,
         entry_len: part[at + 7] as u32,

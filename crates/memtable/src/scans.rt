@@ -10,14 +10,12 @@ pub fn count_before(part: &[u64], from: usize, count: usize, gate: u64) -> usize
     requires { (from + count) * 8 ≤ length part.now }
     ensures { (result ≡ count_before gate count (drop (from * 8) part.now)) × (result ≤ count) }
 {
-    let mut i = 0;
-    while i < count {
+    for i in 0..count {
         if gate < part[(from + i) * ENTRY_WIDTH + 2] {
             return i;
         }
-        i += 1;
     }
-    i
+    count
 }
 
 // Whether a record of length `len` is one too many after lengths that sum to `sum`.
@@ -44,24 +42,20 @@ fn sum_lens(part: &[u64], from: usize, count: usize) -> u64
     ensures { result ≡ len_sum count (drop (from * 8) part.now) }
 {
     let mut sum = 0;
-    let mut i = 0;
-    while i < count {
+    for i in 0..count {
         sum += part[(from + i) * ENTRY_WIDTH + 7];
-        i += 1;
     }
     sum
 }
 
 // Whether the entry lengths of `count` rows from row `from` on sum within the size.
+#[tactic(auto, unfolding(crate::specs::Scans::all_fit))]
 fn all_fit(part: &[u64], from: usize, count: usize, size: u64) -> bool
     requires count_in_bounds { (from + count) * 8 ≤ length part.now }
     requires any_rows { AnyRows from (from + count) part.now }
     ensures { result ≡ all_fit size count (drop (from * 8) part.now) }
 {
-    if MAX_SUMMED < count {
-        return false;
-    }
-    sum_lens(part, from, count) <= size
+    count <= MAX_SUMMED && sum_lens(part, from, count) <= size
 }
 
 // How many of `count` rows from row `from` on stand before the first that is one too many for the size, row by row.
@@ -71,16 +65,14 @@ fn count_by_size(part: &[u64], from: usize, count: usize, size: u64) -> usize
     ensures { (result ≡ size_count size 0 count (drop (from * 8) part.now)) × (result ≤ count) }
 {
     let mut sum = 0;
-    let mut i = 0;
-    while i < count {
+    for i in 0..count {
         let len = part[(from + i) * ENTRY_WIDTH + 7];
         if over_size(size, sum, len) {
             return i;
         }
         sum += len;
-        i += 1;
     }
-    i
+    count
 }
 
 // The same; all of them where their lengths sum within the size.

@@ -3,81 +3,68 @@ ghost use Rattle.std.specs.Prelude.{◌≡◌, List, ℕ, ◌≤◌};
 ghost use Rattle.maps.specs.Lists.{least};
 ghost use Rattle.pipe_log.specs.Rows.{window};
 ghost use Rattle.rules.specs.TableQueries.{by_span};
-ghost use Rattle.memtable.specs.Views.{span_of, Wf};
-ghost use Rattle.memtable.specs.Queries.{found_of, front_seq, min_seq, entry_count, RewriteCountAnswer};
+ghost use Rattle.memtable.specs.Views.{Wf};
+ghost use Rattle.memtable.specs.Queries.{front_seq, min_seq, entry_count, RewriteCountAnswer};
 
-use crate::{AtomicGroup, Found, Head};
-use pipe_log::{ENTRY_WIDTH, LogQueue};
+use crate::Head;
+use pipe_log::{ENTRY_WIDTH, LogQueue, Span};
 
-fn lesser_of(a: Found, b: Found) -> Found
-    ensures { found_of result ≡ least (found_of a) (found_of b) }
+#[tactic(auto, unfolding(maps::specs::Lists::least))]
+fn lesser_of(a: Option<u64>, b: Option<u64>) -> Option<u64>
+    ensures { result ≡ least a b }
 {
-    let Found::At(x) = a else {
-        return b;
-    };
-    let Found::At(y) = b else {
-        return a;
-    };
-    if x < y {
-        return a;
+    match (a, b) {
+        (Some(x), Some(y)) => Some(x.min(y)),
+        (None, _) => b,
+        (_, None) => a,
     }
-    b
 }
 
 impl Head {
     // The sequence number of the front entry of a queue's run.
-    pub fn min_entry_seq(self, part: &[u64], queue: LogQueue) -> Found
+    pub fn min_entry_seq(self, part: &[u64], queue: LogQueue) -> Option<u64>
         requires { Wf self part.now }
-        ensures { found_of result ≡ front_seq queue (window self.first_index self.len part.now) }
+        ensures { result ≡ front_seq queue (window self.first_index self.len part.now) }
     {
         let count = self.rewrite_count;
         match queue {
             LogQueue::Append => {
                 if self.len <= count {
-                    return Found::Absent;
+                    return None;
                 }
-                Found::At(part[count * ENTRY_WIDTH + 2])
+                Some(part[count * ENTRY_WIDTH + 2])
             }
             LogQueue::Rewrite => {
                 if count == 0 {
-                    return Found::Absent;
+                    return None;
                 }
-                Found::At(part[2])
+                Some(part[2])
             }
         }
     }
 
     // For the Rewrite queue with a span: if `least` is at most the span's end, the lesser of it and the span's start.
+    #[tactic(auto, unfolding(rules::specs::TableQueries::by_span))]
     pub fn by_span(self, queue: LogQueue, least: u64) -> u64
-        ensures { result ≡ by_span queue (span_of self.atomic_group) least }
+        ensures { result ≡ by_span queue self.atomic_group least }
     {
-        let LogQueue::Rewrite = queue else {
-            return least;
-        };
-        let group = self.atomic_group;
-        let AtomicGroup::Span { start, end } = group else {
+        let (LogQueue::Rewrite, Some(Span { start, end })) = (queue, self.atomic_group) else {
             return least;
         };
         if end < least {
             return least;
         }
-        if start < least {
-            return start;
-        }
-        least
+        least.min(start)
     }
 
     // The least sequence number of a queue's entries and keys; `keys` is that of its keys.
-    pub fn min_file_seq(self, part: &[u64], queue: LogQueue, keys: Found) -> Found
+    #[tactic(auto, unfolding(crate::specs::Queries::min_seq, maps::specs::Lists::map_option))]
+    pub fn min_file_seq(self, part: &[u64], queue: LogQueue, keys: Option<u64>) -> Option<u64>
         requires { Wf self part.now }
-        ensures { found_of result ≡ min_seq queue self part.now (found_of keys) }
+        ensures { result ≡ min_seq queue self part.now keys }
     {
-        let entries = self.min_entry_seq(part, queue);
-        let both = lesser_of(entries, keys);
-        let Found::At(least) = both else {
-            return Found::Absent;
-        };
-        Found::At(self.by_span(queue, least))
+        let least = lesser_of(self.min_entry_seq(part, queue), keys)?;
+        Some(self.by_span(queue, least))
     }
 
     // The number of Rewrite entries, which stand at the front.

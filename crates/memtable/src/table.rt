@@ -1,29 +1,22 @@
 // The table as a whole: what goes by entries and keys together.
 ghost use Rattle.std.specs.Prelude.{◌≡◌, ◌*◌, ◌≤◌, length};
-ghost use Rattle.kvs.specs.Calls.{least_as};
 ghost use Rattle.memtable.specs.Views.{Wf};
-ghost use Rattle.memtable.specs.Queries.{found_of};
 ghost use Rattle.memtable.specs.Whole.{MinFileSeq};
 
-use crate::{Found, Head};
-use kvs::Least;
+use crate::Head;
 use pipe_log::LogQueue;
 
-fn found(seq: Least) -> Found
-    ensures { found_of result ≡ least_as seq }
-{
-    match seq {
-        Least::Nothing => Found::Absent,
-        Least::Seq(s) => Found::At(s),
-    }
-}
-
 // The least file of a queue by the front entry of its run and its keys, with the span: `rows` are the numbers of the group's n keys.
-pub fn min_file_seq(head: Head, part: &[u64], n: usize, rows: &[u64], queue: LogQueue) -> Found
+pub fn min_file_seq(
+    head: Head,
+    part: &[u64],
+    n: usize,
+    rows: &[u64],
+    queue: LogQueue,
+) -> Option<u64>
     requires wf { Wf head part.now }
     requires n_in_bounds { n * 4 ≤ length rows.now }
     ensures { MinFileSeq head part.now n rows.now queue result }
 {
-    let keys = found(kvs::least_seq(n, rows, queue));
-    head.min_file_seq(part, queue, keys)
+    head.min_file_seq(part, queue, kvs::least_seq(n, rows, queue))
 }

@@ -1,19 +1,16 @@
--- The ways through the functions that end a merge or join: the limits of the lists, and the refusal that a group may meet.
+-- The ways through the functions that end a merge or join: the limits of the lists, and of all but the groups.
 -- Assumes nothing.
-use mathlib.Core.Bool.{Bool, true, false, ◌&&◌, and-false}
+use mathlib.Core.Bool.{Bool, true, false, ◌&&◌}
 use mathlib.Core.List.{List, [], ◌++◌}
 use mathlib.Core.Path.{◌≡◌, refl, sym, ◌∙◌}
-use Prim.Native.Nat.{ℕ, ◌+◌, ◌-◌, ◌≤◌, ◌<◌}
+use Prim.Native.Nat.{ℕ, ◌+◌, ◌-◌}
 use native.Mathlib.Nat.{add-zero}
 use lib.Dec.{leb}
 use lib.ListN.{length, get_or, take, drop, length-append}
-use borrow.Author.Tests.{le-leb, lt-leb}
 use borrow.Author.Rules.{part_to_end}
 use Rattle.maps.specs.Lists.{sum}
 use Rattle.maps.specs.Maps.{Map}
-use Rattle.rules.specs.Causes.{number_of}
 use Rattle.rules.specs.Context.{Part, Context, with_groups, with_waiting, waiting_fits}
-use Rattle.rules.specs.Calls.{clash}
 use Rattle.rules_by_group.specs.Stage.{rest_fits, merged_rest, joined_rest, finished_tombs}
 use Rattle.lists.specs.declared.Counts.{Counts}
 use Rattle.lists.specs.Rest.{rest_of, tombstones_in, cleaned_in}
@@ -22,47 +19,13 @@ use Rattle.lists.specs.Laws.{lengths}
 use Rattle.contexts.specs.Contexts.{rest_at, context_of, Wf}
 use Rattle.worktable.specs.declared.Mode.{Mode}
 use Rattle.worktable.specs.declared.Mode.TheVariants as mode
-use Rattle.staging.specs.Modes.{rest_by, clash_by, counts_fit, counts_of, Few, Plain}
-
--- ---- the refusal of a group
-
-pub clash-append : (m : Mode) → m ≡ mode.Append → 14 ≡ number_of (clash_by m)
-unfolding clash_by clash
-clash-append m e = rw e
-
-pub clash-rewrite : (m : Mode) → m ≡ mode.Rewrite → 8 ≡ number_of (clash_by m)
-unfolding clash_by clash
-clash-rewrite m e = rw e
-
-pub clash-join : (m : Mode) → m ≡ mode.Join → 14 ≡ number_of (clash_by m)
-unfolding clash_by clash
-clash-join m e = rw e
+use Rattle.staging.specs.Modes.{rest_by, counts_fit, counts_of, Few, Plain}
 
 -- ---- the limits of the lists
 
-module _ (o n : Counts) where
-  pub cleaned-over : (m : Mode) → 64 < o.cleaned + n.cleaned → false ≡ counts_fit m o n
-  unfolding counts_fit
-  cleaned-over mode.Append l = rw (lt-leb (o.cleaned + n.cleaned) 64 l) (sym (and-false (leb (o.tombstones + n.tombstones) 64)))
-  cleaned-over mode.Rewrite l = rw (lt-leb (o.cleaned + n.cleaned) 64 l) (sym (and-false (leb (o.tombstones + n.tombstones) 64)))
-  cleaned-over mode.Join l = rw (lt-leb (o.cleaned + n.cleaned) 64 l)
-
-  and-true : (b : Bool) → b ≡ (b && true)
-  and-true true = refl
-  and-true false = refl
-
-  module _ (m : Mode) (l : o.cleaned + n.cleaned ≤ 64) where
-    pub append-fits : m ≡ mode.Append → leb (o.tombstones + n.tombstones) 64 ≡ counts_fit m o n
-    unfolding counts_fit
-    append-fits e = rw (e, le-leb (o.cleaned + n.cleaned) 64 l) (and-true (leb (o.tombstones + n.tombstones) 64))
-
-    pub rewrite-fits : m ≡ mode.Rewrite → leb (o.tombstones + n.tombstones) 64 ≡ counts_fit m o n
-    unfolding counts_fit
-    rewrite-fits e = rw (e, le-leb (o.cleaned + n.cleaned) 64 l) (and-true (leb (o.tombstones + n.tombstones) 64))
-
-    pub join-fits : m ≡ mode.Join → true ≡ counts_fit m o n
-    unfolding counts_fit
-    join-fits e = rw (e, le-leb (o.cleaned + n.cleaned) 64 l)
+and-true : (b : Bool) → b ≡ (b && true)
+and-true true = refl
+and-true false = refl
 
 -- the counts, as they are read
 pub counts-are : (xs : List ℕ) (n : Counts) → n.tombstones ≡ get_or (take (length xs - 9376) (drop 9376 xs)) 1 0 → n.cleaned ≡ get_or (take (length xs - 9376) (drop 9376 xs)) 2 0 → n ≡ counts_of xs
@@ -115,7 +78,7 @@ module _ (xs bs ys cs : List ℕ) (w : lists.Wf (drop 9376 xs) (drop 16384 bs)) 
 
   joined-fits : rest_fits (joined_rest newer c) ≡ leb ((counts_of xs).cleaned + (counts_of ys).cleaned) 64
   unfolding rest_fits joined_rest waiting_fits sum
-  joined-fits = rw cleaned-length (sym (and-true (counts_of xs) (counts_of ys) _))
+  joined-fits = rw cleaned-length (sym (and-true _))
 
 -- ---- where nothing waits in the newer context they are those of the lists
 
@@ -131,7 +94,7 @@ module _ (m : Mode) (xs bs ys cs : List ℕ) (g : Plain m xs bs ys cs) where
   plain_fits : rest_fits (merged_rest (context_of ys cs) (context_of xs bs).waiting (context_of xs bs)) ≡ (leb ((counts_of xs).tombstones + (counts_of ys).tombstones) 64 && leb ((counts_of xs).cleaned + (counts_of ys).cleaned) 64)
   plain_fits =
       merged-fits xs bs ys cs g.given.wf.rest g.given.newer-wf.rest (context_of xs bs).waiting
-      ∙ rw (no-tombs, add-zero ((counts_of xs).tombstones + (counts_of ys).tombstones), waits-fit) (sym (and-true (counts_of xs) (counts_of ys) _))
+      ∙ rw (no-tombs, add-zero ((counts_of xs).tombstones + (counts_of ys).tombstones), waits-fit) (sym (and-true _))
 
 pub rest-fits : (m : Mode) (xs bs ys cs : List ℕ) → Plain m xs bs ys cs → rest_fits (rest_by m (context_of ys cs) (context_of xs bs)) ≡ counts_fit m (counts_of xs) (counts_of ys)
 unfolding rest_by counts_fit

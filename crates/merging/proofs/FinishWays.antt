@@ -7,7 +7,7 @@ use native.Mathlib.Omega.{arith}
 use lib.ListN.{length, get_or, take, drop}
 use borrow.Author.Rules.{part_to_end}
 use Rattle.maps.specs.BoolLaws.{clash, both_left, both_right}
-use Rattle.rules.specs.Causes.{Cause, Result, ok, refuse, number_of, wrong_kind, limit_passed, left}
+use Rattle.rules.specs.Causes.{Cause, Result, Ok, refuse, WrongKind, LimitPassed, left}
 use Rattle.rules.specs.Items.{LogQueue, Append, Rewrite, same_queue}
 use Rattle.rules.specs.Context.{Kind, context, index, is_context, Context, with_groups, with_waiting}
 use Rattle.rules.specs.Calls.{merge, join, both}
@@ -19,15 +19,10 @@ use Rattle.groups.specs.Area.{slots, numbers_in_use, bytes_in_use, groups_of}
 use Rattle.groups.specs.Area as groups
 use Rattle.groups.specs.Laws.{front-groups, front_wf}
 use Rattle.groups.specs.Undo.{live_numbers, live_bytes, Undone}
-use Rattle.lists.specs.declared.Kind as lent
 use Rattle.lists.specs.Rest.{kind_of}
-use Rattle.lists.specs.Calls.{kind_as}
 use Rattle.lists.specs.Laws.{rest-kind}
 use Rattle.room.specs.Layout.{waiting_of, RoomWf}
-use Rattle.contexts.specs.declared.Answer.{Answer}
-use Rattle.contexts.specs.declared.Answer.TheVariants as answer
-use Rattle.contexts.specs.declared.Position.TheVariants as position
-use Rattle.contexts.specs.Contexts.{rest_at, context_of, RoomKept, Wf, answer_as, position_of, Answered, Called}
+use Rattle.contexts.specs.Contexts.{rest_at, context_of, RoomKept, Wf, answer_as, Answered, Called}
 use Rattle.contexts.specs.AreaLaws.{formed_of, area-length, area-bytes, behind-room, room-waiting, room_wf, answered-called}
 use Rattle.worktable.specs.declared.Mode.{Mode}
 use Rattle.worktable.specs.declared.Mode.TheVariants as mode
@@ -117,32 +112,32 @@ module _ (xs bs xs₁ : List ℕ) (w : Wf xs bs) (r : Ready xs bs) (s : Sealed s
 -- ---- the answer
 
 -- a refusal leaves all as it was
-pub refused_with : (call : Context → Result Context) (x : Cause) (n : ℕ) (xs bs : List ℕ) → Wf xs bs → n ≡ number_of x → call (context_of xs bs) ≡ refuse x → Answered call xs bs (answer.Refused n position.None) xs bs
-unfolding left answer_as position_of
-refused_with call x n xs bs w e h =
+pub refused_with : (call : Context → Result Context) (x : Cause) (xs bs : List ℕ) → Wf xs bs → call (context_of xs bs) ≡ refuse x → Answered call xs bs (refuse x) xs bs
+unfolding left answer_as
+refused_with call x xs bs w h =
     record {
-      answers = rw e (sym h);
+      answers = sym h;
       leaves = sym (ap (left (context_of xs bs)) h);
       formed = formed_of xs bs w;
     }
 
 module _ (call : Context → Result Context) (x : Cause) (d : Context) (f : Flags) (xs bs : List ℕ) (w : Wf xs bs) (a : call (context_of xs bs) ≡ staging.answer x d (staged_in f xs bs)) where
-  pub finish-clashed : (n : ℕ) → f.clashed ≡ true → n ≡ number_of x → Answered call xs bs (answer.Refused n position.None) xs bs
-  finish-clashed n c e = refused_with call x n xs bs w e (answered-clashed x d f xs bs _ a c)
+  pub finish-clashed : f.clashed ≡ true → Answered call xs bs (refuse x) xs bs
+  finish-clashed c = refused_with call x xs bs w (answered-clashed x d f xs bs _ a c)
 
   module _ (c : f.clashed ≡ false) where
-    pub finish-passed : f.passed ≡ true → Answered call xs bs (answer.Refused 18 position.None) xs bs
-    finish-passed p = refused_with call limit_passed 18 xs bs w refl (answered-passed x d f xs bs _ a c (rw p))
+    pub finish-passed : f.passed ≡ true → Answered call xs bs (refuse LimitPassed) xs bs
+    finish-passed p = refused_with call LimitPassed xs bs w (answered-passed x d f xs bs _ a c (rw p))
 
-    pub finish-over : rest_fits d ≡ false → Answered call xs bs (answer.Refused 18 position.None) xs bs
-    finish-over n = refused_with call limit_passed 18 xs bs w refl (answered-passed x d f xs bs _ a c (rw n (or-true f.passed)))
+    pub finish-over : rest_fits d ≡ false → Answered call xs bs (refuse LimitPassed) xs bs
+    finish-over n = refused_with call LimitPassed xs bs w (answered-passed x d f xs bs _ a c (rw n (or-true f.passed)))
 
-    pub finish-taken : f.passed ≡ false → rest_fits d ≡ true → (xs' bs' : List ℕ) → Taken d xs bs xs' bs' → Answered call xs bs answer.Accepted xs' bs'
+    pub finish-taken : f.passed ≡ false → rest_fits d ≡ true → (xs' bs' : List ℕ) → Taken d xs bs xs' bs' → Answered call xs bs (Ok tt) xs' bs'
     unfolding left answer_as
     finish-taken p n xs' bs' t =
         let h = answered_ok x d f xs bs _ a c p n in
         record {
-          answers = ap ok t.context-is ∙ sym h;
+          answers = ap Ok t.context-is ∙ sym h;
           leaves = t.context-is ∙ sym (ap (left (context_of xs bs)) h);
           formed = t.formed;
         }
@@ -180,7 +175,7 @@ module _ (m : Mode) (xs bs ys cs xs₁ : List ℕ) (g : Given m xs bs ys cs) (b 
           staged = s.staged ∙ rw (context-stays, begun-staged xs bs xs₁ long long-bytes b);
         }
 
-    pub carried-out : (r : Answer) (xs' bs' : List ℕ) → Answered (call_by m (context_of ys cs)) xs₂ bs₂ r xs' bs' → Called (call_by m (context_of ys cs)) xs bs r xs' bs'
+    pub carried-out : (r : Result (Unit {0})) (xs' bs' : List ℕ) → Answered (call_by m (context_of ys cs)) xs₂ bs₂ r xs' bs' → Called (call_by m (context_of ys cs)) xs bs r xs' bs'
     carried-out r xs' bs' a =
         let e : context_of xs₂ bs₂ ≡ context_of xs bs = context-stays ∙ beside-context beside g.wf in
         answered-called (call_by m (context_of ys cs)) xs bs r xs' bs' g.wf
@@ -195,23 +190,15 @@ module _ (xs bs ys cs : List ℕ) where
   append-plain w v k l =
       record { given = record { wf = w; newer-wf = v; kind = k; newer-kind = l }; none-waits = append-waits (context_of ys cs) v.kept l }
 
-  pub append-called : (r : Answer) (xs' bs' : List ℕ) → Called (call_by mode.Append (context_of ys cs)) xs bs r xs' bs' → Called (merge (context_of ys cs)) xs bs r xs' bs'
+  pub append-called : (r : Result (Unit {0})) (xs' bs' : List ℕ) → Called (call_by mode.Append (context_of ys cs)) xs bs r xs' bs' → Called (merge (context_of ys cs)) xs bs r xs' bs'
   unfolding call_by
   append-called r xs' bs' c = c
 
-  pub rewrite-called : (r : Answer) (xs' bs' : List ℕ) → Called (call_by mode.Rewrite (context_of ys cs)) xs bs r xs' bs' → Called (merge (context_of ys cs)) xs bs r xs' bs'
+  pub rewrite-called : (r : Result (Unit {0})) (xs' bs' : List ℕ) → Called (call_by mode.Rewrite (context_of ys cs)) xs bs r xs' bs' → Called (merge (context_of ys cs)) xs bs r xs' bs'
   unfolding call_by
   rewrite-called r xs' bs' c = c
 
 -- ---- the kinds
-
-pub of-context : (q r : LogQueue) (k : lent.Kind) → k ≡ lent.TheVariants.Context r → same_queue q r ≡ is_context q (kind_as k)
-unfolding is_context kind_as
-of-context q r k e = rw e
-
-pub of-index : (q : LogQueue) (k : lent.Kind) → k ≡ lent.TheVariants.Index → false ≡ is_context q (kind_as k)
-unfolding is_context kind_as
-of-index q k e = rw e
 
 -- a context of a queue, by the test of its kind
 context_of_lem : (q : LogQueue) (k : Kind) → is_context q k ≡ true → k ≡ context q
@@ -228,11 +215,11 @@ unfolding context_of rest_at with_groups with_waiting
 kind-is xs bs k e = rest-kind (drop 9376 xs) (drop 16384 bs) ∙ sym (rw (part_to_end xs 9376) at e)
 
 -- a call on the wrong kind is refused, and leaves all as it was
-wrong-called : (call : Context → Result Context) (xs bs : List ℕ) → Wf xs bs → call (context_of xs bs) ≡ refuse wrong_kind → Called call xs bs (answer.Refused 1 position.None) xs bs
+wrong-called : (call : Context → Result Context) (xs bs : List ℕ) → Wf xs bs → call (context_of xs bs) ≡ refuse WrongKind → Called call xs bs (refuse WrongKind) xs bs
 wrong-called call xs bs w h =
-    answered-called call xs bs (answer.Refused 1 position.None) xs bs w
+    answered-called call xs bs (refuse WrongKind) xs bs w
     (λ d k. absurd (refused_not_ok (sym h ∙ k)))
-    (refused_with call wrong_kind 1 xs bs w refl h)
+    (refused_with call WrongKind xs bs w h)
 
 module _ (xs bs ys cs : List ℕ) (o n : Kind) (p : o ≡ kind_of (get_or (take (length xs - 9376) (drop 9376 xs)) 0 0)) (q : n ≡ kind_of (get_or (take (length ys - 9376) (drop 9376 ys)) 0 0)) where
   -- the kinds, by the tests of both
@@ -240,10 +227,10 @@ module _ (xs bs ys cs : List ℕ) (o n : Kind) (p : o ≡ kind_of (get_or (take 
   kinds-are first second e =
       (kind-is xs bs o p ∙ context_of_lem first o (both_right (is_context second n) (is_context first o) e), kind-is ys cs n q ∙ context_of_lem second n (both_left (is_context second n) (is_context first o) e))
 
-  pub join_wrong : Wf xs bs → (is_context Append n && is_context Rewrite o) ≡ false → Called (join (context_of ys cs)) xs bs (answer.Refused 1 position.None) xs bs
+  pub join_wrong : Wf xs bs → (is_context Append n && is_context Rewrite o) ≡ false → Called (join (context_of ys cs)) xs bs (refuse WrongKind) xs bs
   join_wrong w e = wrong-called (join (context_of ys cs)) xs bs w (unfold join in rw (kind-is xs bs o p, kind-is ys cs n q, e))
 
-  pub merge_wrong : Wf xs bs → (is_context Append n && is_context Append o) ≡ false → (is_context Rewrite n && is_context Rewrite o) ≡ false → Called (merge (context_of ys cs)) xs bs (answer.Refused 1 position.None) xs bs
+  pub merge_wrong : Wf xs bs → (is_context Append n && is_context Append o) ≡ false → (is_context Rewrite n && is_context Rewrite o) ≡ false → Called (merge (context_of ys cs)) xs bs (refuse WrongKind) xs bs
   merge_wrong w e f = wrong-called (merge (context_of ys cs)) xs bs w (unfold merge both in rw (kind-is xs bs o p, kind-is ys cs n q, e, f))
 
   module _ (w : Wf xs bs) (v : Wf ys cs) where
@@ -260,7 +247,7 @@ module _ (xs bs ys cs : List ℕ) (o n : Kind) (p : o ≡ kind_of (get_or (take 
     unfolding older_kind newer_kind
     merge-given e = let k = kinds-are Rewrite Rewrite e in record { wf = w; newer-wf = v; kind = k.0; newer-kind = k.1 }
 
-pub join-called : (xs bs ys cs : List ℕ) (r : Answer) (xs' bs' : List ℕ) → Called (call_by mode.Join (context_of ys cs)) xs bs r xs' bs' → Called (join (context_of ys cs)) xs bs r xs' bs'
+pub join-called : (xs bs ys cs : List ℕ) (r : Result (Unit {0})) (xs' bs' : List ℕ) → Called (call_by mode.Join (context_of ys cs)) xs bs r xs' bs' → Called (join (context_of ys cs)) xs bs r xs' bs'
 unfolding call_by
 join-called xs bs ys cs r xs' bs' c = c
 

@@ -1,5 +1,6 @@
 -- The lists of an accepted merge: the newer ones behind the older ones, in the lists and in an area. Assumes nothing.
 use mathlib.Core.Bool.{true, ◌&&◌}
+use mathlib.Core.Logic.{◌⊎◌, ⊎_elim}
 use mathlib.Core.List.{List, [], ◌++◌, append-nil}
 use mathlib.Core.Path.{◌≡◌, refl, sym, ap, ◌∙◌}
 use Prim.Native.Nat.{ℕ, ◌+◌, ◌-◌, ◌≤◌}
@@ -131,22 +132,14 @@ plain_mergeable m xs bs ys cs g e =
     record { rest = g.rest; newer-rest = g.newer-rest; tombstones-fit = few.0; cleaned-fit = few.1 }
 
 module _ (m : Mode) (xs bs ys cs : List ℕ) (g : Growable m xs bs ys cs) where
-  pub append_mergeable : m ≡ mode.Append → Mergeable xs bs ys cs
+  pub merge_mergeable : (m ≡ mode.Append) ⊎ (m ≡ mode.Rewrite) → Mergeable xs bs ys cs
   unfolding counts_fit
-  append_mergeable e = plain_mergeable m xs bs ys cs g (rw e at g.fit)
-
-  pub rewrite_mergeable : m ≡ mode.Rewrite → Mergeable xs bs ys cs
-  unfolding counts_fit
-  rewrite_mergeable e = plain_mergeable m xs bs ys cs g (rw e at g.fit)
+  merge_mergeable = ⊎_elim (λ e. plain_mergeable m xs bs ys cs g (rw e at g.fit)) (λ e. plain_mergeable m xs bs ys cs g (rw e at g.fit))
 
   pub join_growable : m ≡ mode.Join → Growable mode.Join xs bs ys cs
   join_growable e = rw (← e) g
 
   module _ (xs' bs' : List ℕ) (b : Grown (merged_lists (drop 9376 xs) (drop 16384 bs) (drop 9376 ys) (drop 16384 cs)) xs bs xs' bs') where
-    pub append-grown : m ≡ mode.Append → RestBecomes (rest_by m (context_of ys cs) (rest_at xs bs)) xs bs xs' bs'
+    pub merge-grown : (m ≡ mode.Append) ⊎ (m ≡ mode.Rewrite) → RestBecomes (rest_by m (context_of ys cs) (rest_at xs bs)) xs bs xs' bs'
     unfolding rest_by
-    append-grown e = rw e (merged-grown xs bs ys cs xs' bs' g.waiting g.none-waits b)
-
-    pub rewrite-grown : m ≡ mode.Rewrite → RestBecomes (rest_by m (context_of ys cs) (rest_at xs bs)) xs bs xs' bs'
-    unfolding rest_by
-    rewrite-grown e = rw e (merged-grown xs bs ys cs xs' bs' g.waiting g.none-waits b)
+    merge-grown = ⊎_elim (λ e. rw e (merged-grown xs bs ys cs xs' bs' g.waiting g.none-waits b)) (λ e. rw e (merged-grown xs bs ys cs xs' bs' g.waiting g.none-waits b))

@@ -77,11 +77,6 @@ module _ (xs ys v : List ℕ) (n : length xs ≡ 17231) (k : length ys ≡ 17231
       let q : length (drop 9376 ys) ≡ 7855 = omega (arith, length-drop 9376 ys, k) in
       rw (part_to_end us 9376, part_to_end ys 9376, count_same) ((p, q), h)
 
-  pub joined_length : (s : List ℕ) → length s ≡ 7855 → length (put_mid 9376 (length us - 9376) us s) ≡ 17231
-  joined_length s e =
-      let p : length s ≡ length us - 9376 = omega (arith, length_us) in
-      rw (loan-put 9376 (length us - 9376) us s p) (length-put us 9376 s (omega (arith, length_us)) ∙ length_us)
-
   module _ (s bs cs : List ℕ) (g : Growable mode.Join xs bs ys cs) (r : (vs : List ℕ) → length vs ≡ 8192 → Empty context_cells v vs)
       (f : (ds : List ℕ) → Wf (take (length us - 9376) (drop 9376 us)) ds → ListsBecome (joined_lists (take (length us - 9376) (drop 9376 us)) ds (take (length ys - 9376) (drop 9376 ys))) (take (length us - 9376) (drop 9376 us)) ds s ds) where
     abbrev zs : List ℕ

@@ -12,10 +12,10 @@ use borrow.Author.Tests.{le-leb, lt-leb, leb-true}
 use borrow.Rule.Slice.PartMut.{put_mid}
 use Rattle.cells.specs.Part.{part, put}
 use Rattle.cells.specs.PartLaws.{part-is, length-put, part-drop, part-put-before, part-put_same, take_put}
-use Rattle.maps.specs.BoolLaws.{clash, both_left, both_right}
+use Rattle.maps.specs.BoolLaws.{both_left, both_right}
 use Rattle.maps.specs.Maps.{Map}
 use Rattle.maps.specs.OrderLaws.{split}
-use Rattle.rules.specs.Causes.{Result, ok, refuse, files_go_back}
+use Rattle.rules.specs.Causes.{ByCause}
 use Rattle.rules.specs.Items.{LogItem}
 use Rattle.rules.specs.Context.{Part, Context, waiting_fits, with_groups, with_tombstones, with_cleaned, with_waiting}
 use Rattle.rules_by_group.specs.Stage.{waiting_after, finished_tombs, merged_rest, rest_fits}
@@ -219,16 +219,7 @@ module _ (xs bs ys cs ws vs : List ℕ) (g : Waitable xs bs ys cs ws vs) where
 
 -- ---- what waits after the merge
 
-pub accepted-waiting : (xs bs ys cs ws vs ws' vs' : List ℕ) (r : Bool) → ws ≡ waiting_numbers xs → vs ≡ waiting_bytes bs → PartsTaken (waiting_after (waiting_of (take 3490 (drop 10019 ys)) (take 8192 (drop 20480 cs))) (waiting_of ws vs)) r ws' vs' → PartsTaken (waiting_after (context_of ys cs).waiting (context_of xs bs).waiting) r ws' vs'
+pub accepted-waiting : (xs bs ys cs ws vs ws' vs' : List ℕ) (r : ByCause (Unit {0})) → ws ≡ waiting_numbers xs → vs ≡ waiting_bytes bs → PartsTaken (waiting_after (waiting_of (take 3490 (drop 10019 ys)) (take 8192 (drop 20480 cs))) (waiting_of ws vs)) r ws' vs' → PartsTaken (waiting_after (context_of ys cs).waiting (context_of xs bs).waiting) r ws' vs'
 accepted-waiting xs bs ys cs ws vs ws' vs' r e f t =
     rw (context-waits xs bs, context-waits ys cs)
     (rw (part-is 10019 3490 ys, part-is 20480 8192 cs, e, f) at t)
-
-module _ (x : Result (Map ℕ (List Part))) (ws vs : List ℕ) where
-  pub parts_back : (r : Bool) → r ≡ false → PartsTaken x r ws vs → x ≡ refuse files_go_back
-  parts_back true e t = absurd (clash (sym e))
-  parts_back false e t = t
-
-  pub parts-wait : (r : Bool) → r ≡ true → PartsTaken x r ws vs → (x ≡ ok (waiting_of ws vs)) × RoomWf 16 ws vs
-  parts-wait true e t = t
-  parts-wait false e t = absurd (clash e)

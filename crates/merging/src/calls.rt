@@ -1,21 +1,18 @@
 // A merge or join carried out: the groups are staged, and then the answer is known.
 ghost use Rattle.std.specs.Prelude.{true, ◌&&◌, ◌≡◌};
 ghost use Rattle.rules.specs.Context.{is_context};
-ghost use Rattle.rules.specs.Calls as rules·calls;
 ghost use Rattle.lists.specs.Calls.{kind_as};
+ghost use Rattle.rules.specs.Calls as rules·calls;
 ghost use Rattle.contexts.specs.Contexts.{context_of, Wf, Answered, Called};
 ghost use Rattle.staging.specs.Staging.{Ready};
 ghost use Rattle.staging.specs.Modes.{call_by, rest_by, counts_fit, counts_of, Plain, Worked};
 ghost use Rattle.merging.specs.Growth.{Taken};
 
-use crate::ends::{clash_of, lists_fit, refuse};
+use crate::ends::{clash_of, lists_fit};
 use crate::growth::grow;
 use crate::waits::carry_waiting;
-use contexts::Answer;
 use lists::Kind;
-use log_batch::entries::same_queue;
-use pipe_log::LogQueue;
-use pipe_log::causes::{LIMIT_PASSED, WRONG_KIND};
+use pipe_log::{Cause, LogQueue, Refusal};
 use staging::{Flags, begin, seal, stage_all};
 use worktable::Mode;
 
@@ -32,27 +29,37 @@ fn take_staged(xs: &mut [u64], bs: &mut [u8], ys: &[u64], cs: &[u8], mode: Mode)
 }
 
 // Ends a merge or join whose groups are staged: the refusal of a group goes before a limit that is passed.
-fn finish(xs: &mut [u64], bs: &mut [u8], ys: &[u64], cs: &[u8], mode: Mode, flags: Flags) -> Answer
+fn finish(
+    xs: &mut [u64],
+    bs: &mut [u8],
+    ys: &[u64],
+    cs: &[u8],
+    mode: Mode,
+    flags: Flags,
+) -> Result<(), Refusal>
     requires plain { Plain mode xs.old bs.old ys.now cs.now }
     requires ready { Ready xs.old bs.old }
     requires worked { Worked mode flags xs.old bs.old ys.now cs.now }
     ensures { Answered (call_by mode (context_of ys.now cs.now)) xs.old bs.old result xs.new bs.new }
 {
     if flags.clashed {
-        return refuse(clash_of(mode));
+        return Err(clash_of(mode).into());
     }
-    if flags.passed {
-        return refuse(LIMIT_PASSED);
-    }
-    if !lists_fit(mode, xs, ys) {
-        return refuse(LIMIT_PASSED);
+    if flags.passed || !lists_fit(mode, xs, ys) {
+        return Err(Cause::LimitPassed.into());
     }
     take_staged(xs, bs, ys, cs, mode);
-    Answer::Accepted
+    Ok(())
 }
 
 // Carries out a merge or join of contexts whose kinds fit.
-fn carry_out(xs: &mut [u64], bs: &mut [u8], ys: &[u64], cs: &[u8], mode: Mode) -> Answer
+fn carry_out(
+    xs: &mut [u64],
+    bs: &mut [u8],
+    ys: &[u64],
+    cs: &[u8],
+    mode: Mode,
+) -> Result<(), Refusal>
     requires { Plain mode xs.old bs.old ys.now cs.now }
     ensures { Called (call_by mode (context_of ys.now cs.now)) xs.old bs.old result xs.new bs.new }
 {
@@ -62,11 +69,12 @@ fn carry_out(xs: &mut [u64], bs: &mut [u8], ys: &[u64], cs: &[u8], mode: Mode) -
 }
 
 // Whether an area is a context of a queue.
+#[tactic(auto, unfolding(rules::specs::Context::is_context, lists::specs::Calls::kind_as, rules::specs::Items::same_queue))]
 fn is_of(kind: Kind, queue: LogQueue) -> bool
     ensures { result ≡ is_context queue (kind_as kind) }
 {
     match kind {
-        Kind::Context(own) => same_queue(queue, own),
+        Kind::Context(own) => queue == own,
         Kind::Index => false,
     }
 }
@@ -75,41 +83,36 @@ fn is_of(kind: Kind, queue: LogQueue) -> bool
 fn kinds_are(older: Kind, first: LogQueue, newer: Kind, second: LogQueue) -> bool
     ensures { result ≡ is_context second (kind_as newer) && is_context first (kind_as older) }
 {
-    if !is_of(newer, second) {
-        return false;
-    }
-    is_of(older, first)
+    is_of(newer, second) && is_of(older, first)
 }
 
 // Merges a newer context into an older one of the same queue.
-pub fn merge(xs: &mut [u64], bs: &mut [u8], ys: &[u64], cs: &[u8]) -> Answer
+pub fn merge(xs: &mut [u64], bs: &mut [u8], ys: &[u64], cs: &[u8]) -> Result<(), Refusal>
     requires wf { Wf xs.old bs.old }
     requires wf_2 { Wf ys.now cs.now }
     ensures { Called (rules·calls.merge (context_of ys.now cs.now)) xs.old bs.old result xs.new bs.new }
 {
-    let a = groups::NUMBERS;
-    let older = lists::kind_in(&xs[a..]);
-    let newer = lists::kind_in(&ys[a..]);
+    let older = lists::kind_in(&xs[groups::NUMBERS..]);
+    let newer = lists::kind_in(&ys[groups::NUMBERS..]);
     if kinds_are(older, LogQueue::Append, newer, LogQueue::Append) {
         return carry_out(xs, bs, ys, cs, Mode::Append);
     }
     if kinds_are(older, LogQueue::Rewrite, newer, LogQueue::Rewrite) {
         return carry_waiting(xs, bs, ys, cs);
     }
-    refuse(WRONG_KIND)
+    Err(Cause::WrongKind.into())
 }
 
 // Joins an Append context to a Rewrite context, which becomes the index.
-pub fn join(xs: &mut [u64], bs: &mut [u8], ys: &[u64], cs: &[u8]) -> Answer
+pub fn join(xs: &mut [u64], bs: &mut [u8], ys: &[u64], cs: &[u8]) -> Result<(), Refusal>
     requires wf { Wf xs.old bs.old }
     requires wf_2 { Wf ys.now cs.now }
     ensures { Called (rules·calls.join (context_of ys.now cs.now)) xs.old bs.old result xs.new bs.new }
 {
-    let a = groups::NUMBERS;
-    let older = lists::kind_in(&xs[a..]);
-    let newer = lists::kind_in(&ys[a..]);
+    let older = lists::kind_in(&xs[groups::NUMBERS..]);
+    let newer = lists::kind_in(&ys[groups::NUMBERS..]);
     if !kinds_are(older, LogQueue::Rewrite, newer, LogQueue::Append) {
-        return refuse(WRONG_KIND);
+        return Err(Cause::WrongKind.into());
     }
     carry_out(xs, bs, ys, cs, Mode::Join)
 }

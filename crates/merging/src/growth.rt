@@ -36,9 +36,12 @@ pub fn grow_merged(xs: &mut [u64], bs: &mut [u8], ys: &[u64], cs: &[u8])
     requires { Mergeable xs.old bs.old ys.now cs.now }
     ensures { Grown (merged_lists (drop 9376 xs.old) (drop 16384 bs.old) (drop 9376 ys.now) (drop 16384 cs.now)) xs.old bs.old xs.new bs.new }
 {
-    let a = groups::NUMBERS;
-    let c = groups::BYTES;
-    merge_lists(&mut xs[a..], &mut bs[c..], &ys[a..], &cs[c..]);
+    merge_lists(
+        &mut xs[groups::NUMBERS..],
+        &mut bs[groups::BYTES..],
+        &ys[groups::NUMBERS..],
+        &cs[groups::BYTES..],
+    );
 }
 
 // The lists of an accepted join, and nothing waits.
@@ -47,11 +50,8 @@ fn grow_joined(xs: &mut [u64], ys: &[u64])
     requires ys_bound { get_or (drop 9376 xs.old) 2 0 + get_or (drop 9376 ys.now) 2 0 ≤ 64 }
     ensures { (bs cs : List ℕ) → Growable Mode.Join xs.old bs ys.now cs → RestBecomes (joined_rest (context_of ys.now cs) (rest_at xs.old bs)) xs.old bs xs.new bs }
 {
-    let from = WAITING_FROM;
-    let to = WAITING_TO;
-    room::clear(&mut xs[from..to], room::CELLS);
-    let a = groups::NUMBERS;
-    join_lists(&mut xs[a..], &ys[a..]);
+    room::clear(&mut xs[WAITING_FROM..WAITING_TO], room::CELLS);
+    join_lists(&mut xs[groups::NUMBERS..], &ys[groups::NUMBERS..]);
 }
 
 // What the lists and the waiting parts become.
@@ -60,8 +60,7 @@ pub fn grow(xs: &mut [u64], bs: &mut [u8], ys: &[u64], cs: &[u8], mode: Mode)
     ensures { RestBecomes (rest_by mode (context_of ys.now cs.now) (rest_at xs.old bs.old)) xs.old bs.old xs.new bs.new }
 {
     match mode {
-        Mode::Append => grow_merged(xs, bs, ys, cs),
-        Mode::Rewrite => grow_merged(xs, bs, ys, cs),
+        Mode::Append | Mode::Rewrite => grow_merged(xs, bs, ys, cs),
         Mode::Join => grow_joined(xs, ys),
     }
 }

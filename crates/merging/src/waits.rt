@@ -1,7 +1,7 @@
 // The end of a merge of two Rewrite contexts, in which parts may wait.
 ghost use Rattle.std.specs.Prelude.{true, List, ◌≡◌, ℕ, ◌+◌, ◌≤◌, length, get_or, drop};
 ghost use Rattle.cells.specs.Part.{part, put};
-ghost use Rattle.rules.specs.Causes.{ok};
+ghost use Rattle.rules.specs.Causes.{Ok};
 ghost use Rattle.rules_by_group.specs.Stage.{waiting_after, finished_tombs, merged_rest, rest_fits};
 ghost use Rattle.room.specs.Layout.{waiting_of, RoomWf};
 ghost use Rattle.lists.specs.Rest as lists;
@@ -11,12 +11,12 @@ ghost use Rattle.staging.specs.Staging.{Ready};
 ghost use Rattle.staging.specs.Modes.{call_by, Given, Worked};
 ghost use Rattle.merging.specs.Growth.{kept_behind, Grown, Waitable, RestBecomes, Taken};
 
-use crate::ends::{lists_fit, refuse};
+use crate::ends::lists_fit;
 use crate::growth::grow_merged;
-use contexts::{Answer, WAITING_BYTES_FROM, WAITING_BYTES_TO, WAITING_FROM, WAITING_TO};
+use contexts::{WAITING_BYTES_FROM, WAITING_BYTES_TO, WAITING_FROM, WAITING_TO};
 use lists::MAX_TOMBSTONES;
 use parts::{count_finals, keep_finals, room_fits, take_parts};
-use pipe_log::causes::{FILES_GO_BACK, LIMIT_PASSED};
+use pipe_log::{Cause, Refusal};
 use staging::{Flags, begin, copy_room, seal, stage_all};
 use worktable::Mode;
 
@@ -27,15 +27,11 @@ fn count_finished(xs: &[u64], bs: &[u8], ys: &[u64], cs: &[u8]) -> usize
     ensures value { result ≡ length (finished_tombs (context_of ys.now cs.now).waiting (context_of xs.now bs.now).waiting) }
     ensures upper_bound { result ≤ 4096 }
 {
-    let from = WAITING_FROM;
-    let to = WAITING_TO;
-    let start = WAITING_BYTES_FROM;
-    let end = WAITING_BYTES_TO;
     count_finals(
-        &xs[from..to],
-        &bs[start..end],
-        &ys[from..to],
-        &cs[start..end],
+        &xs[WAITING_FROM..WAITING_TO],
+        &bs[WAITING_BYTES_FROM..WAITING_BYTES_TO],
+        &ys[WAITING_FROM..WAITING_TO],
+        &cs[WAITING_BYTES_FROM..WAITING_BYTES_TO],
     )
 }
 
@@ -69,19 +65,13 @@ fn keep_finished(xs: &mut [u64], bs: &mut [u8], ys: &[u64], cs: &[u8])
     let mut ws = [0u64; room::NUMBERS];
     let mut vs = [0u8; room::BYTES];
     copy_room(xs, bs, &mut ws, &mut vs);
-    let a = groups::NUMBERS;
-    let c = groups::BYTES;
-    let from = WAITING_FROM;
-    let to = WAITING_TO;
-    let start = WAITING_BYTES_FROM;
-    let end = WAITING_BYTES_TO;
     keep_finals(
-        &mut xs[a..],
-        &mut bs[c..],
+        &mut xs[groups::NUMBERS..],
+        &mut bs[groups::BYTES..],
         &ws,
         &vs,
-        &ys[from..to],
-        &cs[start..end],
+        &ys[WAITING_FROM..WAITING_TO],
+        &cs[WAITING_BYTES_FROM..WAITING_BYTES_TO],
     );
 }
 
@@ -90,8 +80,8 @@ fn put_room(xs: &mut [u64], bs: &mut [u8], ws: &[u64], vs: &[u8])
     requires { (length xs.old ≡ 17231) × (length bs.old ≡ 38912) × (length ws.now ≡ 3490) × (length vs.now ≡ 8192) }
     ensures { (xs.new ≡ put xs.old 10019 ws.now) × (bs.new ≡ put bs.old 20480 vs.now) }
 {
-    cells::copy_in_u64(xs, WAITING_FROM, ws);
-    cells::copy_in_u8(bs, WAITING_BYTES_FROM, vs);
+    cells::copy_in(xs, WAITING_FROM, ws);
+    cells::copy_in(bs, WAITING_BYTES_FROM, vs);
 }
 
 // The lists of both, the tombstones that finish behind them, and what waits.
@@ -126,28 +116,25 @@ fn end_waiting(
     ws: &[u64],
     vs: &[u8],
     flags: Flags,
-) -> Answer
+) -> Result<(), Refusal>
     requires given { Given Mode.Rewrite xs.old bs.old ys.now cs.now }
     requires ready { Ready xs.old bs.old }
     requires worked { Worked Mode.Rewrite flags xs.old bs.old ys.now cs.now }
-    requires bs_value { waiting_after (context_of ys.now cs.now).waiting (context_of xs.old bs.old).waiting ≡ ok (waiting_of ws.now vs.now) }
+    requires bs_value { waiting_after (context_of ys.now cs.now).waiting (context_of xs.old bs.old).waiting ≡ Ok (waiting_of ws.now vs.now) }
     requires room_wf { RoomWf 16 ws.now vs.now }
     ensures { Answered (call_by Mode.Rewrite (context_of ys.now cs.now)) xs.old bs.old result xs.new bs.new }
 {
     if flags.clashed {
-        return refuse(FILES_GO_BACK);
+        return Err(Cause::FilesGoBack.into());
     }
-    if flags.passed {
-        return refuse(LIMIT_PASSED);
-    }
-    if !rest_fits(xs, bs, ys, cs, ws) {
-        return refuse(LIMIT_PASSED);
+    if flags.passed || !rest_fits(xs, bs, ys, cs, ws) {
+        return Err(Cause::LimitPassed.into());
     }
     take_waiting(xs, bs, ys, cs, ws, vs);
-    Answer::Accepted
+    Ok(())
 }
 
-// Makes ws, vs the room of what waits after the merge; false if files go back.
+// Makes ws, vs the room of what waits after the merge, unless files go back.
 fn accept_waiting(
     xs: &[u64],
     bs: &[u8],
@@ -155,22 +142,29 @@ fn accept_waiting(
     cs: &[u8],
     ws: &mut [u64],
     vs: &mut [u8],
-) -> bool
+) -> Result<(), Cause>
     requires wf { Wf xs.now bs.now }
     requires wf_2 { Wf ys.now cs.now }
     requires ws_len { (length ws.old ≡ 3490) × (length vs.old ≡ 8192) }
     ensures { PartsTaken (waiting_after (context_of ys.now cs.now).waiting (context_of xs.now bs.now).waiting) result ws.new vs.new }
 {
     copy_room(xs, bs, ws, vs);
-    let from = WAITING_FROM;
-    let to = WAITING_TO;
-    let start = WAITING_BYTES_FROM;
-    let end = WAITING_BYTES_TO;
-    take_parts(ws, vs, &ys[from..to], &cs[start..end])
+    take_parts(
+        ws,
+        vs,
+        &ys[WAITING_FROM..WAITING_TO],
+        &cs[WAITING_BYTES_FROM..WAITING_BYTES_TO],
+    )
 }
 
 // Ends a merge of Rewrite contexts whose groups are staged. Files that go back go before all else.
-fn finish_waiting(xs: &mut [u64], bs: &mut [u8], ys: &[u64], cs: &[u8], flags: Flags) -> Answer
+fn finish_waiting(
+    xs: &mut [u64],
+    bs: &mut [u8],
+    ys: &[u64],
+    cs: &[u8],
+    flags: Flags,
+) -> Result<(), Refusal>
     requires given { Given Mode.Rewrite xs.old bs.old ys.now cs.now }
     requires ready { Ready xs.old bs.old }
     requires worked { Worked Mode.Rewrite flags xs.old bs.old ys.now cs.now }
@@ -178,14 +172,12 @@ fn finish_waiting(xs: &mut [u64], bs: &mut [u8], ys: &[u64], cs: &[u8], flags: F
 {
     let mut ws = [0u64; room::NUMBERS];
     let mut vs = [0u8; room::BYTES];
-    if !accept_waiting(xs, bs, ys, cs, &mut ws, &mut vs) {
-        return refuse(FILES_GO_BACK);
-    }
+    accept_waiting(xs, bs, ys, cs, &mut ws, &mut vs)?;
     end_waiting(xs, bs, ys, cs, &ws, &vs, flags)
 }
 
 // Carries out a merge of Rewrite contexts.
-pub fn carry_waiting(xs: &mut [u64], bs: &mut [u8], ys: &[u64], cs: &[u8]) -> Answer
+pub fn carry_waiting(xs: &mut [u64], bs: &mut [u8], ys: &[u64], cs: &[u8]) -> Result<(), Refusal>
     requires { Given Mode.Rewrite xs.old bs.old ys.now cs.now }
     ensures { Called (call_by Mode.Rewrite (context_of ys.now cs.now)) xs.old bs.old result xs.new bs.new }
 {

@@ -1,7 +1,7 @@
 -- The ways of counting the tombstones among the items that finish. Assumes nothing.
 use mathlib.Core.Bool.{true, false}
 use mathlib.Core.List.{List, [], ◌∷◌}
-use mathlib.Core.Option.{some}
+use Rattle.std.specs.Prelude.{Option, None, Some}
 use mathlib.Core.Path.{◌≡◌, refl, sym, ap, ◌∙◌, subst}
 use Prim.Native.Nat.{ℕ, suc, ◌+◌, ◌*◌, ◌≤◌, ◌<◌}
 use native.Mathlib.Nat.{zero-add}
@@ -25,9 +25,6 @@ use Rattle.stores.specs.Tags.{store_tagged, items_with}
 use Rattle.room.specs.Rooms.{head_at, group_in, parts_of, waiting_in}
 use Rattle.room.specs.Layout.{room_of, waiting_of, tagged, RoomWf}
 use Rattle.parts.specs.declared.Ending.{Ending}
-use Rattle.parts.specs.declared.Finishing.{Finishing}
-use Rattle.parts.specs.declared.Finishing.TheVariants as finishing
-use Rattle.parts.specs.declared.Bound as bound
 use Rattle.parts.specs.Finishings.{finished_as}
 use Rattle.parts.specs.Finals.{tombs_of, finished_in}
 use Rattle.parts.specs.Walks.{beyond_of, Least}
@@ -76,12 +73,12 @@ count-end s a ts v n count t j all h e =
 
 -- ---- a group
 
-module _ (g : ℕ) (ws vs us ds : List ℕ) (w : RoomWf 16 ws vs) (u : RoomWf 16 us ds) (r : Finishing) (is : (ys es : List ℕ) → RoomWf 16 ws ys → RoomWf 16 us es → finished_in g ws ys us es ≡ finished_as r (tagged ws ys) (tagged us es)) where
-  pub group-none : r ≡ finishing.None → 0 ≡ length (tombs_in (finished_in g ws vs us ds))
+module _ (g : ℕ) (ws vs us ds : List ℕ) (w : RoomWf 16 ws vs) (u : RoomWf 16 us ds) (r : Option Ending) (is : (ys es : List ℕ) → RoomWf 16 ws ys → RoomWf 16 us es → finished_in g ws ys us es ≡ finished_as r (tagged ws ys) (tagged us es)) where
+  pub group-none : r ≡ None → 0 ≡ length (tombs_in (finished_in g ws vs us ds))
   unfolding tombs_in
   group-none e = rw (is vs ds w u, e) (unfold finished_as or_else in refl)
 
-  pub group-some : (e : Ending) → r ≡ finishing.Of e → (m n : ℕ) → m ≡ length (tombs_of (items_with e.older (tagged ws vs))) → n ≡ length (tombs_of (items_with e.newer (tagged us ds))) → m + n ≡ length (tombs_in (finished_in g ws vs us ds))
+  pub group-some : (e : Ending) → r ≡ Some e → (m n : ℕ) → m ≡ length (tombs_of (items_with e.older (tagged ws vs))) → n ≡ length (tombs_of (items_with e.newer (tagged us ds))) → m + n ≡ length (tombs_in (finished_in g ws vs us ds))
   unfolding tombs_in tombs_of
   group-some e q m n a b =
       rw (is vs ds w u, q)
@@ -92,7 +89,7 @@ module _ (g : ℕ) (ws vs us ds : List ℕ) (w : RoomWf 16 ws vs) (u : RoomWf 16
 -- ---- all groups
 
 -- the groups so far are counted
-pub record Counting (count i : ℕ) (b : bound.Bound) (ws vs us ds : List ℕ) : Type 0 where
+pub record Counting (count i : ℕ) (b : Option ℕ) (ws vs us ds : List ℕ) : Type 0 where
   pub turns : i ≤ 16
   pub left : length (beyond_of b (waiting_of us ds)) + i ≤ 16
   pub few : count ≤ i * 256
@@ -102,9 +99,9 @@ pub tombs-nil : (o : Map ℕ (List Part)) → finished_tombs [] o ≡ []
 unfolding finished_tombs
 tombs-nil o = refl
 
-tombs-cons : (g : ℕ) (ps : List Part) (w o : Map ℕ (List Part)) → length (finished_tombs (pair g ps ∷ w) o) ≡ length (tombs_in (finished_of (some ps) (lookup numbers g o))) + length (finished_tombs w o)
+tombs-cons : (g : ℕ) (ps : List Part) (w o : Map ℕ (List Part)) → length (finished_tombs (pair g ps ∷ w) o) ≡ length (tombs_in (finished_of (Some ps) (lookup numbers g o))) + length (finished_tombs w o)
 unfolding finished_tombs
-tombs-cons g ps w o = length-append (tombs_in (finished_of (some ps) (lookup numbers g o))) (finished_tombs w o)
+tombs-cons g ps w o = length-append (tombs_in (finished_of (Some ps) (lookup numbers g o))) (finished_tombs w o)
 
 nothing_left : (w o : Map ℕ (List Part)) → w ≡ [] → length (finished_tombs w o) ≡ 0
 nothing_left w o e = ap (λ (x : Map ℕ (List Part)). length (finished_tombs x o)) e ∙ ap length (tombs-nil o)
@@ -114,7 +111,7 @@ module _ (ws vs us ds : List ℕ) (u : RoomWf 16 us ds) where
   unfolding waiting_of waiting_in room_of
   few-groups = let n = cells_count us ds u in let m = length-le (Rattle.room.specs.Rooms.cells_of (part 2 160 us) (tagged us ds)) in omega (arith, n, m)
 
-  pub counting-none : Counting 0 0 bound.TheVariants.All ws vs us ds
+  pub counting-none : Counting 0 0 None ws vs us ds
   counting-none =
       let q = walked_all (waiting_of us ds) in
       let l = few-groups in
@@ -125,7 +122,7 @@ module _ (ws vs us ds : List ℕ) (u : RoomWf 16 us ds) where
         whole = rw q (zero-add _);
       }
 
-  module _ (count i : ℕ) (b : bound.Bound) (c : Counting count i b ws vs us ds) where
+  module _ (count i : ℕ) (b : Option ℕ) (c : Counting count i b ws vs us ds) where
     pub counted-out : i ≡ 16 → count ≡ length (finished_tombs (waiting_of us ds) (waiting_of ws vs))
     counted-out e =
         let l = c.left in
@@ -145,15 +142,15 @@ module _ (ws vs us ds : List ℕ) (u : RoomWf 16 us ds) where
           let z = nothing_left (beyond_of b (waiting_of us ds)) (waiting_of ws vs) (none_left b us ds u k l (omega (arith, m, h))) in
           omega (arith, w, z)
 
-      pub counted-more : k < 16 → i < 16 → (g n : ℕ) → g ≡ get_or us (2 + k * 10 + 1) 0 → n ≡ length (tombs_in (finished_in g ws vs us ds)) → n ≤ 256 → Counting (count + n) (i + 1) (bound.TheVariants.Above g) ws vs us ds
+      pub counted-more : k < 16 → i < 16 → (g n : ℕ) → g ≡ get_or us (2 + k * 10 + 1) 0 → n ≡ length (tombs_in (finished_in g ws vs us ds)) → n ≤ 256 → Counting (count + n) (i + 1) (Some g) ws vs us ds
       unfolding group_in
       counted-more h j g n e q few =
           let same : group_in (head_at k (part 2 160 us)) ≡ g = in_cell us k 1 h (omega arith) ∙ sym e in
-          let nx = subst (λ (y : ℕ). beyond_of b (waiting_of us ds) ≡ pair y (parts_of (head_at k (part 2 160 us)) (tagged us ds)) ∷ beyond_of (bound.TheVariants.Above y) (waiting_of us ds)) same (next-is b us ds u k l h) in
-          let lk : lookup numbers g (waiting_of us ds) ≡ some (parts_of (head_at k (part 2 160 us)) (tagged us ds)) = subst (λ (y : ℕ). lookup numbers y (waiting_of us ds) ≡ some (parts_of (head_at k (part 2 160 us)) (tagged us ds))) same (next-lookup b us ds u k l h) in
-          let a : length (beyond_of b (waiting_of us ds)) ≡ suc (length (beyond_of (bound.TheVariants.Above g) (waiting_of us ds))) = ap length nx in
-          let m : n ≡ length (tombs_in (finished_of (some (parts_of (head_at k (part 2 160 us)) (tagged us ds))) (lookup numbers g (waiting_of ws vs)))) = q ∙ ap (λ o. length (tombs_in (finished_of o (lookup numbers g (waiting_of ws vs))))) lk in
-          let t : length (finished_tombs (beyond_of b (waiting_of us ds)) (waiting_of ws vs)) ≡ n + length (finished_tombs (beyond_of (bound.TheVariants.Above g) (waiting_of us ds)) (waiting_of ws vs)) = ap (λ (x : Map ℕ (List Part)). length (finished_tombs x (waiting_of ws vs))) nx ∙ tombs-cons g _ _ (waiting_of ws vs) ∙ rw (← m) in
+          let nx = subst (λ (y : ℕ). beyond_of b (waiting_of us ds) ≡ pair y (parts_of (head_at k (part 2 160 us)) (tagged us ds)) ∷ beyond_of (Some y) (waiting_of us ds)) same (next-is b us ds u k l h) in
+          let lk : lookup numbers g (waiting_of us ds) ≡ Some (parts_of (head_at k (part 2 160 us)) (tagged us ds)) = subst (λ (y : ℕ). lookup numbers y (waiting_of us ds) ≡ Some (parts_of (head_at k (part 2 160 us)) (tagged us ds))) same (next-lookup b us ds u k l h) in
+          let a : length (beyond_of b (waiting_of us ds)) ≡ suc (length (beyond_of (Some g) (waiting_of us ds))) = ap length nx in
+          let m : n ≡ length (tombs_in (finished_of (Some (parts_of (head_at k (part 2 160 us)) (tagged us ds))) (lookup numbers g (waiting_of ws vs)))) = q ∙ ap (λ o. length (tombs_in (finished_of o (lookup numbers g (waiting_of ws vs))))) lk in
+          let t : length (finished_tombs (beyond_of b (waiting_of us ds)) (waiting_of ws vs)) ≡ n + length (finished_tombs (beyond_of (Some g) (waiting_of us ds)) (waiting_of ws vs)) = ap (λ (x : Map ℕ (List Part)). length (finished_tombs x (waiting_of ws vs))) nx ∙ tombs-cons g _ _ (waiting_of ws vs) ∙ rw (← m) in
           let l0 = c.left in
           let f0 = c.few in
           let w0 = c.whole in

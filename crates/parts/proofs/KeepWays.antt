@@ -1,7 +1,7 @@
 -- The ways of keeping the tombstones among the items that finish. Assumes nothing.
 use mathlib.Core.Bool.{true, false}
 use mathlib.Core.List.{List, [], ◌∷◌, ◌++◌, append-nil, append_assoc}
-use mathlib.Core.Option.{Option, some}
+use Rattle.std.specs.Prelude.{None, Option, Some}
 use mathlib.Core.Path.{◌≡◌, refl, sym, ap, ◌∙◌, subst}
 use Prim.Native.Nat.{ℕ, suc, ◌+◌, ◌*◌, ◌≤◌, ◌<◌}
 use native.Mathlib.Omega.{arith}
@@ -30,9 +30,6 @@ use Rattle.lists.specs.Laws.{lengths, behind-then, keeps_all, keeps_then}
 use Rattle.room.specs.Rooms.{head_at, group_in, parts_of}
 use Rattle.room.specs.Layout.{waiting_of, tagged, RoomWf}
 use Rattle.parts.specs.declared.Ending.{Ending}
-use Rattle.parts.specs.declared.Finishing.{Finishing}
-use Rattle.parts.specs.declared.Finishing.TheVariants as finishing
-use Rattle.parts.specs.declared.Bound as bound
 use Rattle.parts.specs.Finishings.{finished_as}
 use Rattle.parts.specs.Finals.{tombs_of, finished_in, Keeping}
 use Rattle.parts.specs.Walks.{beyond_of, Least}
@@ -147,15 +144,15 @@ kept-tag s a ts v n t j ys cs ys' cs' h k = keeping_all _ _ ys cs ys' cs' (end_i
 
 -- ---- a group
 
-module _ (g : ℕ) (ws vs us ds : List ℕ) (w : RoomWf 16 ws vs) (u : RoomWf 16 us ds) (r : Finishing) (is : (ys es : List ℕ) → RoomWf 16 ws ys → RoomWf 16 us es → finished_in g ws ys us es ≡ finished_as r (tagged ws ys) (tagged us es)) (ys cs : List ℕ) (f : lists.Wf ys cs) where
-  none-there : r ≡ finishing.None → tombs_in (finished_in g ws vs us ds) ≡ []
+module _ (g : ℕ) (ws vs us ds : List ℕ) (w : RoomWf 16 ws vs) (u : RoomWf 16 us ds) (r : Option Ending) (is : (ys es : List ℕ) → RoomWf 16 ws ys → RoomWf 16 us es → finished_in g ws ys us es ≡ finished_as r (tagged ws ys) (tagged us es)) (ys cs : List ℕ) (f : lists.Wf ys cs) where
+  none-there : r ≡ None → tombs_in (finished_in g ws vs us ds) ≡ []
   unfolding tombs_in
   none-there e = rw (is vs ds w u, e) (unfold finished_as or_else in refl)
 
-  pub kept-none : r ≡ finishing.None → TombstonesAdded (tombs_in (finished_in g ws vs us ds)) ys cs ys cs
+  pub kept-none : r ≡ None → TombstonesAdded (tombs_in (finished_in g ws vs us ds)) ys cs ys cs
   kept-none e = subst (λ (l : List rules.LogItem). TombstonesAdded l ys cs ys cs) (sym (none-there e)) (added_none ys cs f)
 
-  module _ (e : Ending) (q : r ≡ finishing.Of e) where
+  module _ (e : Ending) (q : r ≡ Some e) where
     abbrev older : List rules.LogItem
     older = tombs_of (items_with e.older (tagged ws vs))
 
@@ -183,7 +180,7 @@ module _ (g : ℕ) (ws vs us ds : List ℕ) (w : RoomWf 16 ws vs) (u : RoomWf 16
 -- ---- all groups
 
 -- those of the groups so far are kept
-pub record KeepingAll (i : ℕ) (b : bound.Bound) (ws vs us ds ys cs ys' cs' : List ℕ) : Type 0 where
+pub record KeepingAll (i : ℕ) (b : Option ℕ) (ws vs us ds ys cs ys' cs' : List ℕ) : Type 0 where
   pub turns : i ≤ 16
   pub left : length (beyond_of b (waiting_of us ds)) + i ≤ 16
   pub front : List rules.LogItem
@@ -191,7 +188,7 @@ pub record KeepingAll (i : ℕ) (b : bound.Bound) (ws vs us ds ys cs ys' cs' : L
   pub added : TombstonesAdded front ys cs ys' cs'
   pub room : get_or ys' 1 0 + length (finished_tombs (beyond_of b (waiting_of us ds)) (waiting_of ws vs)) ≤ 64
 
-tombs-cons : (g : ℕ) (ps : List Part) (w o : Map ℕ (List Part)) → finished_tombs (pair g ps ∷ w) o ≡ tombs_in (finished_of (some ps) (lookup numbers g o)) ++ finished_tombs w o
+tombs-cons : (g : ℕ) (ps : List Part) (w o : Map ℕ (List Part)) → finished_tombs (pair g ps ∷ w) o ≡ tombs_in (finished_of (Some ps) (lookup numbers g o)) ++ finished_tombs w o
 unfolding finished_tombs
 tombs-cons g ps w o = refl
 
@@ -203,7 +200,7 @@ module _ (ws vs us ds : List ℕ) (u : RoomWf 16 us ds) (ys cs : List ℕ) (f : 
   abbrev all : List rules.LogItem
   all = finished_tombs (waiting_of us ds) (waiting_of ws vs)
 
-  pub keeping_start : get_or ys 1 0 + length all ≤ 64 → KeepingAll 0 bound.TheVariants.All ws vs us ds ys cs ys cs
+  pub keeping_start : get_or ys 1 0 + length all ≤ 64 → KeepingAll 0 None ws vs us ds ys cs ys cs
   keeping_start h =
       let q = walked_all (waiting_of us ds) in
       let l = few-groups ws vs us ds u in
@@ -216,7 +213,7 @@ module _ (ws vs us ds : List ℕ) (u : RoomWf 16 us ds) (ys cs : List ℕ) (f : 
         room = rw q h;
       }
 
-  module _ (i : ℕ) (b : bound.Bound) (ys' cs' : List ℕ) (c : KeepingAll i b ws vs us ds ys cs ys' cs') where
+  module _ (i : ℕ) (b : Option ℕ) (ys' cs' : List ℕ) (c : KeepingAll i b ws vs us ds ys cs ys' cs') where
     ended : beyond_of b (waiting_of us ds) ≡ [] → TombstonesAdded all ys cs ys' cs'
     ended e =
         let q : all ≡ c.front = c.whole ∙ ap (λ (l : List rules.LogItem). c.front ++ l) (ap (λ (m : Map ℕ (List Part)). finished_tombs m (waiting_of ws vs)) e ∙ tombs-nil (waiting_of ws vs)) ∙ append-nil c.front in
@@ -237,30 +234,30 @@ module _ (ws vs us ds : List ℕ) (u : RoomWf 16 us ds) (ys cs : List ℕ) (f : 
         unfolding group_in
         same = in_cell us k 1 h (omega arith) ∙ sym e
 
-        nx : beyond_of b (waiting_of us ds) ≡ pair g ps ∷ beyond_of (bound.TheVariants.Above g) (waiting_of us ds)
-        nx = subst (λ (y : ℕ). beyond_of b (waiting_of us ds) ≡ pair y ps ∷ beyond_of (bound.TheVariants.Above y) (waiting_of us ds)) same (next-is b us ds u k l h)
+        nx : beyond_of b (waiting_of us ds) ≡ pair g ps ∷ beyond_of (Some g) (waiting_of us ds)
+        nx = subst (λ (y : ℕ). beyond_of b (waiting_of us ds) ≡ pair y ps ∷ beyond_of (Some y) (waiting_of us ds)) same (next-is b us ds u k l h)
 
-        lk : lookup numbers g (waiting_of us ds) ≡ some ps
-        lk = subst (λ (y : ℕ). lookup numbers y (waiting_of us ds) ≡ some ps) same (next-lookup b us ds u k l h)
+        lk : lookup numbers g (waiting_of us ds) ≡ Some ps
+        lk = subst (λ (y : ℕ). lookup numbers y (waiting_of us ds) ≡ Some ps) same (next-lookup b us ds u k l h)
 
-        group_here : finished_tombs (beyond_of b (waiting_of us ds)) (waiting_of ws vs) ≡ tombs_in (finished_in g ws vs us ds) ++ finished_tombs (beyond_of (bound.TheVariants.Above g) (waiting_of us ds)) (waiting_of ws vs)
+        group_here : finished_tombs (beyond_of b (waiting_of us ds)) (waiting_of ws vs) ≡ tombs_in (finished_in g ws vs us ds) ++ finished_tombs (beyond_of (Some g) (waiting_of us ds)) (waiting_of ws vs)
         group_here =
             ap (λ (m : Map ℕ (List Part)). finished_tombs m (waiting_of ws vs)) nx
             ∙ tombs-cons g ps _ (waiting_of ws vs)
-            ∙ ap (λ (o : Option (List Part)). tombs_in (finished_of o (lookup numbers g (waiting_of ws vs))) ++ finished_tombs (beyond_of (bound.TheVariants.Above g) (waiting_of us ds)) (waiting_of ws vs)) (sym lk)
+            ∙ ap (λ (o : Option (List Part)). tombs_in (finished_of o (lookup numbers g (waiting_of ws vs))) ++ finished_tombs (beyond_of (Some g) (waiting_of us ds)) (waiting_of ws vs)) (sym lk)
 
-        group-sums : length (finished_tombs (beyond_of b (waiting_of us ds)) (waiting_of ws vs)) ≡ length (tombs_in (finished_in g ws vs us ds)) + length (finished_tombs (beyond_of (bound.TheVariants.Above g) (waiting_of us ds)) (waiting_of ws vs))
+        group-sums : length (finished_tombs (beyond_of b (waiting_of us ds)) (waiting_of ws vs)) ≡ length (tombs_in (finished_in g ws vs us ds)) + length (finished_tombs (beyond_of (Some g) (waiting_of us ds)) (waiting_of ws vs))
         group-sums = ap length group_here ∙ length-append (tombs_in (finished_in g ws vs us ds)) _
 
         pub group-fits : get_or ys' 1 0 + length (tombs_in (finished_in g ws vs us ds)) ≤ 64
         group-fits = let s = group-sums in let r = c.room in omega (arith, s, r)
 
-        pub kept_more : i < 16 → (ys'' cs'' : List ℕ) → TombstonesAdded (tombs_in (finished_in g ws vs us ds)) ys' cs' ys'' cs'' → KeepingAll (i + 1) (bound.TheVariants.Above g) ws vs us ds ys cs ys'' cs''
+        pub kept_more : i < 16 → (ys'' cs'' : List ℕ) → TombstonesAdded (tombs_in (finished_in g ws vs us ds)) ys' cs' ys'' cs'' → KeepingAll (i + 1) (Some g) ws vs us ds ys cs ys'' cs''
         kept_more j ys'' cs'' k =
             let s = group-sums in
             let r = c.room in
             let l0 = c.left in
-            let a : length (beyond_of b (waiting_of us ds)) ≡ suc (length (beyond_of (bound.TheVariants.Above g) (waiting_of us ds))) = ap length nx in
+            let a : length (beyond_of b (waiting_of us ds)) ≡ suc (length (beyond_of (Some g) (waiting_of us ds))) = ap length nx in
             let p = count-after (tombs_in (finished_in g ws vs us ds)) ys' cs' ys'' cs'' c.added.wf k in
             record {
               turns = omega arith;

@@ -1,7 +1,7 @@
 -- The ways of finding what finishes: the heads of two cells tell, and a group's cell is what the map has of it. Assumes nothing.
 use mathlib.Core.Bool.{true, false, not, cond}
 use mathlib.Core.List.{List, [], ◌∷◌, ◌++◌}
-use mathlib.Core.Option.{Option, none, some}
+use Rattle.std.specs.Prelude.{Option, None, Some}
 use mathlib.Core.Path.{◌≡◌, refl, sym, ap, ◌∙◌}
 use Prim.Native.Nat.{ℕ, ◌+◌, ◌*◌, ◌≤◌, ◌<◌}
 use native.Mathlib.Numerals.{add-one}
@@ -32,8 +32,7 @@ use Rattle.waiting.specs.declared.Place as place
 use Rattle.waiting.specs.declared.Step as step
 use Rattle.waiting.specs.Steps.{is_of, step_of, stepped, AtCell, Found}
 use Rattle.waiting.specs.StepLaws.{accept_step}
-use Rattle.parts.specs.declared.Finishing.{Finishing}
-use Rattle.parts.specs.declared.Finishing.TheVariants as finishing
+use Rattle.parts.specs.declared.Ending.{Ending}
 use Rattle.parts.specs.Finishings.{finished_as, oldest_at, oldest, is_finish, has_items}
 use Rattle.parts.specs.ItemLaws.{enough-tags, count_all, tag_at, an_item}
 use Rattle.parts.specs.CellLaws.{in_cell, count-is, cells_count, cell_at_lem}
@@ -88,13 +87,13 @@ oldest-few : (h : List ℕ) → oldest_at h ≤ 6
 unfolding oldest_at
 oldest-few h = split (eqb (count_in h) 1) (λ e. rw e (omega arith)) (λ e. rw e (omega arith))
 
-last-is : (h : List ℕ) (xs : List Tagged) → last (parts_of h xs) ≡ some (oldest h xs)
+last-is : (h : List ℕ) (xs : List Tagged) → last (parts_of h xs) ≡ Some (oldest h xs)
 unfolding parts_of oldest last
 last-is h xs = split (eqb (count_in h) 1) (λ e. rw e) (λ e. rw e)
 
 -- ---- what the heads tell
 
-finished_by_lem : (s : step.Step) (p : Part) (ps : List Part) (new : Part) → finished_by new (stepped s p ps new) ≡ cond (is_finish s) (some (record { items = p.items ++ new.items; span = record { start = p.start; end = new.end } })) none
+finished_by_lem : (s : step.Step) (p : Part) (ps : List Part) (new : Part) → finished_by new (stepped s p ps new) ≡ cond (is_finish s) (Some (record { items = p.items ++ new.items; span = record { start = p.start; end = new.end } })) None
 unfolding stepped finished_by is_finish
 finished_by_lem step.TheVariants.Replace p ps new = refl
 finished_by_lem step.TheVariants.Front p ps new = refl
@@ -111,10 +110,10 @@ accept-head h xs st new e = accept_step (newest h xs) new _ st (get_or h 3 0) (u
 abbrev told : ℕ → List ℕ → List ℕ → List Tagged → List Tagged → Option Finished
 told i g h xs ys =
     cond (is_finish (step_of (get_or g (i + 1) 0) (get_or g (i + 2) 0) h))
-    (some (record { items = items_with (get_or h 2 0) xs ++ items_with (get_or g i 0) ys; span = record { start = get_or h 4 0; end = get_or g (i + 3) 0 } }))
-    none
+    (Some (record { items = items_with (get_or h 2 0) xs ++ items_with (get_or g i 0) ys; span = record { start = get_or h 4 0; end = get_or g (i + 3) 0 } }))
+    None
 
-heads-tell : (g h : List ℕ) (xs ys : List Tagged) → finished_of (some (parts_of g ys)) (some (parts_of h xs)) ≡ told (oldest_at g) g h xs ys
+heads-tell : (g h : List ℕ) (xs ys : List Tagged) → finished_of (Some (parts_of g ys)) (Some (parts_of h xs)) ≡ told (oldest_at g) g h xs ys
 unfolding finished_of group.parts_of or_else
 heads-tell g h xs ys =
     let p = part_at (oldest_at g) g ys in
@@ -142,17 +141,17 @@ module _ (ws us : List ℕ) (k j at : ℕ) (hk : k < 16) (hj : j < 16) (e : at �
   step_is : step_of (get_or newer-head (oldest_at newer-head + 1) 0) (get_or newer-head (oldest_at newer-head + 2) 0) older-head ≡ s
   step_is = rw (from_cell 1 (omega arith), from_cell 2 (omega arith)) (sym es)
 
-  pub none-finishes : is_finish s ≡ false → finished_of (some (parts_of newer-head ys)) (some (parts_of older-head xs)) ≡ finished_as finishing.None xs ys
+  pub none-finishes : is_finish s ≡ false → finished_of (Some (parts_of newer-head ys)) (Some (parts_of older-head xs)) ≡ finished_as None xs ys
   unfolding finished_as
   none-finishes f = heads-tell newer-head older-head xs ys ∙ rw (step_is, f)
 
-  pub one-finishes : is_finish s ≡ true → finished_of (some (parts_of newer-head ys)) (some (parts_of older-head xs)) ≡ finished_as (finishing.Of (record { older = get_or ws (2 + k * 10 + 2) 0; newer = get_or us at 0; start = get_or ws (2 + k * 10 + 4) 0; end = get_or us (at + 3) 0 })) xs ys
+  pub one-finishes : is_finish s ≡ true → finished_of (Some (parts_of newer-head ys)) (Some (parts_of older-head xs)) ≡ finished_as (Some (record { older = get_or ws (2 + k * 10 + 2) 0; newer = get_or us at 0; start = get_or ws (2 + k * 10 + 4) 0; end = get_or us (at + 3) 0 })) xs ys
   unfolding finished_as
   one-finishes f = heads-tell newer-head older-head xs ys ∙ rw (step_is, f, in_cell ws k 2 hk (omega arith), in_cell ws k 4 hk (omega arith), tag_is, from_cell 3 (omega arith))
 
 -- ---- a group's cell is what the map has of it
 
-cell-is : (g : ℕ) (h : List ℕ) (xs : List Tagged) → is_of g h ≡ true → cell_of h xs ≡ some (pair g (parts_of h xs))
+cell-is : (g : ℕ) (h : List ℕ) (xs : List Tagged) → is_of g h ≡ true → cell_of h xs ≡ Some (pair g (parts_of h xs))
 unfolding is_of cell_of
 cell-is g h xs e =
     let n = not-true (eqb (count_in h) 0) (both_left (not (eqb (count_in h) 0)) (eqb (group_in h) g) e) in
@@ -171,13 +170,13 @@ module _ (ws vs : List ℕ) (w : RoomWf 16 ws vs) where
   abbrev heads : List ℕ
   heads = part 2 160 ws
 
-  pub lookup-cell : (g k : ℕ) → k < 16 → is_of g (head_at k heads) ≡ true → lookup numbers g (waiting_of ws vs) ≡ some (parts_of (head_at k heads) (tagged ws vs))
+  pub lookup-cell : (g k : ℕ) → k < 16 → is_of g (head_at k heads) ≡ true → lookup numbers g (waiting_of ws vs) ≡ Some (parts_of (head_at k heads) (tagged ws vs))
   unfolding waiting_of waiting_in room_of
   lookup-cell g k l e =
       let n = cells_count ws vs w in
       lookup_at (cells_of heads (tagged ws vs)) k g (parts_of (head_at k heads) (tagged ws vs)) w.wf.distinct (omega (arith, n)) (cell_at_lem ws vs w k l ∙ cell-is g (head_at k heads) (tagged ws vs) e)
 
-  pub lookup_no-cell : (g : ℕ) → ((j : ℕ) → j < 16 → is_of g (head_at j heads) ≡ false) → lookup numbers g (waiting_of ws vs) ≡ none
+  pub lookup_no-cell : (g : ℕ) → ((j : ℕ) → j < 16 → is_of g (head_at j heads) ≡ false) → lookup numbers g (waiting_of ws vs) ≡ None
   unfolding waiting_of waiting_in room_of
   lookup_no-cell g f =
       lookup_absent (cells_of heads (tagged ws vs)) g (λ i l.
@@ -201,29 +200,29 @@ module _ (g : ℕ) (hs : List ℕ) (p : place.Place) (f : Found g 16 hs p) where
 
 -- ---- both rooms
 
-pub none-older : (ps : List Part) → finished_of (some ps) none ≡ none
+pub none-older : (ps : List Part) → finished_of (Some ps) None ≡ None
 unfolding finished_of group.parts_of
 none-older ps =
     by_option (last ps)
     (λ e. unfold or_else in rw e)
     (λ p e. unfold or_else in rw e (unfold accept finished_by in refl))
 
-pub none-newer : (o : Option (List Part)) → finished_of none o ≡ none
+pub none-newer : (o : Option (List Part)) → finished_of None o ≡ None
 unfolding finished_of group.parts_of or_else last
 none-newer o = refl
 
 module _ (g : ℕ) (ws us : List ℕ) (j : ℕ) where
-  pub older-there : (k : ℕ) (r : Finishing) → AtCell g 16 (part 2 160 ws) k → ((xs ys : List Tagged) → finished_of (some (parts_of (head_at j (part 2 160 us)) ys)) (some (parts_of (head_at k (part 2 160 ws)) xs)) ≡ finished_as r xs ys) → (vs : List ℕ) (ys : List Tagged) → RoomWf 16 ws vs → finished_of (some (parts_of (head_at j (part 2 160 us)) ys)) (lookup numbers g (waiting_of ws vs)) ≡ finished_as r (tagged ws vs) ys
+  pub older-there : (k : ℕ) (r : Option Ending) → AtCell g 16 (part 2 160 ws) k → ((xs ys : List Tagged) → finished_of (Some (parts_of (head_at j (part 2 160 us)) ys)) (Some (parts_of (head_at k (part 2 160 ws)) xs)) ≡ finished_as r xs ys) → (vs : List ℕ) (ys : List Tagged) → RoomWf 16 ws vs → finished_of (Some (parts_of (head_at j (part 2 160 us)) ys)) (lookup numbers g (waiting_of ws vs)) ≡ finished_as r (tagged ws vs) ys
   older-there k r a f vs ys w = rw (lookup-cell ws vs w g k a.inside a.here) (f (tagged ws vs) ys)
 
-  pub older-absent : ((i : ℕ) → i < 16 → is_of g (head_at i (part 2 160 ws)) ≡ false) → (vs : List ℕ) (ys : List Tagged) → RoomWf 16 ws vs → finished_of (some (parts_of (head_at j (part 2 160 us)) ys)) (lookup numbers g (waiting_of ws vs)) ≡ finished_as finishing.None (tagged ws vs) ys
+  pub older-absent : ((i : ℕ) → i < 16 → is_of g (head_at i (part 2 160 ws)) ≡ false) → (vs : List ℕ) (ys : List Tagged) → RoomWf 16 ws vs → finished_of (Some (parts_of (head_at j (part 2 160 us)) ys)) (lookup numbers g (waiting_of ws vs)) ≡ finished_as None (tagged ws vs) ys
   unfolding finished_as
   older-absent f vs ys w = rw (lookup_no-cell ws vs w g f) (none-older (parts_of (head_at j (part 2 160 us)) ys))
 
-  pub newer-there : (r : Finishing) → AtCell g 16 (part 2 160 us) j → ((vs : List ℕ) (ys : List Tagged) → RoomWf 16 ws vs → finished_of (some (parts_of (head_at j (part 2 160 us)) ys)) (lookup numbers g (waiting_of ws vs)) ≡ finished_as r (tagged ws vs) ys) → (vs ds : List ℕ) → RoomWf 16 ws vs → RoomWf 16 us ds → finished_of (lookup numbers g (waiting_of us ds)) (lookup numbers g (waiting_of ws vs)) ≡ finished_as r (tagged ws vs) (tagged us ds)
+  pub newer-there : (r : Option Ending) → AtCell g 16 (part 2 160 us) j → ((vs : List ℕ) (ys : List Tagged) → RoomWf 16 ws vs → finished_of (Some (parts_of (head_at j (part 2 160 us)) ys)) (lookup numbers g (waiting_of ws vs)) ≡ finished_as r (tagged ws vs) ys) → (vs ds : List ℕ) → RoomWf 16 ws vs → RoomWf 16 us ds → finished_of (lookup numbers g (waiting_of us ds)) (lookup numbers g (waiting_of ws vs)) ≡ finished_as r (tagged ws vs) (tagged us ds)
   newer-there r a f vs ds w u = rw (lookup-cell us ds u g j a.inside a.here) (f vs (tagged us ds) w)
 
-pub newer-absent : (g : ℕ) (ws us : List ℕ) → ((i : ℕ) → i < 16 → is_of g (head_at i (part 2 160 us)) ≡ false) → (vs ds : List ℕ) → RoomWf 16 ws vs → RoomWf 16 us ds → finished_of (lookup numbers g (waiting_of us ds)) (lookup numbers g (waiting_of ws vs)) ≡ finished_as finishing.None (tagged ws vs) (tagged us ds)
+pub newer-absent : (g : ℕ) (ws us : List ℕ) → ((i : ℕ) → i < 16 → is_of g (head_at i (part 2 160 us)) ≡ false) → (vs ds : List ℕ) → RoomWf 16 ws vs → RoomWf 16 us ds → finished_of (lookup numbers g (waiting_of us ds)) (lookup numbers g (waiting_of ws vs)) ≡ finished_as None (tagged ws vs) (tagged us ds)
 unfolding finished_as
 newer-absent g ws us f vs ds w u = rw (lookup_no-cell us ds u g f) (none-newer (lookup numbers g (waiting_of ws vs)))
 

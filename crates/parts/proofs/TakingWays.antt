@@ -1,5 +1,5 @@
 -- The ways of newer parts that are accepted in the older room: a part, a cell, and all cells. Assumes nothing.
-use mathlib.Core.Bool.{Bool, true, false}
+use Rattle.std.specs.Prelude.{Option, None, Some}
 use mathlib.Core.List.{List, [], ◌∷◌}
 use mathlib.Core.Path.{◌≡◌, refl, sym, ap, ◌∙◌, subst}
 use Prim.Native.Nat.{ℕ, suc, ◌+◌, ◌*◌, ◌≤◌, ◌<◌}
@@ -9,7 +9,7 @@ use borrow.Author.Tests.{ne_eqb}
 use Rattle.cells.specs.Part.{part}
 use Rattle.maps.specs.Maps.{Pair, Map, lookup, numbers}
 use Rattle.maps.specs.MapLaws.{pair, Ascending}
-use Rattle.rules.specs.Causes.{Result, ok, refuse, and_then, files_go_back}
+use Rattle.rules.specs.Causes.{Cause, ByCause, Err, Result, Ok, refuse, and_then, FilesGoBack}
 use Rattle.rules.specs.Items.{status_of}
 use Rattle.rules.specs.Context.{Part}
 use Rattle.rules.specs.Waiting.{Accepted, wait, finish, back, accept, some_parts}
@@ -22,14 +22,12 @@ use Rattle.room.specs.Rooms as rooms
 use Rattle.room.specs.Layout.{store_of, room_of, waiting_of, tagged, RoomWf, ContextRoom}
 use Rattle.room.specs.ChangeLaws.{waiting-ascends}
 use Rattle.room.specs.LimitLaws.{fits-few}
-use Rattle.waiting.specs.declared.Accepted as accepted
 use Rattle.waiting.specs.Accepts.{parts_at}
 use Rattle.waiting.specs.Merges.{items_from, MergedAs, Joined, Finished, RoomFor}
 use Rattle.waiting.specs.Forms.{part_with}
-use Rattle.parts.specs.declared.Bound as bound
 use Rattle.parts.specs.Walks.{beyond_of, Least}
 use Rattle.parts.specs.CellLaws.{in_cell, count-is}
-use Rattle.parts.specs.Takings.{newer_part, Taken, GoesBack, TakenAs, newer_cell, RoomForAll, PartsTaken}
+use Rattle.parts.specs.Takings.{newer_part, Taken, PartRefused, TakenAs, newer_cell, RoomForAll, PartsTaken}
 use Rattle.parts.specs.TakingLaws.{one-taken, one-refused, two-taken, two-refused, room_here, room_next, room-one, room-older, room-newer}
 use Rattle.parts.proofs.WalkWays.{walked_all, none_left, next-is}
 use Rattle.parts.proofs.FinalWays.{few-groups}
@@ -41,36 +39,22 @@ by-accept : (g : ℕ) (new : Part) (ws vs : List ℕ) (a : Accepted) → accept 
 unfolding accept_part parts_of parts_at
 by-accept g new ws vs a e = ap waits e
 
-module _ (g at : ℕ) (us ds ws vs ws' vs' : List ℕ) (a : accepted.Accepted) (m : MergedAs g (part_with (get_or us (at + 1) 0) (items_from us ds (get_or us at 0)) (get_or us (at + 2) 0) (get_or us (at + 3) 0)) ws vs a ws' vs') where
+module _ (g at : ℕ) (us ds ws vs ws' vs' : List ℕ) where
   part-is : part_with (get_or us (at + 1) 0) (items_from us ds (get_or us at 0)) (get_or us (at + 2) 0) (get_or us (at + 3) 0) ≡ newer_part at us ds
   unfolding newer_part
   part-is = refl
 
-  pub part-waits : a ≡ accepted.TheVariants.Waits → TakenAs g (newer_part at us ds) ws vs true ws' vs'
-  part-waits e =
-      let k : Joined g (newer_part at us ds) ws vs ws' vs' = rw (e, part-is) at m in
+  pub part-taken : (a : Option ℕ) → MergedAs g (part_with (get_or us (at + 1) 0) (items_from us ds (get_or us at 0)) (get_or us (at + 2) 0) (get_or us (at + 3) 0)) ws vs (Ok a) ws' vs' → Taken g (newer_part at us ds) ws vs ws' vs'
+  part-taken None m =
+      let k : Joined g (newer_part at us ds) ws vs ws' vs' = rw part-is at m in
       record {
         parts = some_parts k.parts;
         accepts = by-accept g (newer_part at us ds) ws vs (wait k.parts) k.accepts ∙ (unfold waits in refl);
         waiting = k.waiting;
         room = k.room;
       }
-
-  pub part-passed : a ≡ accepted.TheVariants.Passed → TakenAs g (newer_part at us ds) ws vs true ws' vs'
-  part-passed e = absurd (rw e at m)
-
-  pub part_back : a ≡ accepted.TheVariants.Back → TakenAs g (newer_part at us ds) ws vs false ws' vs'
-  part_back e =
-      let k : (accept (parts_at g (waiting_of ws vs)) (newer_part at us ds) ≡ back) × (ws' ≡ ws) × (vs' ≡ vs) = rw (e, part-is) at m in
-      record {
-        refuses = by-accept g (newer_part at us ds) ws vs back k.0 ∙ (unfold waits in refl);
-        numbers-are = k.1;
-        bytes-are = k.2;
-      }
-
-  pub part-finishes : (i : ℕ) → a ≡ accepted.TheVariants.Finishes i → TakenAs g (newer_part at us ds) ws vs true ws' vs'
-  part-finishes i e =
-      let k : Finished g (newer_part at us ds) ws vs ws' vs' = rw (e, part-is) at m in
+  part-taken (Some i) m =
+      let k : Finished g (newer_part at us ds) ws vs ws' vs' = rw part-is at m in
       record {
         parts = some_parts k.others;
         accepts = by-accept g (newer_part at us ds) ws vs (finish k.old k.others) k.accepts ∙ (unfold waits in refl);
@@ -78,15 +62,24 @@ module _ (g at : ℕ) (us ds ws vs ws' vs' : List ℕ) (a : accepted.Accepted) (
         room = k.room;
       }
 
+  pub part-refused : (e : Cause) → MergedAs g (part_with (get_or us (at + 1) 0) (items_from us ds (get_or us at 0)) (get_or us (at + 2) 0) (get_or us (at + 3) 0)) ws vs (Err e) ws' vs' → PartRefused g (newer_part at us ds) e ws vs ws' vs'
+  part-refused e m =
+      let k : (e ≡ FilesGoBack) × (accept (parts_at g (waiting_of ws vs)) (newer_part at us ds) ≡ back) × (ws' ≡ ws) × (vs' ≡ vs) = rw part-is at m in
+      record {
+        refuses = rw k.0 (by-accept g (newer_part at us ds) ws vs back k.1 ∙ (unfold waits in refl));
+        numbers-are = k.2;
+        bytes-are = k.3;
+      }
+
 ascends : (ws vs : List ℕ) → Ascending numbers (waiting_of ws vs)
 unfolding waiting_of
 ascends ws vs = waiting-ascends (store_of ws) (room_of 16 ws vs)
 
 -- the part is its group's only one
-only-taken : (g : ℕ) (p : Part) (ws vs : List ℕ) (r : Bool) (ws' vs' : List ℕ) → TakenAs g p ws vs r ws' vs' → PartsTaken (accept_parts_of (pair g (p ∷ [])) (waiting_of ws vs)) r ws' vs'
-only-taken g p ws vs true ws' vs' t =
-    (one-taken g (waiting_of ws vs) p t.parts t.accepts ∙ ap (λ (m : Map ℕ (List Part)). ok m) (sym t.waiting), t.room)
-only-taken g p ws vs false ws' vs' t = one-refused g (waiting_of ws vs) p (refusal_of files_go_back) t.refuses
+only-taken : (g : ℕ) (p : Part) (ws vs : List ℕ) (r : ByCause (Unit {0})) (ws' vs' : List ℕ) → TakenAs g p ws vs r ws' vs' → PartsTaken (accept_parts_of (pair g (p ∷ [])) (waiting_of ws vs)) r ws' vs'
+only-taken g p ws vs (Ok _) ws' vs' t =
+    (one-taken g (waiting_of ws vs) p t.parts t.accepts ∙ ap (λ (m : Map ℕ (List Part)). Ok m) (sym t.waiting), t.room)
+only-taken g p ws vs (Err e) ws' vs' t = one-refused g (waiting_of ws vs) p (refusal_of e) t.refuses
 
 -- ---- a cell
 
@@ -149,7 +142,7 @@ module _ (us ds : List ℕ) (k : ℕ) (l : k < 16) where
       unfolding newer_part
       one-room h = room-one group newest_part ws vs (subst (λ (x : Pair ℕ (List Part)). RoomForAll (x ∷ []) (waiting_of ws vs)) cell-one h)
 
-      pub one-accepted : (r : Bool) (ws' vs' : List ℕ) → TakenAs group newest_part ws vs r ws' vs' → PartsTaken (accept_parts_of (newer_cell k us ds) (waiting_of ws vs)) r ws' vs'
+      pub one-accepted : (r : ByCause (Unit {0})) (ws' vs' : List ℕ) → TakenAs group newest_part ws vs r ws' vs' → PartsTaken (accept_parts_of (newer_cell k us ds) (waiting_of ws vs)) r ws' vs'
       one-accepted r ws' vs' t =
           subst (λ (x : Pair ℕ (List Part)). PartsTaken (accept_parts_of x (waiting_of ws vs)) r ws' vs') (sym cell-one) (only-taken group newest_part ws vs r ws' vs' t)
 
@@ -169,25 +162,21 @@ module _ (us ds : List ℕ) (k : ℕ) (l : k < 16) where
       unfolding newer_part
       older-room h = room-older group newest_part older_part ws vs (room_two h)
 
-      pub older_back : (r : Bool) (ws' vs' : List ℕ) → r ≡ false → TakenAs group older_part ws vs r ws' vs' → PartsTaken (accept_parts_of (newer_cell k us ds) (waiting_of ws vs)) false ws' vs'
-      older_back r ws' vs' f t =
-          let b : GoesBack group older_part ws vs ws' vs' = rw f at t in
+      pub older-refused : (e : Cause) (ws' vs' : List ℕ) → PartRefused group older_part e ws vs ws' vs' → accept_parts_of (newer_cell k us ds) (waiting_of ws vs) ≡ refuse e
+      older-refused e ws' vs' b =
           ap (λ (x : Pair ℕ (List Part)). accept_parts_of x (waiting_of ws vs)) cell_two
-          ∙ two-refused group (waiting_of ws vs) newest_part older_part (refusal_of files_go_back) b.refuses
+          ∙ two-refused group (waiting_of ws vs) newest_part older_part (refusal_of e) b.refuses
 
       -- the older part is accepted; the newest follows
-      module _ (r : Bool) (ws' vs' : List ℕ) (y : r ≡ true) (t : TakenAs group older_part ws vs r ws' vs') where
-        older-taken : Taken group older_part ws vs ws' vs'
-        older-taken = rw y at t
-
+      module _ (ws' vs' : List ℕ) (older-taken : Taken group older_part ws vs ws' vs') where
         pub older_wf : RoomWf 16 ws' vs'
         older_wf = older-taken.room
 
         pub newest-room : RoomForAll (newer_cell k us ds ∷ []) (waiting_of ws vs) → RoomFor group (items_from us ds (get_or us (at + 2) 0)) ws' vs'
         unfolding newer_part
-        newest-room h = room-newer group newest_part older_part ws vs (room_two h) (ascends ws vs) ws' vs' (only-taken group older_part ws vs true ws' vs' older-taken).0
+        newest-room h = room-newer group newest_part older_part ws vs (room_two h) (ascends ws vs) ws' vs' (only-taken group older_part ws vs (Ok tt) ws' vs' older-taken).0
 
-        pub two-accepted : (s : Bool) (ws'' vs'' : List ℕ) → TakenAs group newest_part ws' vs' s ws'' vs'' → PartsTaken (accept_parts_of (newer_cell k us ds) (waiting_of ws vs)) s ws'' vs''
+        pub two-accepted : (s : ByCause (Unit {0})) (ws'' vs'' : List ℕ) → TakenAs group newest_part ws' vs' s ws'' vs'' → PartsTaken (accept_parts_of (newer_cell k us ds) (waiting_of ws vs)) s ws'' vs''
         two-accepted s ws'' vs'' n =
             let same : accept_parts_of (newer_cell k us ds) (waiting_of ws vs) ≡ accept_parts_of (pair group (newest_part ∷ [])) (waiting_of ws' vs') =
             ap (λ (x : Pair ℕ (List Part)). accept_parts_of x (waiting_of ws vs)) cell_two
@@ -199,14 +188,14 @@ module _ (us ds : List ℕ) (k : ℕ) (l : k < 16) where
 -- ---- all cells
 
 -- the parts of the cells so far are accepted, and there is room for the others
-pub record Taking (i : ℕ) (b : bound.Bound) (us ds ws vs ws' vs' : List ℕ) : Type 0 where
+pub record Taking (i : ℕ) (b : Option ℕ) (us ds ws vs ws' vs' : List ℕ) : Type 0 where
   pub turns : i ≤ 16
   pub left : length (beyond_of b (waiting_of us ds)) + i ≤ 16
   pub whole : waiting_after (beyond_of b (waiting_of us ds)) (waiting_of ws' vs') ≡ waiting_after (waiting_of us ds) (waiting_of ws vs)
   pub fits : RoomForAll (beyond_of b (waiting_of us ds)) (waiting_of ws' vs')
   pub room : RoomWf 16 ws' vs'
 
-after_none : (w : Map ℕ (List Part)) → waiting_after [] w ≡ ok w
+after_none : (w : Map ℕ (List Part)) → waiting_after [] w ≡ Ok w
 unfolding waiting_after Rattle.rules.specs.Causes.in_order
 after_none w = refl
 
@@ -222,7 +211,7 @@ module _ (us ds ws vs : List ℕ) (u : RoomWf 16 us ds) where
   abbrev newer : Map ℕ (List Part)
   newer = waiting_of us ds
 
-  pub taking-start : ContextRoom us ds → ContextRoom ws vs → Taking 0 bound.TheVariants.All us ds ws vs ws vs
+  pub taking-start : ContextRoom us ds → ContextRoom ws vs → Taking 0 None us ds ws vs ws vs
   taking-start n o =
       let q = walked_all newer in
       let l = few-groups ws vs us ds u in
@@ -242,20 +231,20 @@ module _ (us ds ws vs : List ℕ) (u : RoomWf 16 us ds) where
         room = o.room;
       }
 
-  module _ (i : ℕ) (b : bound.Bound) (ws' vs' : List ℕ) (c : Taking i b us ds ws vs ws' vs') where
-    ended : beyond_of b newer ≡ [] → PartsTaken (waiting_after newer (waiting_of ws vs)) true ws' vs'
+  module _ (i : ℕ) (b : Option ℕ) (ws' vs' : List ℕ) (c : Taking i b us ds ws vs ws' vs') where
+    ended : beyond_of b newer ≡ [] → PartsTaken (waiting_after newer (waiting_of ws vs)) (Ok tt) ws' vs'
     ended e = (sym c.whole ∙ ap (λ (m : Map ℕ (List Part)). waiting_after m (waiting_of ws' vs')) e ∙ after_none (waiting_of ws' vs'), c.room)
 
-    pub taken_out : i ≡ 16 → PartsTaken (waiting_after newer (waiting_of ws vs)) true ws' vs'
+    pub taken_out : i ≡ 16 → PartsTaken (waiting_after newer (waiting_of ws vs)) (Ok tt) ws' vs'
     taken_out e = let l = c.left in ended (empty (beyond_of b newer) (omega (arith, l, e)))
 
     module _ (k : ℕ) (l : Least b 16 (part 2 160 us) k) where
-      pub taken_all : 16 ≤ k → PartsTaken (waiting_after newer (waiting_of ws vs)) true ws' vs'
+      pub taken_all : 16 ≤ k → PartsTaken (waiting_after newer (waiting_of ws vs)) (Ok tt) ws' vs'
       taken_all h = let m = l.most in ended (none_left b us ds u k l (omega (arith, m, h)))
 
       module _ (h : k < 16) where
         abbrev rest : Map ℕ (List Part)
-        rest = beyond_of (bound.TheVariants.Above (group_in (head_at k (part 2 160 us)))) newer
+        rest = beyond_of (Some (group_in (head_at k (part 2 160 us)))) newer
 
         next : beyond_of b newer ≡ newer_cell k us ds ∷ rest
         next = next-is b us ds u k l h
@@ -269,15 +258,13 @@ module _ (us ds ws vs : List ℕ) (u : RoomWf 16 us ds) where
         here : waiting_after newer (waiting_of ws vs) ≡ and_then (accept_parts_of (newer_cell k us ds) (waiting_of ws' vs')) (waiting_after rest)
         here = sym c.whole ∙ ap (λ (m : Map ℕ (List Part)). waiting_after m (waiting_of ws' vs')) next ∙ after_more (newer_cell k us ds) rest (waiting_of ws' vs')
 
-        module _ (r : Bool) (ws'' vs'' : List ℕ) (t : PartsTaken (accept_parts_of (newer_cell k us ds) (waiting_of ws' vs')) r ws'' vs'') where
-          pub taken_back : r ≡ false → PartsTaken (waiting_after newer (waiting_of ws vs)) false ws'' vs''
-          taken_back f =
-              let x : accept_parts_of (newer_cell k us ds) (waiting_of ws' vs') ≡ refuse files_go_back = rw f at t in
-              here ∙ and_then-refused (accept_parts_of (newer_cell k us ds) (waiting_of ws' vs')) (waiting_after rest) (refusal_of files_go_back) x
+        pub taken-refused : (e : Cause) → accept_parts_of (newer_cell k us ds) (waiting_of ws' vs') ≡ refuse e → waiting_after newer (waiting_of ws vs) ≡ refuse e
+        taken-refused e x =
+            here ∙ and_then-refused (accept_parts_of (newer_cell k us ds) (waiting_of ws' vs')) (waiting_after rest) (refusal_of e) x
 
-          pub taken_more : i < 16 → r ≡ true → (g : ℕ) → g ≡ get_or us (2 + k * 10 + 1) 0 → Taking (i + 1) (bound.TheVariants.Above g) us ds ws vs ws'' vs''
-          taken_more j y g e =
-              let x : (accept_parts_of (newer_cell k us ds) (waiting_of ws' vs') ≡ ok (waiting_of ws'' vs'')) × RoomWf 16 ws'' vs'' = rw y at t in
+        module _ (ws'' vs'' : List ℕ) (x : (accept_parts_of (newer_cell k us ds) (waiting_of ws' vs') ≡ Ok (waiting_of ws'' vs'')) × RoomWf 16 ws'' vs'') where
+          pub taken_more : i < 16 → (g : ℕ) → g ≡ get_or us (2 + k * 10 + 1) 0 → Taking (i + 1) (Some g) us ds ws vs ws'' vs''
+          taken_more j g e =
               let a : length (beyond_of b newer) ≡ suc (length rest) = ap length next in
               let l0 = c.left in
               rw (e ∙ sym (group-is us ds k h))

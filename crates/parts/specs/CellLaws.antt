@@ -1,6 +1,6 @@
 -- The cells of a context's room. Assumes nothing.
-use Rattle.std.specs.Prelude.{List, ◌≡◌, ℕ, ◌+◌, ◌*◌, ◌<◌, eqb, length, get_or}
-use Rattle.std.proofs.Math.Option.{none, some, none-ne-some, some-injective}
+use Rattle.std.specs.Prelude.{List, ◌≡◌, ℕ, ◌+◌, ◌*◌, ◌<◌, eqb, length, get_or, None, Some}
+use Rattle.std.proofs.lemmas.Option.{none-some, same_Some}
 use Rattle.std.proofs.Common.{sym, ap, ◌∙◌, add-zero, arith, eq-eqb}
 use Rattle.cells.specs.Part.{part}
 use Rattle.maps.specs.BoolLaws.{clash}
@@ -23,12 +23,12 @@ unfolding count_in
 count-is us j l = rw (add-zero (2 + j * 10)) at (in_cell us j 0 l (omega arith))
 
 -- a cell with parts
-pub some-cell : (h : List ℕ) (ts : List Tagged) (p : Pair ℕ (List Part)) → cell_of h ts ≡ some p → (count_in h ≡ 0 → ⊥) × (group_in h ≡ p.key)
+pub some-cell : (h : List ℕ) (ts : List Tagged) (p : Pair ℕ (List Part)) → cell_of h ts ≡ Some p → (count_in h ≡ 0 → ⊥) × (group_in h ≡ p.key)
 unfolding cell_of
 some-cell h ts p e =
     split (eqb (count_in h) 0)
-    (λ z. absurd (none-ne-some p (rw z at e)))
-    (λ z. ((λ n. clash (sym z ∙ eq-eqb (count_in h) 0 n)), ap (λ (q : Pair ℕ (List Part)). q.key) (some-injective _ p (rw z at e))))
+    (λ z. absurd (none-some p (rw z at e)))
+    (λ z. ((λ n. clash (sym z ∙ eq-eqb (count_in h) 0 n)), ap (λ (q : Pair ℕ (List Part)). q.key) (same_Some _ p (rw z at e))))
 
 module _ (ws vs : List ℕ) (w : RoomWf 16 ws vs) where
   abbrev heads : List ℕ
@@ -38,6 +38,6 @@ module _ (ws vs : List ℕ) (w : RoomWf 16 ws vs) where
   unfolding room_of
   cells_count = length-cells heads (tagged ws vs) ∙ cell-count 16 ws vs w.numbers-are w.bytes-are
 
-  pub cell_at_lem : (k : ℕ) → k < 16 → get_or (cells_of heads (tagged ws vs)) k none ≡ cell_of (head_at k heads) (tagged ws vs)
+  pub cell_at_lem : (k : ℕ) → k < 16 → get_or (cells_of heads (tagged ws vs)) k None ≡ cell_of (head_at k heads) (tagged ws vs)
   unfolding room_of
   cell_at_lem k l = let n = cell-count 16 ws vs w.numbers-are w.bytes-are in get_or-cells k heads (tagged ws vs) (omega (arith, n))

@@ -1,6 +1,5 @@
 -- The tombstones among the items that finish.
-use Rattle.std.specs.Prelude.{List, ◌++◌, ◌≡◌, ℕ}
-use Rattle.std.proofs.Math.Option.{Option}
+use Rattle.std.specs.Prelude.{List, ◌++◌, ◌≡◌, ℕ, Option}
 use Rattle.maps.specs.Lists.{select}
 use Rattle.maps.specs.Maps.{lookup, numbers}
 use Rattle.rules.specs.Items.{LogItem, is_tombstone}

@@ -1,19 +1,18 @@
 -- What a merge finishes of a group, told from the heads of the parts.
-use Rattle.std.specs.Prelude.{Bool, true, false, cond, List, [], ◌∷◌, ◌++◌, ℕ, eqb}
-use Rattle.std.proofs.Math.Option.{Option, none, some}
+use Rattle.std.specs.Prelude.{Bool, true, false, cond, List, [], ◌∷◌, ◌++◌, ℕ, eqb, Option, None, Some}
 use Rattle.rules.specs.Items.{LogItem}
 use Rattle.rules.specs.Context.{Part}
 use Rattle.rules_by_group.specs.Group.{Finished}
 use Rattle.stores.specs.Tags.{Tagged, items_with}
 use Rattle.room.specs.Rooms.{count_in, newest, older}
 use Rattle.waiting.specs.declared.Step as step
-use Rattle.parts.specs.declared.Finishing as finishing
+use Rattle.parts.specs.declared.Ending.{Ending}
 
 -- the finished atomic group: items of the older room xs and of the newer room ys, and the files
-unfoldable pub finished_as : finishing.Finishing → List Tagged → List Tagged → Option Finished
-finished_as finishing.TheVariants.None xs ys = none
-finished_as (finishing.TheVariants.Of e) xs ys =
-    some (record { items = items_with e.older xs ++ items_with e.newer ys; span = record { start = e.start; end = e.end } })
+unfoldable pub finished_as : Option Ending → List Tagged → List Tagged → Option Finished
+finished_as None xs ys = None
+finished_as (Some e) xs ys =
+    Some (record { items = items_with e.older xs ++ items_with e.newer ys; span = record { start = e.start; end = e.end } })
 
 -- where the oldest part of a cell begins
 unfoldable pub oldest_at : List ℕ → ℕ

@@ -1,7 +1,6 @@
 -- Accepted parts: one after the other, and that they add no more than they have. Assumes nothing.
-use Rattle.std.specs.Prelude.{cond, ◌≡◌, leb}
+use Rattle.std.specs.Prelude.{cond, ◌≡◌, leb, Option, None, Some}
 use mathlib.Core.List.{List, [], ◌∷◌, ◌++◌, reverse, reverse-cons}
-use Rattle.std.proofs.Math.Option.{Option, none, some}
 use Rattle.std.proofs.Math.Path.{refl, sym, ap}
 use Rattle.std.proofs.Common.{◌∙◌, arith}
 use Prim.Native.Nat.{ℕ, ◌+◌, ◌≤◌}
@@ -11,7 +10,7 @@ use Rattle.maps.specs.ListLaws.{sum-append}
 use Rattle.maps.specs.Maps.{Pair, Map, lookup, store, numbers}
 use Rattle.maps.specs.MapLaws.{pair, Ascending, lookup-store_same, store-store, sum-store, length-insert-most, length-remove-le}
 use Rattle.maps.specs.OrderLaws.{split, numbers_lawful}
-use Rattle.rules.specs.Causes.{Refusal, Result, ok, refused, and_then, in_order}
+use Rattle.rules.specs.Causes.{Refusal, Result, Ok, Err, and_then, in_order}
 use Rattle.rules.specs.Items.{LogItem, Status, begin, middle, end}
 use Rattle.rules.specs.Context.{Part, entries_in}
 use Rattle.rules.specs.Waiting.{Accepted, wait, finish, back, joined, accept_by, accept, some_parts}
@@ -33,36 +32,36 @@ module _ (g : ℕ) (w : Map ℕ (List Part)) where
 
   one-in-order : (p : Part) (o : Option (List Part)) → in_order accept_part (p ∷ []) o ≡ accept_part p o
   unfolding in_order
-  one-in-order p o = and_then_same (accept_part p o) (in_order accept_part []) (λ q. ok q) (λ q. refl) ∙ and_then-unit (accept_part p o)
+  one-in-order p o = and_then_same (accept_part p o) (in_order accept_part []) (λ q. Ok q) (λ q. refl) ∙ and_then-unit (accept_part p o)
 
-  one-is : (p : Part) → accept_parts_of (pair g (p ∷ [])) w ≡ and_then (accept_part p before) (λ o. ok (store numbers g o w))
+  one-is : (p : Part) → accept_parts_of (pair g (p ∷ [])) w ≡ and_then (accept_part p before) (λ o. Ok (store numbers g o w))
   unfolding accept_parts_of
-  one-is p = ap (λ (r : Result (Option (List Part))). and_then r (λ o. ok (store numbers g o w))) (one-in-order p before)
+  one-is p = ap (λ (r : Result (Option (List Part))). and_then r (λ o. Ok (store numbers g o w))) (one-in-order p before)
 
-  pub one-taken : (p : Part) (o : Option (List Part)) → accept_part p before ≡ ok o → accept_parts_of (pair g (p ∷ [])) w ≡ ok (store numbers g o w)
-  one-taken p o e = one-is p ∙ and_then_of (accept_part p before) (λ q. ok (store numbers g q w)) o e
+  pub one-taken : (p : Part) (o : Option (List Part)) → accept_part p before ≡ Ok o → accept_parts_of (pair g (p ∷ [])) w ≡ Ok (store numbers g o w)
+  one-taken p o e = one-is p ∙ and_then_of (accept_part p before) (λ q. Ok (store numbers g q w)) o e
 
-  pub one-refused : (p : Part) (x : Refusal) → accept_part p before ≡ refused x → accept_parts_of (pair g (p ∷ [])) w ≡ refused x
-  one-refused p x e = one-is p ∙ and_then-refused (accept_part p before) (λ q. ok (store numbers g q w)) x e
+  pub one-refused : (p : Part) (x : Refusal) → accept_part p before ≡ Err x → accept_parts_of (pair g (p ∷ [])) w ≡ Err x
+  one-refused p x e = one-is p ∙ and_then-refused (accept_part p before) (λ q. Ok (store numbers g q w)) x e
 
   module _ (p old : Part) where
-    two_is : accept_parts_of (pair g (p ∷ old ∷ [])) w ≡ and_then (and_then (accept_part old before) (in_order accept_part (p ∷ []))) (λ o. ok (store numbers g o w))
+    two_is : accept_parts_of (pair g (p ∷ old ∷ [])) w ≡ and_then (and_then (accept_part old before) (in_order accept_part (p ∷ []))) (λ o. Ok (store numbers g o w))
     unfolding accept_parts_of in_order
     two_is = refl
 
-    pub two-refused : (x : Refusal) → accept_part old before ≡ refused x → accept_parts_of (pair g (p ∷ old ∷ [])) w ≡ refused x
+    pub two-refused : (x : Refusal) → accept_part old before ≡ Err x → accept_parts_of (pair g (p ∷ old ∷ [])) w ≡ Err x
     two-refused x e =
         two_is
-        ∙ and_then-refused (and_then (accept_part old before) (in_order accept_part (p ∷ []))) (λ o. ok (store numbers g o w)) x (and_then-refused (accept_part old before) (in_order accept_part (p ∷ [])) x e)
+        ∙ and_then-refused (and_then (accept_part old before) (in_order accept_part (p ∷ []))) (λ o. Ok (store numbers g o w)) x (and_then-refused (accept_part old before) (in_order accept_part (p ∷ [])) x e)
 
     -- the older part is stored, and then the newer one accepted
-    pub two-taken : Ascending numbers w → (o : Option (List Part)) → accept_part old before ≡ ok o → accept_parts_of (pair g (p ∷ old ∷ [])) w ≡ accept_parts_of (pair g (p ∷ [])) (store numbers g o w)
+    pub two-taken : Ascending numbers w → (o : Option (List Part)) → accept_part old before ≡ Ok o → accept_parts_of (pair g (p ∷ old ∷ [])) w ≡ accept_parts_of (pair g (p ∷ [])) (store numbers g o w)
     unfolding accept_parts_of
     two-taken up o e =
         two_is
-        ∙ ap (λ (r : Result (Option (List Part))). and_then r (λ q. ok (store numbers g q w))) (and_then_of (accept_part old before) (in_order accept_part (p ∷ [])) o e)
-        ∙ and_then_same (in_order accept_part (p ∷ []) o) (λ q. ok (store numbers g q w)) (λ q. ok (store numbers g q (store numbers g o w))) (λ q. ap (λ (m : Map ℕ (List Part)). ok m) (sym (store-store numbers numbers_lawful g q o w up)))
-        ∙ ap (λ (x : Option (List Part)). and_then (in_order accept_part (p ∷ []) x) (λ q. ok (store numbers g q (store numbers g o w)))) (sym (lookup-store_same numbers numbers_lawful g o w up))
+        ∙ ap (λ (r : Result (Option (List Part))). and_then r (λ q. Ok (store numbers g q w))) (and_then_of (accept_part old before) (in_order accept_part (p ∷ [])) o e)
+        ∙ and_then_same (in_order accept_part (p ∷ []) o) (λ q. Ok (store numbers g q w)) (λ q. Ok (store numbers g q (store numbers g o w))) (λ q. ap (λ (m : Map ℕ (List Part)). Ok m) (sym (store-store numbers numbers_lawful g q o w up)))
+        ∙ ap (λ (x : Option (List Part)). and_then (in_order accept_part (p ∷ []) x) (λ q. Ok (store numbers g q (store numbers g o w)))) (sym (lookup-store_same numbers numbers_lawful g o w up))
 
 -- ---- a count of items, by the count of a list
 
@@ -91,8 +90,8 @@ module _ (size : List LogItem → ℕ) where
 
   total-parts : (o : Option (List Part)) → total (parts_of o) ≡ total_of o
   unfolding parts_of or_else
-  total-parts none = total-nil
-  total-parts (some ps) = refl
+  total-parts None = total-nil
+  total-parts (Some ps) = refl
 
   total-reverse : (ps : List Part) → total (reverse ps) ≡ total ps
   total-reverse [] = refl
@@ -163,17 +162,17 @@ module _ (size : List LogItem → ℕ) where
     accept-most [] new = let a = total-cons new [] in let n = total-nil in unfold Most in omega (arith, a, n)
     accept-most (p ∷ ps) new = by_most p new ps p.status new.status
 
-    waits-most : (n : ℕ) (a : Accepted) (o : Option (List Part)) → Most n a → waits a ≡ ok o → total_of o ≤ n
+    waits-most : (n : ℕ) (a : Accepted) (o : Option (List Part)) → Most n a → waits a ≡ Ok o → total_of o ≤ n
     unfolding waits Most
     waits-most n (wait ps) o h e = let t = total-some ps in rw (← (ok_inj e)) (omega (arith, t, h))
     waits-most n (finish old ps) o h e = let t = total-some ps in rw (← (ok_inj e)) (omega (arith, t, h))
     waits-most n back o h e = absurd (refused_not_ok e)
 
-    part-most : (new : Part) (o q : Option (List Part)) → accept_part new o ≡ ok q → total_of q ≤ total_of o + size new.items
+    part-most : (new : Part) (o q : Option (List Part)) → accept_part new o ≡ Ok q → total_of q ≤ total_of o + size new.items
     unfolding accept_part
     part-most new o q e = rw (← (total-parts o)) (waits-most (total (parts_of o) + size new.items) (accept (parts_of o) new) q (accept-most (parts_of o) new) e)
 
-    parts-most : (ps : List Part) (o q : Option (List Part)) → in_order accept_part ps o ≡ ok q → total_of q ≤ total_of o + total ps
+    parts-most : (ps : List Part) (o q : Option (List Part)) → in_order accept_part ps o ≡ Ok q → total_of q ≤ total_of o + total ps
     unfolding in_order
     parts-most [] o q e = rw (← (ok_inj e)) (omega arith)
     parts-most (p ∷ ps) o q e =
@@ -184,7 +183,7 @@ module _ (size : List LogItem → ℕ) where
         omega (arith, a, b, c)
 
     -- what waits after a group's newer parts
-    after-most : (x : Pair ℕ (List Part)) (w v : Map ℕ (List Part)) → Ascending numbers w → accept_parts_of x w ≡ ok v → total_in v ≤ total_in w + total x.val
+    after-most : (x : Pair ℕ (List Part)) (w v : Map ℕ (List Part)) → Ascending numbers w → accept_parts_of x w ≡ Ok v → total_in v ≤ total_in w + total x.val
     after-most x w v up e =
         let s = after_is x w v e in
         let a = parts-most (reverse x.val) (lookup numbers x.key w) s.0 s.1 in
@@ -204,11 +203,11 @@ entries-are w = refl
 
 groups-most : (g : ℕ) (o : Option (List Part)) (w : Map ℕ (List Part)) → length (store numbers g o w) ≤ length w + 1
 unfolding store
-groups-most g none w = let l = length-remove-le numbers numbers_lawful g w in omega (arith, l)
-groups-most g (some ps) w = let l = length-insert-most numbers numbers_lawful g ps w in omega (arith, l)
+groups-most g None w = let l = length-remove-le numbers numbers_lawful g w in omega (arith, l)
+groups-most g (Some ps) w = let l = length-insert-most numbers numbers_lawful g ps w in omega (arith, l)
 
 -- a group with no parts afterwards has no cell
-groups-left : (g : ℕ) (o : Option (List Part)) (w : Map ℕ (List Part)) → Ascending numbers w → lookup numbers g (store numbers g o w) ≡ none → length (store numbers g o w) ≤ length w
+groups-left : (g : ℕ) (o : Option (List Part)) (w : Map ℕ (List Part)) → Ascending numbers w → lookup numbers g (store numbers g o w) ≡ None → length (store numbers g o w) ≤ length w
 unfolding store
 groups-left g o w up e = rw (sym (lookup-store_same numbers numbers_lawful g o w up) ∙ e) (length-remove-le numbers numbers_lawful g w)
 
@@ -232,7 +231,7 @@ module _ (x : Pair ℕ (List Part)) (more w : Map ℕ (List Part)) where
       record { groups = omega (arith, a); items = omega (arith, b); entries = omega (arith, c) }
 
   -- the group's parts are accepted, and there is room for the others
-  pub room_next : Ascending numbers w → (v : Map ℕ (List Part)) → accept_parts_of x w ≡ ok v → RoomForAll (x ∷ more) w → RoomForAll more v
+  pub room_next : Ascending numbers w → (v : Map ℕ (List Part)) → accept_parts_of x w ≡ Ok v → RoomForAll (x ∷ more) w → RoomForAll more v
   room_next up v e r =
       let s = after_is x w v e in
       let n : length v ≤ length w + 1 = rw s.2 (groups-most x.key s.0 w) in
@@ -268,14 +267,14 @@ module _ (g : ℕ) (p old : Part) (ws vs : List ℕ) (r : RoomForAll (pair g (p 
       let c = r.entries in
       record { groups = λ e. omega (arith, a); items = omega (arith, b); entries = omega (arith, c) }
 
-  pub room-newer : Ascending numbers (waiting_of ws vs) → (ws' vs' : List ℕ) → accept_parts_of (pair g (old ∷ [])) (waiting_of ws vs) ≡ ok (waiting_of ws' vs') → RoomFor g p.items ws' vs'
+  pub room-newer : Ascending numbers (waiting_of ws vs) → (ws' vs' : List ℕ) → accept_parts_of (pair g (old ∷ [])) (waiting_of ws vs) ≡ Ok (waiting_of ws' vs') → RoomFor g p.items ws' vs'
   unfolding waiting_items waiting_entries item_count entry_count counts_for sum total
   room-newer up ws' vs' e =
       let w = waiting_of ws vs in
       let v = waiting_of ws' vs' in
       let x = pair g (old ∷ []) in
       let s = after_is x w v e in
-      let n : lookup numbers g v ≡ none → length v ≤ length w = λ z. rw s.2 (groups-left g s.0 w up (rw s.2 at z)) in
+      let n : lookup numbers g v ≡ None → length v ≤ length w = λ z. rw s.2 (groups-left g s.0 w up (rw s.2 at z)) in
       let i = after-most length length-append x w v up e in
       let k = after-most (sum entries_in) (sum-append entries_in) x w v up e in
       let a = r.groups in

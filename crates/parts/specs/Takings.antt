@@ -1,10 +1,9 @@
 -- A newer part accepted in the older room, as the rules have it.
-use Rattle.std.specs.Prelude.{Bool, true, false, List, ◌≡◌, ℕ, ◌+◌, ◌≤◌, length, get_or}
-use Rattle.std.proofs.Math.Option.{Option}
+use Rattle.std.specs.Prelude.{Option, List, ◌≡◌, ℕ, ◌+◌, ◌≤◌, length, get_or}
 use Rattle.cells.specs.Part.{part}
 use Rattle.maps.specs.Maps.{Pair, Map, lookup, store, numbers}
 use Rattle.maps.specs.MapLaws.{pair}
-use Rattle.rules.specs.Causes.{Result, ok, refuse, files_go_back}
+use Rattle.rules.specs.Causes.{Cause, Result, ByCause, Ok, Err, refuse}
 use Rattle.rules.specs.Items.{status_of}
 use Rattle.rules.specs.Context.{Part}
 use Rattle.rules_by_group.specs.Group.{accept_part}
@@ -20,19 +19,19 @@ newer_part i us ds =
 -- these parts of group g wait afterwards
 pub record Taken (g : ℕ) (new : Part) (ws vs ws' vs' : List ℕ) : Type 0 where
   pub parts : Option (List Part)
-  pub accepts : accept_part new (lookup numbers g (waiting_of ws vs)) ≡ ok parts
+  pub accepts : accept_part new (lookup numbers g (waiting_of ws vs)) ≡ Ok parts
   pub waiting : waiting_of ws' vs' ≡ store numbers g parts (waiting_of ws vs)
   pub room : RoomWf 16 ws' vs'
 
--- files go back, and all is as it was
-pub record GoesBack (g : ℕ) (new : Part) (ws vs ws' vs' : List ℕ) : Type 0 where
-  pub refuses : accept_part new (lookup numbers g (waiting_of ws vs)) ≡ refuse files_go_back
+-- the part is refused, and all is as it was
+pub record PartRefused (g : ℕ) (new : Part) (e : Cause) (ws vs ws' vs' : List ℕ) : Type 0 where
+  pub refuses : accept_part new (lookup numbers g (waiting_of ws vs)) ≡ refuse e
   pub numbers-are : ws' ≡ ws
   pub bytes-are : vs' ≡ vs
 
-abbrev pub TakenAs : ℕ → Part → List ℕ → List ℕ → Bool → List ℕ → List ℕ → Type 0
-TakenAs g new ws vs true ws' vs' = Taken g new ws vs ws' vs'
-TakenAs g new ws vs false ws' vs' = GoesBack g new ws vs ws' vs'
+abbrev pub TakenAs : ℕ → Part → List ℕ → List ℕ → ByCause (Unit {0}) → List ℕ → List ℕ → Type 0
+TakenAs g new ws vs (Ok _) ws' vs' = Taken g new ws vs ws' vs'
+TakenAs g new ws vs (Err e) ws' vs' = PartRefused g new e ws vs ws' vs'
 
 -- ---- all newer parts
 
@@ -46,7 +45,7 @@ pub record RoomForAll (more w : Map ℕ (List Part)) : Type 0 where
   pub items : waiting_items w + waiting_items more ≤ 128
   pub entries : waiting_entries w + waiting_entries more ≤ 256
 
--- x says what waits afterwards: the room has it, or files go back
-abbrev pub PartsTaken : Result (Map ℕ (List Part)) → Bool → List ℕ → List ℕ → Type 0
-PartsTaken x true ws' vs' = (x ≡ ok (waiting_of ws' vs')) × RoomWf 16 ws' vs'
-PartsTaken x false ws' vs' = x ≡ refuse files_go_back
+-- x says what waits afterwards: the room has it, or it is refused
+abbrev pub PartsTaken : Result (Map ℕ (List Part)) → ByCause (Unit {0}) → List ℕ → List ℕ → Type 0
+PartsTaken x (Ok _) ws' vs' = (x ≡ Ok (waiting_of ws' vs')) × RoomWf 16 ws' vs'
+PartsTaken x (Err e) ws' vs' = x ≡ refuse e

@@ -1,6 +1,5 @@
 // What a merge finishes of a group: the oldest newer part may finish the newest older one.
-ghost use Rattle.std.specs.Prelude.{true, List, ◌≡◌, ℕ, ◌+◌, ◌*◌, ◌≤◌, ◌<◌, length, get_or};
-ghost use Rattle.std.proofs.Math.Option.{some};
+ghost use Rattle.std.specs.Prelude.{true, List, ◌≡◌, ℕ, ◌+◌, ◌*◌, ◌≤◌, ◌<◌, length, get_or, Some};
 ghost use Rattle.cells.specs.Part.{part};
 ghost use Rattle.maps.specs.Maps.{lookup, numbers};
 ghost use Rattle.rules_by_group.specs.Group.{finished_of};
@@ -10,7 +9,7 @@ ghost use Rattle.room.specs.Layout.{waiting_of, tagged, RoomWf};
 ghost use Rattle.waiting.specs.Steps.{AtCell};
 ghost use Rattle.parts.specs.Finishings.{finished_as, oldest_at, is_finish, has_items};
 
-use crate::{Ending, Finishing};
+use crate::Ending;
 use room::{CELLS, HEAD_WIDTH, HEADS_AT, NEWEST_AT, OLDER_AT};
 use waiting::find::{find, step_at};
 use waiting::{Place, Step};
@@ -45,17 +44,17 @@ fn oldest_at(us: &[u64], j: usize) -> usize
 }
 
 // What the oldest part of the newer cell j finishes in the older cell k.
-fn finishing_by(ws: &[u64], us: &[u64], k: usize, j: usize) -> Finishing
+fn finishing_by(ws: &[u64], us: &[u64], k: usize, j: usize) -> Option<Ending>
     requires { (length ws.now ≡ 3490) × (length us.now ≡ 3490) × (k < 16) × (j < 16) }
-    ensures { (xs ys : List Tagged) → finished_of (some (parts_of (head_at j (part 2 160 us.now)) ys)) (some (parts_of (head_at k (part 2 160 ws.now)) xs)) ≡ finished_as result xs ys }
+    ensures { (xs ys : List Tagged) → finished_of (Some (parts_of (head_at j (part 2 160 us.now)) ys)) (Some (parts_of (head_at k (part 2 160 ws.now)) xs)) ≡ finished_as result xs ys }
 {
     let at = oldest_at(us, j);
     let step = step_at(ws, CELLS, k, us[at + 1], us[at + 2]);
     if !is_finish(step) {
-        return Finishing::None;
+        return None;
     }
     let cell = HEADS_AT + k * HEAD_WIDTH;
-    Finishing::Of(Ending {
+    Some(Ending {
         older: ws[cell + NEWEST_AT],
         newer: us[at],
         start: ws[cell + 4],
@@ -64,28 +63,28 @@ fn finishing_by(ws: &[u64], us: &[u64], k: usize, j: usize) -> Finishing
 }
 
 // What the parts of the newer cell j finish in the older room.
-fn finishing_at(ws: &[u64], us: &[u64], group: u64, j: usize) -> Finishing
+fn finishing_at(ws: &[u64], us: &[u64], group: u64, j: usize) -> Option<Ending>
     requires { (length ws.now ≡ 3490) × (length us.now ≡ 3490) × (j < 16) }
-    ensures { (vs : List ℕ) (ys : List Tagged) → RoomWf 16 ws.now vs → finished_of (some (parts_of (head_at j (part 2 160 us.now)) ys)) (lookup numbers group (waiting_of ws.now vs)) ≡ finished_as result (tagged ws.now vs) ys }
+    ensures { (vs : List ℕ) (ys : List Tagged) → RoomWf 16 ws.now vs → finished_of (Some (parts_of (head_at j (part 2 160 us.now)) ys)) (lookup numbers group (waiting_of ws.now vs)) ≡ finished_as result (tagged ws.now vs) ys }
 {
     let place = find(ws, CELLS, group);
     match place {
         Place::At(k) => finishing_by(ws, us, k, j),
-        Place::Free(_) => Finishing::None,
-        Place::Full => Finishing::None,
+        Place::Free(_) => None,
+        Place::Full => None,
     }
 }
 
 // What the parts of a group in the newer room finish in the older one.
-pub fn find_finishing(ws: &[u64], us: &[u64], group: u64) -> Finishing
+pub fn find_finishing(ws: &[u64], us: &[u64], group: u64) -> Option<Ending>
     requires { (length ws.now ≡ 3490) × (length us.now ≡ 3490) }
     ensures { (vs ds : List ℕ) → RoomWf 16 ws.now vs → RoomWf 16 us.now ds → finished_of (lookup numbers group (waiting_of us.now ds)) (lookup numbers group (waiting_of ws.now vs)) ≡ finished_as result (tagged ws.now vs) (tagged us.now ds) }
 {
     let place = find(us, CELLS, group);
     match place {
         Place::At(j) => finishing_at(ws, us, group, j),
-        Place::Free(_) => Finishing::None,
-        Place::Full => Finishing::None,
+        Place::Free(_) => None,
+        Place::Full => None,
     }
 }
 

@@ -10,7 +10,6 @@ ghost use Rattle.parts.specs.Finals.{tombs_of, finished_in};
 
 use crate::endings::find_finishing;
 use crate::walks::next_cell;
-use crate::{Bound, Finishing};
 use log_batch::item::{LogItemContent, OpType};
 use room::{CELLS, HEAD_WIDTH, HEADS_AT};
 use stores::Store;
@@ -109,8 +108,8 @@ fn count_group(ws: &[u64], vs: &[u8], us: &[u64], ds: &[u8], group: u64) -> usiz
 {
     let found = find_finishing(ws, us, group);
     match found {
-        Finishing::None => 0,
-        Finishing::Of(ending) => {
+        None => 0,
+        Some(ending) => {
             let older = count_part(ws, vs, ending.older);
             let newer = count_part(us, ds, ending.newer);
             older + newer
@@ -126,7 +125,7 @@ pub fn count_finals(ws: &[u64], vs: &[u8], us: &[u64], ds: &[u8]) -> usize
     ensures upper_bound { result ≤ 4096 }
 {
     let mut count = 0;
-    let mut bound = Bound::All;
+    let mut bound = None;
     let mut i = 0;
     while i < CELLS {
         let k = next_cell(us, bound);
@@ -135,7 +134,7 @@ pub fn count_finals(ws: &[u64], vs: &[u8], us: &[u64], ds: &[u8]) -> usize
         }
         let group = us[HEADS_AT + k * HEAD_WIDTH + 1];
         count += count_group(ws, vs, us, ds, group);
-        bound = Bound::Above(group);
+        bound = Some(group);
         i += 1;
     }
     count

@@ -11,7 +11,6 @@ ghost use Rattle.parts.specs.Finals.{tombs_of, finished_in, Keeping};
 use crate::endings::find_finishing;
 use crate::finals::is_tombstone;
 use crate::walks::next_cell;
-use crate::{Bound, Finishing};
 use room::{CELLS, HEAD_WIDTH, HEADS_AT};
 use stores::Store;
 use stores::read::item_at;
@@ -104,8 +103,8 @@ fn keep_group(
 {
     let found = find_finishing(ws, us, group);
     match found {
-        Finishing::None => {}
-        Finishing::Of(ending) => {
+        None => {}
+        Some(ending) => {
             keep_part(ys, cs, ws, vs, ending.older);
             keep_part(ys, cs, us, ds, ending.newer);
         }
@@ -120,7 +119,7 @@ pub fn keep_finals(ys: &mut [u64], cs: &mut [u8], ws: &[u64], vs: &[u8], us: &[u
     requires vs_bound { get_or ys.old 1 0 + length (finished_tombs (waiting_of us.now ds.now) (waiting_of ws.now vs.now)) ≤ 64 }
     ensures { TombstonesAdded (finished_tombs (waiting_of us.now ds.now) (waiting_of ws.now vs.now)) ys.old cs.old ys.new cs.new }
 {
-    let mut bound = Bound::All;
+    let mut bound = None;
     let mut i = 0;
     while i < CELLS {
         let k = next_cell(us, bound);
@@ -129,7 +128,7 @@ pub fn keep_finals(ys: &mut [u64], cs: &mut [u8], ws: &[u64], vs: &[u8], us: &[u
         }
         let group = us[HEADS_AT + k * HEAD_WIDTH + 1];
         keep_group(ys, cs, ws, vs, us, ds, group);
-        bound = Bound::Above(group);
+        bound = Some(group);
         i += 1;
     }
 }

@@ -22,17 +22,3 @@ pub struct Ending {
     pub start: u64,
     pub end: u64,
 }
-
-// What a merge finishes of a group.
-#[derive(Clone, Copy)]
-pub enum Finishing {
-    None,
-    Of(Ending),
-}
-
-// The groups that a walk by ascending number has still to come to.
-#[derive(Clone, Copy)]
-pub enum Bound {
-    All,
-    Above(u64),
-}

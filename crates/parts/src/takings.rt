@@ -5,20 +5,27 @@ ghost use Rattle.room.specs.Layout.{waiting_of, RoomWf, ContextRoom};
 ghost use Rattle.waiting.specs.Merges.{items_from, RoomFor};
 ghost use Rattle.parts.specs.Takings.{newer_part, TakenAs, newer_cell, RoomForAll, PartsTaken};
 
-use crate::Bound;
 use crate::walks::next_cell;
+use pipe_log::Cause;
 use room::{CELLS, HEAD_WIDTH, HEADS_AT, NEWEST_AT, OLDER_AT};
-use waiting::{Accepted, accept_part};
+use waiting::accept_part;
 
-// Accepts the newer part of a group whose tag is number `at` of the newer room; false if files go back.
-fn accept_at(ws: &mut [u64], vs: &mut [u8], us: &[u64], ds: &[u8], group: u64, at: usize) -> bool
+// Accepts the newer part of a group whose tag is number `at` of the newer room.
+fn accept_at(
+    ws: &mut [u64],
+    vs: &mut [u8],
+    us: &[u64],
+    ds: &[u8],
+    group: u64,
+    at: usize,
+) -> Result<(), Cause>
     requires room_wf { RoomWf 16 ws.old vs.old }
     requires room_wf_2 { RoomWf 16 us.now ds.now }
     requires at_bound { at ≤ 162 }
     requires room_for { RoomFor group (items_from us.now ds.now (get_or us.now at 0)) ws.old vs.old }
     ensures { TakenAs group (newer_part at us.now ds.now) ws.old vs.old result ws.new vs.new }
 {
-    let accepted = accept_part(
+    accept_part(
         ws,
         vs,
         group,
@@ -28,17 +35,12 @@ fn accept_at(ws: &mut [u64], vs: &mut [u8], us: &[u64], ds: &[u8], group: u64, a
         us,
         ds,
         us[at],
-    );
-    match accepted {
-        Accepted::Waits => true,
-        Accepted::Passed => true,
-        Accepted::Back => false,
-        Accepted::Finishes(_) => true,
-    }
+    )?;
+    Ok(())
 }
 
-// Accepts the parts of the newer cell k, the oldest first; false if files go back.
-fn accept_cell(ws: &mut [u64], vs: &mut [u8], us: &[u64], ds: &[u8], k: usize) -> bool
+// Accepts the parts of the newer cell k, the oldest first.
+fn accept_cell(ws: &mut [u64], vs: &mut [u8], us: &[u64], ds: &[u8], k: usize) -> Result<(), Cause>
     requires room_wf { RoomWf 16 ws.old vs.old }
     requires room_wf_2 { RoomWf 16 us.now ds.now }
     requires k_bound { k < 16 }
@@ -51,30 +53,26 @@ fn accept_cell(ws: &mut [u64], vs: &mut [u8], us: &[u64], ds: &[u8], k: usize) -
     if count == 1 {
         return accept_at(ws, vs, us, ds, group, at + NEWEST_AT);
     }
-    if !accept_at(ws, vs, us, ds, group, at + OLDER_AT) {
-        return false;
-    }
+    accept_at(ws, vs, us, ds, group, at + OLDER_AT)?;
     accept_at(ws, vs, us, ds, group, at + NEWEST_AT)
 }
 
-// Accepts the newer waiting parts in the older room, groups ascending, the oldest part of a group first; false if files go back.
-pub fn take_parts(ws: &mut [u64], vs: &mut [u8], us: &[u64], ds: &[u8]) -> bool
+// Accepts the newer waiting parts in the older room, groups ascending, the oldest part of a group first.
+pub fn take_parts(ws: &mut [u64], vs: &mut [u8], us: &[u64], ds: &[u8]) -> Result<(), Cause>
     requires context_room { ContextRoom ws.old vs.old }
     requires context_room_2 { ContextRoom us.now ds.now }
     ensures { PartsTaken (waiting_after (waiting_of us.now ds.now) (waiting_of ws.old vs.old)) result ws.new vs.new }
 {
-    let mut bound = Bound::All;
+    let mut bound = None;
     let mut i = 0;
     while i < CELLS {
         let k = next_cell(us, bound);
         if CELLS <= k {
-            return true;
+            return Ok(());
         }
-        if !accept_cell(ws, vs, us, ds, k) {
-            return false;
-        }
-        bound = Bound::Above(us[HEADS_AT + k * HEAD_WIDTH + 1]);
+        accept_cell(ws, vs, us, ds, k)?;
+        bound = Some(us[HEADS_AT + k * HEAD_WIDTH + 1]);
         i += 1;
     }
-    true
+    Ok(())
 }

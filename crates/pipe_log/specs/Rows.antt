@@ -1,10 +1,10 @@
 -- Entry records as rows of numbers: index, queue, sequence number, block offset, block length, compression type, entry offset,
 -- entry length. Batches are lent so, and tables hold them so.
-use Rattle.std.specs.Prelude.{Bool, cond, ◌&&◌, List, [], ◌∷◌, ℕ, zero, suc, ◌^◌, eqb, ltb, get_or, drop}
+use Rattle.std.specs.Prelude.{Some, None, Bool, cond, ◌&&◌, List, [], ◌∷◌, ℕ, zero, suc, ◌^◌, eqb, ltb, get_or, drop}
 use Rattle.pipe_log.specs.declared.LogQueue.{LogQueue, TheVariants.Append, TheVariants.Rewrite}
 use Rattle.pipe_log.specs.declared.FileBlockHandle.{FileBlockHandle}
-use Rattle.pipe_log.specs.declared.CompressionType.{CompressionType, TheVariants.None, TheVariants.Lz4}
-use Rattle.pipe_log.specs.declared.EntryBlock.{TheVariants.Absent, TheVariants.At}
+use Rattle.pipe_log.specs.declared.CompressionType.{CompressionType}
+use Rattle.pipe_log.specs.declared.CompressionType.TheVariants as compression
 use Rattle.pipe_log.specs.declared.EntryIndex.{EntryIndex}
 
 -- numbers in a row
@@ -16,7 +16,7 @@ unfoldable pub queue_at : ℕ → LogQueue
 queue_at n = cond (eqb n 0) Append Rewrite
 
 unfoldable pub compression_at : ℕ → CompressionType
-compression_at n = cond (eqb n 0) None Lz4
+compression_at n = cond (eqb n 0) compression.None compression.Lz4
 
 -- whether a row's queue, compression type and entry offset are those of a record
 unfoldable pub is_record : List ℕ → Bool
@@ -30,7 +30,7 @@ unfoldable pub entry_of : List ℕ → EntryIndex
 entry_of xs =
     record {
       index = get_or xs 0 0;
-      entries = cond (is_record xs) (At (block_at xs)) Absent;
+      entries = cond (is_record xs) (Some (block_at xs)) None;
       compression_type = compression_at (get_or xs 5 0);
       entry_offset = get_or xs 6 0;
       entry_len = get_or xs 7 0;

@@ -1,38 +1,71 @@
-// Document 01's numbers of causes, by the names of the rules (`specs/Causes.antt` of `rules`).
-pub const WRONG_KIND: u64 = 1;
+// The causes of refusals, by the names of the rules (`specs/Causes.antt` of `rules`), and what a refused call returns.
+ghost use Rattle.std.specs.Prelude.{None, ◌≡◌};
+ghost use Rattle.pipe_log.specs.Causes.{number_of};
 
-pub const TOO_LONG: u64 = 2;
+// What a refusal is for, in the order of the numbers.
+#[derive(Clone, Copy, Debug, PartialEq, Eq)]
+pub enum Cause {
+    WrongKind,
+    TooLong,
+    Incomplete,
+    OutOfRange,
+    WrongQueue,
+    NotRewritable,
+    BadMark,
+    FilesGoBack,
+    GroupAbsent,
+    BadRange,
+    EntryCompacted,
+    EntryNotFound,
+    BelowFirst,
+    AboveLast,
+    AppendLeft,
+    AlreadyRewritten,
+    KeyGoesBack,
+    LimitPassed,
+    ListTooShort,
+}
 
-pub const INCOMPLETE: u64 = 3;
+impl Cause {
+    // The number of a cause, from 1 on.
+    pub fn number(self) -> u64
+        ensures { result ≡ number_of self }
+    {
+        match self {
+            Cause::WrongKind => 1,
+            Cause::TooLong => 2,
+            Cause::Incomplete => 3,
+            Cause::OutOfRange => 4,
+            Cause::WrongQueue => 5,
+            Cause::NotRewritable => 6,
+            Cause::BadMark => 7,
+            Cause::FilesGoBack => 8,
+            Cause::GroupAbsent => 9,
+            Cause::BadRange => 10,
+            Cause::EntryCompacted => 11,
+            Cause::EntryNotFound => 12,
+            Cause::BelowFirst => 13,
+            Cause::AboveLast => 14,
+            Cause::AppendLeft => 15,
+            Cause::AlreadyRewritten => 16,
+            Cause::KeyGoesBack => 17,
+            Cause::LimitPassed => 18,
+            Cause::ListTooShort => 19,
+        }
+    }
+}
 
-pub const OUT_OF_RANGE: u64 = 4;
+// What a refused call returns: the cause, and the position of the item that met it, where the cause has one.
+#[derive(Clone, Copy, Debug, PartialEq, Eq)]
+pub struct Refusal {
+    pub cause: Cause,
+    pub place: Option<usize>,
+}
 
-pub const WRONG_QUEUE: u64 = 5;
+impl From<Cause> for Refusal {
+    ghost from_gives = { λ c r. r ≡ (record { cause = c; place = None }) };
 
-pub const NOT_REWRITABLE: u64 = 6;
-
-pub const BAD_MARK: u64 = 7;
-
-pub const FILES_GO_BACK: u64 = 8;
-
-pub const GROUP_ABSENT: u64 = 9;
-
-pub const BAD_RANGE: u64 = 10;
-
-pub const ENTRY_COMPACTED: u64 = 11;
-
-pub const ENTRY_NOT_FOUND: u64 = 12;
-
-pub const BELOW_FIRST: u64 = 13;
-
-pub const ABOVE_LAST: u64 = 14;
-
-pub const APPEND_LEFT: u64 = 15;
-
-pub const ALREADY_REWRITTEN: u64 = 16;
-
-pub const KEY_GOES_BACK: u64 = 17;
-
-pub const LIMIT_PASSED: u64 = 18;
-
-pub const LIST_TOO_SHORT: u64 = 19;
+    fn from(cause: Cause) -> Refusal {
+        Refusal { cause, place: None }
+    }
+}

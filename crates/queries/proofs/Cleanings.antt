@@ -11,7 +11,7 @@ use borrow.Rule.Slice.PartMut.{put_mid}
 use Rattle.cells.specs.Part.{put}
 use Rattle.cells.specs.PartLaws.{length_part, same-around}
 use Rattle.maps.specs.OrderLaws.{split}
-use Rattle.rules.specs.Causes.{Refusal, ok, refused, refuse, and_then, wrong_kind}
+use Rattle.rules.specs.Causes.{by_cause, WrongKind, ListTooShort, ByCause, Refusal, Ok, Err, refuse, and_then}
 use Rattle.rules.specs.Items.{LogQueue}
 use Rattle.rules.specs.Context.{Context, is_index, with_groups, with_waiting, with_cleaned}
 use Rattle.rules.specs.Queries.{answered, lent_after, take_cleaned, after_taking}
@@ -24,9 +24,6 @@ use Rattle.lists.specs.Rest as lists
 use Rattle.lists.specs.Calls.{kind_as, Becomes}
 use Rattle.contexts.specs.Contexts.{context_of, rest_at, Wf}
 use Rattle.contexts.specs.AreaLaws.{before_back, behind_back, lists-room, room_wf, room-waiting}
-use Rattle.queries.specs.declared.Taken.{Taken}
-use Rattle.queries.specs.declared.Taken.TheVariants.{Done, WrongKind, ListTooShort}
-use Rattle.queries.specs.Answers.{taken_as}
 use Rattle.queries.specs.Cleaned.{CleanedTaken, EmptiedBy, HandedOut}
 
 -- ---- the lists behind the groups
@@ -36,33 +33,33 @@ module _ (ys lent : List ℕ) (l : length ys ≡ 7855) (m : get_or ys 2 0 ≤ 64
   unfolding cleaned_in
   length-cleaned = length_part 3 (get_or ys 2 0) ys (omega arith)
 
-  pub no_room : (n : ℕ) → n ≡ get_or ys 2 0 → length lent < n → HandedOut ys lent ListTooShort ys lent
+  pub no_room : (n : ℕ) → n ≡ get_or ys 2 0 → length lent < n → HandedOut ys lent (Err ListTooShort) ys lent
   unfolding answered and_then lent_after EmptiedBy
   no_room n e h =
       let t = lt-leb (length (cleaned_in ys)) (length lent) (omega (arith, length-cleaned)) in
       record { number = rw t; list-is = rw t; emptied = λ cs w. refl }
 
-  pub handed : (n : ℕ) (ys' lent' : List ℕ) → n ≡ get_or ys 2 0 → n ≤ length lent → lent' ≡ put lent 0 (cleaned_in ys) → ((cs : List ℕ) → lists.Wf ys cs → Becomes (with_cleaned [] (rest_of ys cs)) ys cs ys') → HandedOut ys lent (Done n) ys' lent'
+  pub handed : (n : ℕ) (ys' lent' : List ℕ) → n ≡ get_or ys 2 0 → n ≤ length lent → lent' ≡ put lent 0 (cleaned_in ys) → ((cs : List ℕ) → lists.Wf ys cs → Becomes (with_cleaned [] (rest_of ys cs)) ys cs ys') → HandedOut ys lent (Ok n) ys' lent'
   unfolding answered and_then lent_after EmptiedBy put
   handed n ys' lent' e h g b =
       let t = le-leb (length (cleaned_in ys)) (length lent) (omega (arith, length-cleaned)) in
       record {
-        number = rw t (ap ok (e ∙ sym length-cleaned));
+        number = rw t (ap Ok (e ∙ sym length-cleaned));
         list-is = rw t (g ∙ rw (zero-add (length (cleaned_in ys))));
         emptied = b;
       }
 
 -- ---- what the rules say
 
-not-ok : {A : Type 0} {z : Refusal} {a : A} → refused z ≡ ok a → ⊥
+not-ok : {A : Type 0} {z : Refusal} {a : A} → Err z ≡ Ok a → ⊥
 not-ok e = let z : ◌≡◌ {A = ℕ} 0 1 = cc in omega arith
 
 module _ (lent cl : List ℕ) (c : Context) where
-  after_ok : (n : ℕ) → ok n ≡ and_then (answered lent (ok cl)) (λ rows. ok (length rows)) → after_taking (answered lent (ok cl)) c ≡ with_cleaned [] c
+  after_ok : (n : ℕ) → Ok n ≡ and_then (answered lent (Ok cl)) (λ rows. Ok (length rows)) → after_taking (answered lent (Ok cl)) c ≡ with_cleaned [] c
   unfolding answered and_then after_taking
   after_ok n e = split (leb (length cl) (length lent)) (λ t. rw t) (λ t. absurd (not-ok (sym (rw t at e))))
 
-  after-refused : (z : Refusal) → refused z ≡ and_then (answered lent (ok cl)) (λ rows. ok (length rows)) → after_taking (answered lent (ok cl)) c ≡ c
+  after-refused : (z : Refusal) → Err z ≡ and_then (answered lent (Ok cl)) (λ rows. Ok (length rows)) → after_taking (answered lent (Ok cl)) c ≡ c
   unfolding answered and_then after_taking
   after-refused z e = split (leb (length cl) (length lent)) (λ t. absurd (not-ok (rw t at e))) (λ t. rw t)
 
@@ -76,17 +73,17 @@ module _ (xs bs lent : List ℕ) where
   context-cleaned = refl
 
   module _ (k : Kind) (e : kind_as k ≡ kind_of (get_or (drop 9376 xs) 0 0)) where
-    taking_wrong : (q : LogQueue) → k ≡ kind.Context q → take_cleaned lent (context_of xs bs) ≡ refuse wrong_kind
+    taking_wrong : (q : LogQueue) → k ≡ kind.Context q → take_cleaned lent (context_of xs bs) ≡ refuse WrongKind
     unfolding take_cleaned is_index kind_as
     taking_wrong q d = rw (context-kind, ← e, d)
 
-    taking-right : k ≡ kind.Index → take_cleaned lent (context_of xs bs) ≡ answered lent (ok (cleaned_in (drop 9376 xs)))
+    taking-right : k ≡ kind.Index → take_cleaned lent (context_of xs bs) ≡ answered lent (Ok (cleaned_in (drop 9376 xs)))
     unfolding take_cleaned is_index kind_as
     taking-right d = rw (context-kind, ← e, d, context-cleaned)
 
     -- ---- a context
 
-    pub wrong-taken : Wf xs bs → (q : LogQueue) → k ≡ kind.Context q → CleanedTaken xs bs lent WrongKind xs lent
+    pub wrong-taken : Wf xs bs → (q : LogQueue) → k ≡ kind.Context q → CleanedTaken xs bs lent (Err WrongKind) xs lent
     unfolding and_then lent_after after_taking
     wrong-taken w q d =
         let t = taking_wrong q d in
@@ -129,7 +126,7 @@ module _ (xs bs lent : List ℕ) where
     -- ---- the index
 
     module _ (k : Kind) (e : kind_as k ≡ kind_of (get_or (drop 9376 xs) 0 0)) (d : k ≡ kind.Index) where
-      left-taken : (r : Taken) (lent' : List ℕ) (z : Refusal) → taken_as r ≡ refused z → HandedOut (drop 9376 xs) lent r ys' lent' → ys' ≡ drop 9376 xs → CleanedTaken xs bs lent r xs' lent'
+      left-taken : (r : ByCause ℕ) (lent' : List ℕ) (z : Refusal) → by_cause r ≡ Err z → HandedOut (drop 9376 xs) lent r ys' lent' → ys' ≡ drop 9376 xs → CleanedTaken xs bs lent r xs' lent'
       left-taken r lent' z f h s =
           let t = taking-right k e d in
           rw (same_area s)
@@ -140,13 +137,12 @@ module _ (xs bs lent : List ℕ) where
             wf = w;
           })
 
-      pub taken : (r : Taken) (lent' : List ℕ) → HandedOut (drop 9376 xs) lent r ys' lent' → CleanedTaken xs bs lent r xs' lent'
+      pub taken : (r : ByCause ℕ) (lent' : List ℕ) → HandedOut (drop 9376 xs) lent r ys' lent' → CleanedTaken xs bs lent r xs' lent'
       unfolding EmptiedBy
-      taken (Done n) lent' h =
+      taken (Ok n) lent' h =
           let t = taking-right k e d in
           let b = h.emptied (drop 16384 bs) w.rest in
           let f : context_of xs' bs ≡ after_taking (take_cleaned lent (context_of xs bs)) (context_of xs bs) =
           rw t (context-emptied b ∙ sym (after_ok lent (cleaned_in (drop 9376 xs)) (context_of xs bs) n h.number)) in
           record { number = rw t h.number; list-is = rw t h.list-is; context-is = f; wf = emptied_wf b lent f }
-      taken WrongKind lent' h = left-taken WrongKind lent' _ refl h (h.emptied (drop 16384 bs) w.rest)
-      taken ListTooShort lent' h = left-taken ListTooShort lent' _ refl h (h.emptied (drop 16384 bs) w.rest)
+      taken (Err e) lent' h = left-taken (Err e) lent' _ refl h (h.emptied (drop 16384 bs) w.rest)

@@ -2,7 +2,7 @@
 -- row, are read back, and the rows behind them are as they were. Assumes nothing.
 use mathlib.Core.Bool.{Bool, true, false, ◌&&◌, ◌||◌}
 use mathlib.Core.List.{List, [], ◌∷◌, ◌++◌, map, reverse_aux}
-use mathlib.Core.Option.{Option}
+use Rattle.std.specs.Prelude.{Option}
 use mathlib.Core.Path.{◌≡◌, refl, ap, ◌∙◌}
 use Prim.Native.Nat.{ℕ, zero, suc, ◌+◌, ◌-◌, ◌*◌, ◌/◌, ◌≤◌, ◌<◌, min}
 use native.Mathlib.Nat.{add-zero, add-suc, suc-add}
@@ -17,7 +17,7 @@ use Rattle.maps.specs.Lists.{every}
 use Rattle.maps.specs.ListLaws.{every-head, every-tail, every-cons, every-selected}
 use Rattle.maps.specs.Maps.{Pair, Map}
 use Rattle.maps.specs.OrderLaws.{split}
-use Rattle.rules.specs.Causes.{Result, ok, refused, and_then}
+use Rattle.rules.specs.Causes.{Result, Ok, Err, and_then}
 use Rattle.rules.specs.Items.{Append, Rewrite, LogQueue, same_queue}
 use Rattle.rules.specs.Table.{Held, Table}
 use Rattle.rules.specs.TableQueries.{KeyValue, row_of, in_bounds, start_above_end, in_direction, scan, keys_of, fetch_kvs_before, fetch_rewritten_kvs}
@@ -33,8 +33,8 @@ unfoldable pub short : KeyValue → Bool
 short x = leb (length x.key) 32 && leb (length x.value) 32
 
 unfoldable pub Short : Result (List KeyValue) → Type 0
-Short (ok rows) = every short rows ≡ true
-Short (refused r) = Unit {0}
+Short (Ok rows) = every short rows ≡ true
+Short (Err r) = Unit {0}
 
 short_key : (x : KeyValue) → short x ≡ true → length x.key ≤ 32
 unfolding short
@@ -213,8 +213,8 @@ lent_laid lens out xs h l =
 
 pub rows_left : (lens out : List ℕ) (a : Result (List KeyValue)) → Short a → lent_list (lens_after (answered (lent_list lens out) a) lens) (bytes_after (answered (lent_list lens out) a) out) ≡ lent_after (lent_list lens out) (answered (lent_list lens out) a)
 unfolding Short answered and_then lens_after bytes_after lent_after
-rows_left lens out (refused r) h = refl
-rows_left lens out (ok xs) h =
+rows_left lens out (Err r) h = refl
+rows_left lens out (Ok xs) h =
     split (leb (length xs) (length (lent_list lens out)))
     (λ t. rw t (lent_laid lens out xs h (leb-true _ _ t)))
     (λ t. rw t)
@@ -274,10 +274,10 @@ module _ (n : ℕ) (rows bs : List ℕ) (t : Table) (e : t.keys ≡ keys_in n ro
   unfolding keys_of
   queue-short q = every-selected short_pair (λ p. same_queue p.val.file.queue q) t.keys own-short
 
-  pub before-short : (gate : ℕ) → Short (ok (fetch_kvs_before gate t))
+  pub before-short : (gate : ℕ) → Short (Ok (fetch_kvs_before gate t))
   unfolding Short fetch_kvs_before
   before-short gate = rows_short _ (every-selected short_pair (λ p. leb p.val.file.seq gate) (keys_of Append t) (queue-short Append))
 
-  pub rewritten-short : Short (ok (fetch_rewritten_kvs t))
+  pub rewritten-short : Short (Ok (fetch_rewritten_kvs t))
   unfolding Short fetch_rewritten_kvs
   rewritten-short = rows_short _ (queue-short Rewrite)

@@ -1,40 +1,35 @@
 -- A query of a group that stands at stretch k, by what the head and the parts of the stretch answer. Assumes nothing.
-use mathlib.Core.Bool.{Bool, true, false, cond}
-use mathlib.Core.List.{List, []}
-use mathlib.Core.Option.{Option, none, some, none-ne-some, some-ne-none}
+use mathlib.Core.Bool.{Bool}
+use mathlib.Core.List.{List}
+use Rattle.std.specs.Prelude.{Option, IsErrAnd}
+use Rattle.std.proofs.lemmas.Result.{err_from_is_err_and}
 use mathlib.Core.Path.{◌≡◌, refl, sym, ◌∙◌}
 use Prim.Native.Nat.{ℕ, ◌*◌, ◌≤◌, ◌<◌}
 use lib.ListN.{length}
-use Rattle.maps.specs.Lists.{map_option, or_else}
-use Rattle.maps.specs.Maps.{Map, lookup, bytes}
-use Rattle.rules.specs.Causes.{Result, ok, refuse, and_then, group_absent}
+use Rattle.maps.specs.Maps.{Map}
+use Rattle.rules.specs.Causes.{Cause, ByCause, Err, Result, Ok, and_then}
 use Rattle.rules.specs.Items.{LogQueue}
 use Rattle.rules.specs.Table.{Held, Table, first_index_of, last_index}
 use Rattle.rules.specs.TableQueries.{KeyValue, rewrite_count, get_key, min_file_seq}
 use Rattle.rules.specs.Queries.{in_group, answered, lent_after}
-use Rattle.key_lists.specs.declared.Fetched as listed
 use Rattle.kvs.specs.Rows.{keys_in}
 use Rattle.kvs.specs.Rows as kvs
 use Rattle.kvs.specs.RowLaws.{length-keys}
-use Rattle.kvs.specs.Calls.{given, GetKey}
+use Rattle.kvs.specs.Calls.{GetKey}
 use Rattle.key_lists.specs.Lists.{lens_after, bytes_after, Fetches}
-use Rattle.key_lists.specs.Lists as keys
 use Rattle.memtable.specs.declared.Head.{Head}
-use Rattle.memtable.specs.declared.Found.{Found}
 use Rattle.memtable.specs.Views.{table_of}
 use Rattle.memtable.specs.Views as memtable
-use Rattle.memtable.specs.Queries.{found_of, FirstAnswer, LastAnswer, RewriteCountAnswer}
+use Rattle.memtable.specs.Queries.{FirstAnswer, LastAnswer, RewriteCountAnswer}
 use Rattle.memtable.specs.Whole.{MinFileSeq}
 use Rattle.memtable.specs.WindowLaws.{length-window}
 use Rattle.stretch.specs.Stretch.{head_part, entry_rows, key_count, key_rows, is_counted, table_in}
 use Rattle.stretch.specs.Stretch as stretch
 use Rattle.groups.specs.Area.{stretch_at, bytes_at}
 use Rattle.contexts.specs.Contexts.{context_of, Wf}
-use Rattle.queries.specs.declared.Fetched.{Fetched, TheVariants.GroupAbsent}
-use Rattle.queries.specs.Answers.{fetched_as}
-use Rattle.queries.specs.Fetches.{KeysFetched, told_of, value_of, Got}
-use Rattle.queries.specs.Places.{StandsAt}
-use Rattle.queries.specs.PlaceLaws.{asked_at}
+use Rattle.queries.specs.Fetches.{KeysFetched}
+use Rattle.queries.specs.Places.{StandsAt, Stands}
+use Rattle.queries.specs.PlaceLaws.{asked_at, asked-absent}
 use Rattle.queries.proofs.RowLists.{Short, rows_left}
 
 module _ {g : ℕ} {xs bs : List ℕ} {k : ℕ} (s : StandsAt g xs bs k) where
@@ -59,22 +54,22 @@ module _ {g : ℕ} {xs bs : List ℕ} {k : ℕ} (s : StandsAt g xs bs k) where
         let p = stretch_at k xs in
         rw (e, d) at (f (keys_in (key_count p) (key_rows p) (bytes_at k bs)) (is_counted p)) ∙ sym (asked_at g query xs bs k s)
 
-    pub first-there : (f : Found) → FirstAnswer h f → ok (found_of f) ≡ in_group g (λ t. ok (first_index_of t.entries)) (context_of xs bs)
+    pub first-there : (f : Option ℕ) → FirstAnswer h f → Ok f ≡ in_group g (λ t. Ok (first_index_of t.entries)) (context_of xs bs)
     unfolding table_of
-    first-there f a = by_entries_lem (λ t. ok (first_index_of t.entries)) {rows = entry_rows (stretch_at k xs)} refl (ok (found_of f)) (λ keys counted. rw (a (entry_rows (stretch_at k xs))))
+    first-there f a = by_entries_lem (λ t. Ok (first_index_of t.entries)) {rows = entry_rows (stretch_at k xs)} refl (Ok f) (λ keys counted. rw (a (entry_rows (stretch_at k xs))))
 
-    pub last-there : (f : Found) → LastAnswer h f → ok (found_of f) ≡ in_group g (λ t. ok (last_index t.entries)) (context_of xs bs)
+    pub last-there : (f : Option ℕ) → LastAnswer h f → Ok f ≡ in_group g (λ t. Ok (last_index t.entries)) (context_of xs bs)
     unfolding table_of
-    last-there f a = by_entries_lem (λ t. ok (last_index t.entries)) {rows = entry_rows (stretch_at k xs)} refl (ok (found_of f)) (λ keys counted. rw (a (entry_rows (stretch_at k xs))))
+    last-there f a = by_entries_lem (λ t. Ok (last_index t.entries)) {rows = entry_rows (stretch_at k xs)} refl (Ok f) (λ keys counted. rw (a (entry_rows (stretch_at k xs))))
 
-    pub rewritten-there : (n : ℕ) → RewriteCountAnswer h n → ok n ≡ in_group g (λ t. ok (rewrite_count t)) (context_of xs bs)
+    pub rewritten-there : (n : ℕ) → RewriteCountAnswer h n → Ok n ≡ in_group g (λ t. Ok (rewrite_count t)) (context_of xs bs)
     rewritten-there n a =
-        by_entries_lem (λ t. ok (rewrite_count t)) {rows = entry_rows (stretch_at k xs)} refl (ok n) (λ keys counted. rw (a (entry_rows (stretch_at k xs)) own_wf keys counted))
+        by_entries_lem (λ t. Ok (rewrite_count t)) {rows = entry_rows (stretch_at k xs)} refl (Ok n) (λ keys counted. rw (a (entry_rows (stretch_at k xs)) own_wf keys counted))
 
-    pub count-there : ok h.len ≡ in_group g (λ t. ok (length t.entries)) (context_of xs bs)
+    pub count-there : Ok h.len ≡ in_group g (λ t. Ok (length t.entries)) (context_of xs bs)
     unfolding table_of
     count-there =
-        by_entries_lem (λ t. ok (length t.entries)) {rows = entry_rows (stretch_at k xs)} refl (ok h.len) (λ keys counted. rw (length-window h.first_index h.len (entry_rows (stretch_at k xs))))
+        by_entries_lem (λ t. Ok (length t.entries)) {rows = entry_rows (stretch_at k xs)} refl (Ok h.len) (λ keys counted. rw (length-window h.first_index h.len (entry_rows (stretch_at k xs))))
 
   -- ---- keys
 
@@ -86,53 +81,41 @@ module _ {g : ℕ} {xs bs : List ℕ} {k : ℕ} (s : StandsAt g xs bs k) where
     unfolding table_in table_of
     keys-are = rw (c, d, e)
 
-    pub keys-there : (query : Table → Result (List KeyValue)) (lens out lens' out' : List ℕ) (f : listed.Fetched) (r : Fetched) → ((t : Table) → t.keys ≡ keys_in n rows b → Fetches (query t) lens out f lens' out') → fetched_as r ≡ keys.fetched_as f → ((t : Table) → t.keys ≡ keys_in n rows b → Short (query t)) → KeysFetched (in_group g query (context_of xs bs)) lens out r lens' out'
-    keys-there query lens out lens' out' f r a m h =
+    pub keys-there : (query : Table → Result (List KeyValue)) (lens out lens' out' : List ℕ) (r : ByCause ℕ) → ((t : Table) → t.keys ≡ keys_in n rows b → Fetches (query t) lens out r lens' out') → ((t : Table) → t.keys ≡ keys_in n rows b → Short (query t)) → KeysFetched (in_group g query (context_of xs bs)) lens out r lens' out'
+    keys-there query lens out lens' out' r a h =
         let t = table_in (stretch_at k xs) (bytes_at k bs) in
         let u = a t keys-are in
         rw (asked_at g query xs bs k s)
         (record {
-          number = m ∙ u.answer;
+          number = u.answer;
           lens-are = u.lens-are;
           bytes-are = u.bytes-are;
           rows_are = rw (u.lens-are, u.bytes-are) (rows_left lens out (query t) (h t keys-are));
         })
 
-  pub keys-counted : {n : ℕ} → n ≡ key_count (stretch_at k xs) → ok n ≡ in_group g (λ t. ok (length t.keys)) (context_of xs bs)
+  pub keys-counted : {n : ℕ} → n ≡ key_count (stretch_at k xs) → Ok n ≡ in_group g (λ t. Ok (length t.keys)) (context_of xs bs)
   unfolding table_in table_of
   keys-counted c =
-      rw (asked_at g (λ t. ok (length t.keys)) xs bs k s, length-keys (key_count (stretch_at k xs)) (key_rows (stretch_at k xs)) (bytes_at k bs), c)
+      rw (asked_at g (λ t. Ok (length t.keys)) xs bs k s, length-keys (key_count (stretch_at k xs)) (key_rows (stretch_at k xs)) (bytes_at k bs), c)
 
--- ---- a group that is absent: 9, and the lists are as they were
+-- ---- a group that is absent, as a `?` passes it on: the lists are as they were
 
-pub keys-absent : {answer : Result (List KeyValue)} {lens out : List ℕ} → refuse group_absent ≡ answer → KeysFetched answer lens out GroupAbsent lens out
+pub keys-absent : {g : ℕ} {xs bs : List ℕ} {place : ByCause ℕ} {e : Cause} (query : Table → Result (List KeyValue)) {lens out : List ℕ} → Stands g xs bs place → place ≡ Err e → (r : ByCause ℕ) → IsErrAnd r (λ y. y ≡ e) → KeysFetched (in_group g query (context_of xs bs)) lens out r lens out
 unfolding answered and_then lens_after bytes_after lent_after
-keys-absent e = rw (← e) (record { number = refl; lens-are = refl; bytes-are = refl; rows_are = refl })
-
-pub got-absent : {answer : Result (Option (List ℕ))} → refuse group_absent ≡ answer → Got answer 9 []
-unfolding told_of value_of
-got-absent e = rw (← e) (record { told_is = refl; value-is = refl })
-
--- what is found of a key tells its value
-got_by : (o : Option Held) (found : Bool) (value : List ℕ) (told : ℕ) → map_option (λ (h : Held). h.value) o ≡ given found value → value ≡ or_else [] (λ (h : Held). h.value) o → told ≡ cond found 1 0 → Got (ok (map_option (λ (h : Held). h.value) o)) told value
-unfolding map_option or_else given told_of value_of
-got_by none true value told a v t = absurd (none-ne-some _ a)
-got_by none false value told a v t = record { told_is = t; value-is = v }
-got_by (some h) true value told a v t = record { told_is = t; value-is = v }
-got_by (some h) false value told a v t = absurd (some-ne-none _ a)
+keys-absent query s h r p =
+    let q = err_from_is_err_and r p in
+    rw (q.1, q.2, ← asked-absent _ _ _ _ _ _ s h) (record { number = refl; lens-are = refl; bytes-are = refl; rows_are = refl })
 
 -- ---- `get` and `min_file_seq` in the stretch p with its bytes d
 
 module _ (p d : List ℕ) where
-  pub min-there : {h : Head} {es : List ℕ} {n : ℕ} {rows : List ℕ} → h ≡ head_part p → es ≡ entry_rows p → n ≡ key_count p → rows ≡ key_rows p → (q : LogQueue) (f : Found) → MinFileSeq h es n rows q f → found_of f ≡ min_file_seq q (table_in p d)
+  pub min-there : {h : Head} {es : List ℕ} {n : ℕ} {rows : List ℕ} → h ≡ head_part p → es ≡ entry_rows p → n ≡ key_count p → rows ≡ key_rows p → (q : LogQueue) (f : Option ℕ) → MinFileSeq h es n rows q f → f ≡ min_file_seq q (table_in p d)
   unfolding table_in
   min-there a b c e q f m = rw (a, b, c, e) at (m d (is_counted p))
 
   pub min-fits : {h : Head} {es : List ℕ} {n : ℕ} {rows : List ℕ} → h ≡ head_part p → es ≡ entry_rows p → n ≡ key_count p → rows ≡ key_rows p → stretch.Wf p d → memtable.Wf h es × (n * 4 ≤ length rows)
   min-fits a b c e w = (rw (a, b) w.numbers.entries, rw (c, e) w.keys.rows_fit)
 
-  pub got-there : {n : ℕ} {rows b : List ℕ} → n ≡ key_count p → rows ≡ key_rows p → b ≡ d → (key : List ℕ) (found : Bool) (value : List ℕ) (told : ℕ) → GetKey n rows b key found value → told ≡ cond found 1 0 → Got (ok (get_key key (table_in p d))) told value
+  pub got-there : {n : ℕ} {rows b : List ℕ} → n ≡ key_count p → rows ≡ key_rows p → b ≡ d → (key : List ℕ) (value : Option (List ℕ)) → GetKey n rows b key value → value ≡ get_key key (table_in p d)
   unfolding table_in table_of get_key
-  got-there {n = n} {rows = rows} {b = b} c e f key found value told g t =
-      let a = g.answer (table_in p d) (rw (c, e, f)) in
-      rw (← c, ← e, ← f) (got_by (lookup bytes key (keys_in n rows b)) found value told (rw (← c, ← e, ← f) at a) g.part-is t)
+  got-there c e f key value g = rw (c, e, f) at g

@@ -1,5 +1,4 @@
 -- What the contracts of `queries` cite, and the laws of those definitions.
-pub mod Answers
 pub mod Fetches
 pub mod Places
 pub mod PlaceLaws

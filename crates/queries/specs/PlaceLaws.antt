@@ -1,7 +1,9 @@
 -- A query of one group goes by the table of the stretch where the group stands. Assumes nothing.
-use Rattle.std.specs.Prelude.{List, ◌≡◌, refl, ℕ}
+use Rattle.std.specs.Prelude.{List, ◌≡◌, refl, ℕ, None, IsErrAnd}
+use Rattle.std.proofs.lemmas.Result.{err_from_is_err_and}
 use Rattle.maps.specs.Lists.{or_else}
-use Rattle.rules.specs.Causes.{Result, refuse, group_absent}
+use Rattle.maps.specs.Maps.{lookup, numbers}
+use Rattle.rules.specs.Causes.{Cause, ByCause, Result, Ok, Err, by_cause, refuse, GroupAbsent}
 use Rattle.rules.specs.Table.{Table}
 use Rattle.rules.specs.Context.{with_groups}
 use Rattle.rules.specs.Queries.{in_group}
@@ -11,8 +13,6 @@ use Rattle.groups.specs.declared.Slot.TheVariants as slot
 use Rattle.groups.specs.Area.{stretch_at, bytes_at, groups_of, Found}
 use Rattle.groups.specs.Laws.{found_at_lem, found-free, found-full, lookup-found, lookup-free, lookup-full}
 use Rattle.contexts.specs.Contexts.{context_of, Wf}
-use Rattle.queries.specs.declared.Place.{Place}
-use Rattle.queries.specs.declared.Place.TheVariants.{At, Absent}
 use Rattle.queries.specs.Places.{StandsAt, Stands}
 
 -- the groups of a context are those of its stretches
@@ -22,28 +22,24 @@ context-groups xs bs = refl
 
 -- ---- where a group stands
 
-module _ (g : ℕ) (xs bs : List ℕ) (w : Wf xs bs) (r : Slot) (f : Found g xs r) where
-  pub place_at : (k : ℕ) → r ≡ slot.At k → Stands g xs bs (At k)
-  unfolding Stands
-  place_at k e =
+module _ (g : ℕ) (xs bs : List ℕ) (w : Wf xs bs) where
+  pub place_at : (r : Slot) (k : ℕ) → Found g xs r → r ≡ slot.At k → Stands g xs bs (Ok k)
+  place_at r k f e =
       let a = found_at_lem g k xs r f e in
-      record {
+      let s : StandsAt g xs bs k = record {
         inside = a.inside;
         wf = w.groups.used k a.inside a.used;
         table = rw (context-groups xs bs) (lookup-found g k xs bs w.groups a);
-      }
+      } in
+      record { at = λ j h. let same : k ≡ j = cc in rw (← same) s; absent = λ e h. absurd (cc) }
 
-  pub place-free : (k : ℕ) → r ≡ slot.Free k → Stands g xs bs Absent
-  unfolding Stands
-  place-free k e = rw (context-groups xs bs) (lookup-free g k xs bs (found-free g k xs r f e))
+  absent : lookup numbers g (groups_of xs bs) ≡ None → Stands g xs bs (Err GroupAbsent)
+  absent l = record { at = λ j h. absurd (cc); absent = λ e h. ((cc), rw (context-groups xs bs) l) }
 
-  pub place-full : r ≡ slot.Full → Stands g xs bs Absent
-  unfolding Stands
-  place-full e = rw (context-groups xs bs) (lookup-full g xs bs (found-full g xs r f e))
-
-pub stands_at : {g : ℕ} {xs bs : List ℕ} {r : Place} {k : ℕ} → Stands g xs bs r → r ≡ At k → StandsAt g xs bs k
-unfolding Stands
-stands_at s e = rw e at s
+  pub place-none : (r : Slot) → Found g xs r → ((k : ℕ) → r ≡ slot.At k → ⊥) → Stands g xs bs (Err GroupAbsent)
+  place-none (slot.At k) f n = absurd (n k refl)
+  place-none (slot.Free k) f n = absent (lookup-free g k xs bs (found-free g k xs (slot.Free k) f refl))
+  place-none slot.Full f n = absent (lookup-full g xs bs (found-full g xs slot.Full f refl))
 
 -- ---- what is asked of it
 
@@ -52,7 +48,11 @@ pub asked_at : {A : Type 0} (g : ℕ) (query : Table → Result A) (xs bs : List
 unfolding in_group or_else
 asked_at g query xs bs k s = rw s.table
 
--- a group that stands nowhere is absent: 9
-pub asked-absent : {A : Type 0} (g : ℕ) (query : Table → Result A) (xs bs : List ℕ) (r : Place) → Stands g xs bs r → r ≡ Absent → refuse group_absent ≡ in_group g query (context_of xs bs)
-unfolding Stands in_group or_else
-asked-absent g query xs bs r s e = rw (rw e at s)
+-- the refusal of one that stands nowhere is the group's answer
+pub asked-absent : {A : Type 0} (g : ℕ) (query : Table → Result A) (xs bs : List ℕ) (r : ByCause ℕ) (e : Cause) → Stands g xs bs r → r ≡ Err e → refuse e ≡ in_group g query (context_of xs bs)
+unfolding in_group or_else
+asked-absent g query xs bs r e s h = let a = s.absent e h in rw (a.0, a.1)
+
+-- as a `?` passes it on
+pub passed-on : {A : Type 0} {g : ℕ} (query : Table → Result A) {xs bs : List ℕ} {r : ByCause ℕ} {e : Cause} → Stands g xs bs r → r ≡ Err e → (x : ByCause A) → IsErrAnd x (λ y. y ≡ e) → by_cause x ≡ in_group g query (context_of xs bs)
+passed-on query s h x p = let q = err_from_is_err_and x p in rw (q.1, q.2) (asked-absent _ _ _ _ _ _ s h)

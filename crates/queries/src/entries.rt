@@ -1,74 +1,57 @@
 // What is asked of a group's entries.
 ghost use Rattle.std.specs.Prelude.{◌≡◌, length};
-ghost use Rattle.rules.specs.Causes.{ok};
+ghost use Rattle.rules.specs.Causes.{by_cause, Ok};
 ghost use Rattle.rules.specs.Table.{first_index_of, last_index};
 ghost use Rattle.rules.specs.TableQueries.{get_entry, rewrite_count, has_at_least_some_entries_before};
 ghost use Rattle.rules.specs.Queries.{in_group};
 ghost use Rattle.contexts.specs.Contexts.{context_of, Wf};
-ghost use Rattle.queries.specs.Answers.{number_as, count_as, entry_as, some_before_as};
 
-use crate::answers::{entry_found, number_found, some_before};
 use crate::places::{entry_rows, head_at, place_of};
-use crate::{Counted, FoundEntry, FoundNumber, Place, SomeBefore};
+use pipe_log::{Cause, EntryIndex};
 
 // The index of a group's first entry.
-pub fn first_index(xs: &[u64], bs: &[u8], group: u64) -> FoundNumber
+pub fn first_index(xs: &[u64], bs: &[u8], group: u64) -> Result<Option<u64>, Cause>
     requires { Wf xs.now bs.now }
-    ensures { number_as result ≡ in_group group (λ t. ok (first_index_of t.entries)) (context_of xs.now bs.now) }
+    ensures { by_cause result ≡ in_group group (λ t. Ok (first_index_of t.entries)) (context_of xs.now bs.now) }
 {
-    let Place::At(k) = place_of(xs, group) else {
-        return FoundNumber::GroupAbsent;
-    };
-    let head = head_at(xs, k);
-    number_found(head.first_index())
+    let k = place_of(xs, group)?;
+    Ok(head_at(xs, k).first_index())
 }
 
 // The index of a group's last entry.
-pub fn last_index(xs: &[u64], bs: &[u8], group: u64) -> FoundNumber
+pub fn last_index(xs: &[u64], bs: &[u8], group: u64) -> Result<Option<u64>, Cause>
     requires { Wf xs.now bs.now }
-    ensures { number_as result ≡ in_group group (λ t. ok (last_index t.entries)) (context_of xs.now bs.now) }
+    ensures { by_cause result ≡ in_group group (λ t. Ok (last_index t.entries)) (context_of xs.now bs.now) }
 {
-    let Place::At(k) = place_of(xs, group) else {
-        return FoundNumber::GroupAbsent;
-    };
-    let head = head_at(xs, k);
-    number_found(head.last_index())
+    let k = place_of(xs, group)?;
+    Ok(head_at(xs, k).last_index())
 }
 
 // The number of a group's Rewrite entries.
-pub fn rewrite_count(xs: &[u64], bs: &[u8], group: u64) -> Counted
+pub fn rewrite_count(xs: &[u64], bs: &[u8], group: u64) -> Result<usize, Cause>
     requires { Wf xs.now bs.now }
-    ensures { count_as result ≡ in_group group (λ t. ok (rewrite_count t)) (context_of xs.now bs.now) }
+    ensures { by_cause result ≡ in_group group (λ t. Ok (rewrite_count t)) (context_of xs.now bs.now) }
 {
-    let Place::At(k) = place_of(xs, group) else {
-        return Counted::GroupAbsent;
-    };
-    let head = head_at(xs, k);
-    Counted::Is(head.rewrite_count())
+    let k = place_of(xs, group)?;
+    Ok(head_at(xs, k).rewrite_count())
 }
 
 // The number of a group's entries.
-pub fn entry_count(xs: &[u64], bs: &[u8], group: u64) -> Counted
+pub fn entry_count(xs: &[u64], bs: &[u8], group: u64) -> Result<usize, Cause>
     requires { Wf xs.now bs.now }
-    ensures { count_as result ≡ in_group group (λ t. ok (length t.entries)) (context_of xs.now bs.now) }
+    ensures { by_cause result ≡ in_group group (λ t. Ok (length t.entries)) (context_of xs.now bs.now) }
 {
-    let Place::At(k) = place_of(xs, group) else {
-        return Counted::GroupAbsent;
-    };
-    let head = head_at(xs, k);
-    Counted::Is(head.len)
+    let k = place_of(xs, group)?;
+    Ok(head_at(xs, k).len)
 }
 
 // The record at an index of a group, if it is held.
-pub fn get_entry(xs: &[u64], bs: &[u8], group: u64, index: u64) -> FoundEntry
+pub fn get_entry(xs: &[u64], bs: &[u8], group: u64, index: u64) -> Result<Option<EntryIndex>, Cause>
     requires { Wf xs.now bs.now }
-    ensures { entry_as result ≡ in_group group (λ t. ok (get_entry index t)) (context_of xs.now bs.now) }
+    ensures { by_cause result ≡ in_group group (λ t. Ok (get_entry index t)) (context_of xs.now bs.now) }
 {
-    let Place::At(k) = place_of(xs, group) else {
-        return FoundEntry::GroupAbsent;
-    };
-    let head = head_at(xs, k);
-    entry_found(head.get_entry(entry_rows(xs, k), index))
+    let k = place_of(xs, group)?;
+    Ok(head_at(xs, k).get_entry(entry_rows(xs, k), index))
 }
 
 // Whether a group's entry at place `count` − 1 has a sequence number up to the gate's.
@@ -78,13 +61,10 @@ pub fn has_at_least_some_entries_before(
     group: u64,
     gate: u64,
     count: usize,
-) -> SomeBefore
+) -> Result<bool, Cause>
     requires { Wf xs.now bs.now }
-    ensures { some_before_as result ≡ in_group group (has_at_least_some_entries_before gate count) (context_of xs.now bs.now) }
+    ensures { by_cause result ≡ in_group group (has_at_least_some_entries_before gate count) (context_of xs.now bs.now) }
 {
-    let Place::At(k) = place_of(xs, group) else {
-        return SomeBefore::GroupAbsent;
-    };
-    let head = head_at(xs, k);
-    some_before(head.has_at_least_some_entries_before(entry_rows(xs, k), gate, count))
+    let k = place_of(xs, group)?;
+    head_at(xs, k).has_at_least_some_entries_before(entry_rows(xs, k), gate, count)
 }

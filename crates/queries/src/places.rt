@@ -5,21 +5,20 @@ ghost use Rattle.groups.specs.Area.{stretch_at, bytes_at};
 ghost use Rattle.contexts.specs.Contexts.{Wf};
 ghost use Rattle.queries.specs.Places.{Stands};
 
-use crate::Place;
 use groups::Slot;
 use memtable::Head;
+use pipe_log::Cause;
 use stretch::{BYTES, ENTRIES_AT, KEY_COUNT, KEYS_AT, STRETCH};
 
 // The stretch where a group stands.
-pub fn place_of(xs: &[u64], group: u64) -> Place
+pub fn place_of(xs: &[u64], group: u64) -> Result<usize, Cause>
     requires { 9376 ≤ length xs.now }
     ensures { (bs : List ℕ) → Wf xs.now bs → Stands group xs.now bs result }
 {
-    match groups::find(xs, group) {
-        Slot::At(k) => Place::At(k),
-        Slot::Free(_) => Place::Absent,
-        Slot::Full => Place::Absent,
-    }
+    let Slot::At(k) = groups::find(xs, group) else {
+        return Err(Cause::GroupAbsent);
+    };
+    Ok(k)
 }
 
 // The head of stretch k.

@@ -1,4 +1,3 @@
 pub mod FillWays
-pub mod RangeWays
 pub mod PlanWays
 pub mod RowWays

@@ -1,9 +1,12 @@
--- A plan carried out gives the rules' answer: each way through `plan`. Assumes nothing.
+-- A plan gives the rules' answer, and carried out puts it into the list: each way through `plan` and `fetch_records`. Assumes nothing.
+use Rattle.memtable.specs.declared.RowRange.{RowRange}
+use Rattle.std.specs.Prelude.{IsErrAnd}
+use Rattle.std.proofs.lemmas.Result.{err_from_is_err_and}
+use Rattle.memtable.specs.Columns.{judged}
 use mathlib.Core.List.{List}
 use mathlib.Core.Path.{◌≡◌, refl, sym, ◌∙◌}
-use Prim.Native.Nat.{ℕ, ◌+◌, ◌*◌, ◌≤◌, ◌<◌}
-use native.Mathlib.Nat.{zero-add, not-suc-le-zero}
-use native.Mathlib.Decide.{dec_le}
+use Prim.Native.Nat.{ℕ, ◌+◌, ◌*◌, ◌^◌, ◌≤◌, ◌<◌}
+use native.Mathlib.Nat.{zero-add}
 use native.Mathlib.Omega.{arith}
 use lib.ListN.{length, get_or, drop}
 use lib.Seq.{get_or-drop}
@@ -11,13 +14,12 @@ use borrow.Author.Tests.{le-leb, lt-leb}
 use Rattle.cells.specs.Part.{part, put}
 use Rattle.cells.specs.PartLaws.{length_part, get_or-part}
 use Rattle.pipe_log.specs.Rows.{window}
-use Rattle.rules.specs.Causes.{Cause, Result, ok, refuse, and_then, group_absent, entry_compacted, entry_not_found}
+use Rattle.rules.specs.Causes.{ListTooShort, ByCause, Err, Cause, Result, Ok, refuse, and_then}
 use Rattle.rules.specs.Items.{EntryIndex}
 use Rattle.rules.specs.Table.{Table}
 use Rattle.rules.specs.Queries.{answered, lent_after, in_group}
 use Rattle.kvs.specs.Rows.{keys_in}
 use Rattle.memtable.specs.declared.Head.{Head}
-use Rattle.memtable.specs.declared.Range.{Range, TheVariants.Rows, TheVariants.EntryCompacted, TheVariants.EntryNotFound}
 use Rattle.memtable.specs.Views.{AnyRow}
 use Rattle.memtable.specs.Views as table
 use Rattle.memtable.specs.Fetches.{entries_at, range_of, RangeAnswer}
@@ -26,57 +28,45 @@ use Rattle.memtable.specs.WindowLaws.{length-window, window_same}
 use Rattle.stretch.specs.Stretch.{head_part, entry_rows, key_count, key_rows, is_counted, table_in}
 use Rattle.groups.specs.Area.{stretch_at, bytes_at}
 use Rattle.contexts.specs.Contexts.{context_of, Wf}
-use Rattle.queries.specs.declared.Fetched.{Fetched}
-use Rattle.queries.specs.declared.Fetched.TheVariants as answer
-use Rattle.queries.specs.Answers.{fetched_as}
 use Rattle.queries.specs.Places.{StandsAt}
 use Rattle.queries.specs.PlaceLaws.{asked_at}
 use Rattle.records.specs.declared.Plan.{Plan}
 use Rattle.records.specs.Filling.{Fillable}
-use Rattle.records.specs.FillingLaws.{filled_none}
-use Rattle.records.specs.Fetches.{Fetching}
-use Rattle.records.specs.Plans.{refusal, plan_of, Within, Planned}
+use Rattle.records.specs.declared.Listed.{Listed}
+use Rattle.records.specs.Fetches.{Fetching, Listing}
+use Rattle.records.specs.Plans.{Storing, Planned}
 
 -- ---- what is answered in a list
 
-pub fetched-refused : (lent : List EntryIndex) (cause : Cause) (r : Fetched) → fetched_as r ≡ refuse cause → Fetching (refuse cause) lent r lent
-unfolding answered lent_after and_then
-fetched-refused lent cause r e = record { number = e; list = refl }
+-- a refusal that a `?` passes on leaves the list
+pub fetched-refused : {answer : Result (List EntryIndex)} {lent : List EntryIndex} {cause : Cause} → judged (length lent) answer ≡ refuse cause → (r : ByCause ℕ) → IsErrAnd r (λ y. y ≡ cause) → Fetching answer lent r lent
+unfolding answered judged lent_after and_then
+fetched-refused e r p = let q = err_from_is_err_and r p in rw (q.1, q.2) (record { number = rw e; list = rw e })
 
-module _ (lent es : List EntryIndex) (n : ℕ) (e : length es ≡ n) where
-  fetched-short : length lent < n → Fetching (ok es) lent answer.ListTooShort lent
-  unfolding answered lent_after and_then
-  fetched-short l =
-      record {
-        number = rw (e, lt-leb n (length lent) l);
-        list = rw (e, lt-leb n (length lent) l);
-      }
+pub fetched-done : {answer : Result (List EntryIndex)} {xs : List ℕ} {lent : List EntryIndex} {p : Plan} → Storing answer xs (length lent) p → Fetching answer lent (Ok p.count) (put lent 0 (window p.first p.count (drop p.at xs)))
+unfolding answered lent_after and_then put
+fetched-done {xs = xs} {lent} {p} s =
+    let e = length-window p.first p.count (drop p.at xs) in
+    let t = le-leb p.count (length lent) s.fillable.fits in
+    record {
+      number = rw (s.records-are, e, t, e);
+      list = rw (s.records-are, e, t, e, zero-add p.count);
+    }
 
-  fetched-done : n ≤ length lent → Fetching (ok es) lent (answer.Done n) (put lent 0 es)
-  unfolding answered lent_after and_then put
-  fetched-done l =
-      record {
-        number = rw (e, le-leb n (length lent) l, e);
-        list = rw (e, le-leb n (length lent) l, e, zero-add n);
-      }
+-- a refused fetch leaves the list that its caller keeps
+left_lem : (lent : List EntryIndex) (a : Result (List EntryIndex)) {cause : Cause} → refuse cause ≡ and_then a (λ es. Ok (length es)) → lent ≡ lent_after lent a
+unfolding and_then lent_after
+left_lem lent (Ok es) e = absurd (cc)
+left_lem lent (Err r) e = refl
 
--- ---- a plan that stores nothing
+pub listing-refused : {answer : Result (List EntryIndex)} {lent exits : List EntryIndex} {cause : Cause} → Fetching answer lent (Err cause) exits → (r : ByCause Listed) → IsErrAnd r (λ y. y ≡ cause) → Listing answer lent r
+listing-refused {lent = lent} f r p = let q = err_from_is_err_and r p in rw (q.1, q.2) (record { number = f.number; list = left_lem lent _ f.number })
 
-module _ (query : Table → Result (List EntryIndex)) (g : ℕ) (xs bs : List ℕ) (room : ℕ) where
-  planned-refusal : (r : Fetched) → ((lent : List EntryIndex) → length lent ≡ room → Fetching (in_group g query (context_of xs bs)) lent r lent) → Planned query g xs bs room (refusal r)
-  unfolding refusal
-  planned-refusal r f =
-      record {
-        fillable = record { inside = omega arith; index = omega arith; rows = λ i _ l. absurd (not-suc-le-zero l); fits = omega arith };
-        fetching = λ lent l. rw (filled_none lent 0 (drop 0 xs)) (f lent l);
-      }
+-- ---- a plan that is refused
 
-  refused_by : (cause : Cause) (r : Fetched) → fetched_as r ≡ refuse cause → refuse cause ≡ in_group g query (context_of xs bs) → Planned query g xs bs room (refusal r)
-  refused_by cause r e d = planned-refusal r (λ lent _. rw (← d) (fetched-refused lent cause r e))
-
-  -- the group is absent
-  pub planned-absent : {r : Plan} → refuse group_absent ≡ in_group g query (context_of xs bs) → r ≡ refusal answer.GroupAbsent → Planned query g xs bs room r
-  planned-absent d e = rw e (refused_by group_absent answer.GroupAbsent refl d)
+pub planned-refused : {answer : Result (List EntryIndex)} (xs : List ℕ) (room : ℕ) {cause : Cause} → refuse cause ≡ answer → (r : ByCause Plan) → IsErrAnd r (λ y. y ≡ cause) → Planned answer xs room r
+unfolding judged and_then
+planned-refused xs room e r p = let q = err_from_is_err_and r p in rw (q.1, q.2, ← e) refl
 
 -- ---- a plan for rows of stretch k
 
@@ -152,43 +142,35 @@ module _ {g : ℕ} {xs bs : List ℕ} {k : ℕ} (w : Wf xs bs) (s : StandsAt g x
         }
 
   -- what the rows of the stretch answer, the group answers
-  range-there : (query : Table → Result (List EntryIndex)) (range : Range) → RangeAnswer h rows query range → range_of range h rows ≡ in_group g query (context_of xs bs)
+  range-there : (query : Table → Result (List EntryIndex)) (range : ByCause RowRange) → RangeAnswer h rows query range → range_of range h rows ≡ in_group g query (context_of xs bs)
   unfolding table_in
   range-there query range a =
       let p = stretch_at k xs in
       a.rule (keys_in (key_count p) (key_rows p) (bytes_at k bs)) (is_counted p) ∙ sym (asked_at g query xs bs k s)
 
-  planned : (query : Table → Result (List EntryIndex)) (range : Range) (room : ℕ) → RangeAnswer h rows query range → Planned query g xs bs room (plan_of k h range room)
-  unfolding plan_of
-  planned query (Rows a n) room r =
-      let d = range-there query (Rows a n) r in
-      let e = length-records a n r.within in
-      elim (dec_le n room) [
-        | yes l ↦
-            rw (le-leb n room l)
-            record {
-              fillable = fillable_at a n r.within room l;
-              fetching = λ lent f. rw (← d, records_at a n r.within) (fetched-done lent (entries_at a n h rows) n e (rw f l));
-            }
-        | no l ↦
-            rw (lt-leb n room (omega arith))
-            (planned-refusal query g xs bs room answer.ListTooShort (λ lent f. rw (← d) (fetched-short lent (entries_at a n h rows) n e (rw f (omega arith)))))
-      ]
-  planned query EntryCompacted room r = refused_by query g xs bs room entry_compacted answer.EntryCompacted refl (range-there query EntryCompacted r)
-  planned query EntryNotFound room r = refused_by query g xs bs room entry_not_found answer.EntryNotFound refl (range-there query EntryNotFound r)
-
   module _ {head : Head} (e : head ≡ h) {lent : List ℕ} (d : lent ≡ rows) where
     pub rows_wf : table.Wf head lent
     rows_wf = rw (e, d) own_wf
 
-    pub range-within : (query : Table → Result (List EntryIndex)) (range : Range) → RangeAnswer head lent query range → Within k head range
-    range-within query range a =
-        let r : head.len * 8 ≤ 512 = rw e (let m = length-rows in let u = own_wf.room in omega (arith, m, u)) in
-        record { inside = s.inside; end = a.within; rows = r; index = rows_wf.index }
-
-    pub planned_at : (query : Table → Result (List EntryIndex)) (range : Range) (room : ℕ) {p : Plan} → RangeAnswer head lent query range → p ≡ plan_of k head range room → Planned query g xs bs room p
-    planned_at query range room a f = rw (f, e) (planned query range room (rw (e, d) at a))
-
     -- what the range answers, the group answers
-    pub range-answers : (query : Table → Result (List EntryIndex)) (range : Range) → RangeAnswer head lent query range → range_of range head rows ≡ in_group g query (context_of xs bs)
-    range-answers query range a = rw e (range-there query range (rw (e, d) at a))
+    pub range-answers : {query : Table → Result (List EntryIndex)} {range : ByCause RowRange} → RangeAnswer head lent query range → range_of range head rows ≡ in_group g query (context_of xs bs)
+    range-answers a = rw e (range-there _ _ (rw (e, d) at a))
+
+    module _ {query : Table → Result (List EntryIndex)} {range : RowRange} (a : RangeAnswer head lent query (Ok range)) where
+      within : range.from + range.count ≤ h.len
+      within = rw e at a.within
+
+      -- the places and the indexes of the rows
+      pub fits : ((range.from + range.count) * 8 ≤ 512) × (head.first_index + range.from + range.count ≤ 2 ^ 63)
+      fits = (last_row range.from range.count within, let i = own_wf.index in rw e (omega (arith, i, within)))
+
+      pub plan-short : (room : ℕ) → room < range.count → Planned (in_group g query (context_of xs bs)) xs room (Err ListTooShort)
+      unfolding judged and_then
+      plan-short room l = rw (← range-answers a, e, length-records range.from range.count within, lt-leb range.count room l) refl
+
+      pub plan-done : (room : ℕ) → range.count ≤ room → Storing (in_group g query (context_of xs bs)) xs room (record { at = k * 586 + 10 + range.from * 8; first = head.first_index + range.from; count = range.count })
+      plan-done room l =
+          rw e (record {
+            fillable = fillable_at range.from range.count within room l;
+            records-are = rw (records_at range.from range.count within) (sym (rw e at (range-answers a)));
+          })

@@ -1,38 +1,32 @@
 -- Records laid into a lent list as rows: one row, one row more, and what is answered. Assumes nothing.
+use Rattle.std.specs.Prelude.{IsErrAnd}
+use Rattle.std.proofs.lemmas.Result.{err_from_is_err_and}
+use Rattle.memtable.specs.Columns.{judged}
+use Rattle.records.specs.declared.Plan.{Plan}
+use Rattle.records.specs.Plans.{Storing}
 use mathlib.Core.List.{List, [], ◌∷◌, ◌++◌, append_assoc, append-nil}
 use mathlib.Core.Path.{◌≡◌, refl, sym, ap, ◌∙◌}
-use Prim.Native.Nat.{ℕ, suc, ◌+◌, ◌*◌, ◌/◌, ◌^◌, ◌≤◌, ◌<◌}
-use native.Mathlib.Nat.{zero-add, le_refl}
+use Prim.Native.Nat.{ℕ, suc, ◌+◌, ◌*◌, ◌/◌, ◌≤◌, ◌<◌}
+use native.Mathlib.Nat.{zero-add}
 use native.Mathlib.Numerals.{add-one}
 use native.Mathlib.Omega.{arith}
 use lib.ListN.{length, get_or, drop, length-append}
 use lib.Seq.{get_or-drop}
-use borrow.Author.Tests.{le-leb, lt-leb}
+use borrow.Author.Tests.{le-leb}
 use Rattle.cells.specs.Part.{put}
 use Rattle.cells.specs.PartLaws.{length-put, put-nil, put-append}
 use Rattle.pipe_log.specs.Rows.{with_index, window}
-use Rattle.rules.specs.Causes.{Cause, Result, ok, refuse, and_then, group_absent, entry_compacted, entry_not_found}
+use Rattle.rules.specs.Causes.{ByCause, Cause, Result, Ok, refuse, and_then}
 use Rattle.rules.specs.Items.{EntryIndex, file_of}
 use Rattle.rules.specs.Queries.{answered}
 use Rattle.log_batch.specs.OpenLaws.{length-entries}
-use Rattle.memtable.specs.declared.Head.{Head}
-use Rattle.memtable.specs.declared.Range.{Range, TheVariants.Rows, TheVariants.EntryCompacted, TheVariants.EntryNotFound}
 use Rattle.memtable.specs.Views.{row_at, AnyRow}
 use Rattle.memtable.specs.Columns.{block_offset, block_len}
-use Rattle.memtable.specs.Fetches.{range_of, range_end}
 use Rattle.memtable.specs.RowLaws.{row-queue, row-seq, row-offset, row_len, row-compression, row_entry-offset, row_entry_len}
 use Rattle.memtable.specs.WindowLaws.{length-window}
-use Rattle.stretch.specs.Stretch.{head_part, entry_rows}
-use Rattle.groups.specs.Area.{stretch_at}
-use Rattle.contexts.specs.Contexts.{Wf}
-use Rattle.queries.specs.declared.Fetched.{Fetched}
-use Rattle.queries.specs.declared.Fetched.TheVariants as answer
-use Rattle.queries.specs.Answers.{fetched_as}
-use Rattle.queries.specs.Places.{StandsAt}
 use Rattle.records.specs.Filling.{Fillable}
 use Rattle.records.specs.FillingLaws.{window-snoc}
 use Rattle.records.specs.Rows.{row_of, rows_of, lent_rows, rows_after, RowsFetched, cells_of}
-use Rattle.records.proofs.PlanWays.{records_at, length-records, fillable_at}
 
 -- ---- one row
 
@@ -135,58 +129,24 @@ room-is : (out : List ℕ) → length (lent_rows out) ≡ length out / 8
 unfolding lent_rows
 room-is out = length-entries (length out / 8) out
 
-pub rows-refused : (out : List ℕ) (cause : Cause) (r : Fetched) → fetched_as r ≡ refuse cause → RowsFetched (refuse cause) out r out
-unfolding answered rows_after and_then
-rows-refused out cause r e = record { number = e; rows = refl }
+-- the answer judged by the room for rows
+judged-rows : (out : List ℕ) (answer : Result (List EntryIndex)) → answered (lent_rows out) answer ≡ judged (length out / 8) answer
+unfolding answered judged
+judged-rows out answer = rw (room-is out)
 
-module _ (out : List ℕ) (es : List EntryIndex) (n : ℕ) (e : length es ≡ n) where
-  pub rows_short : length out / 8 < n → RowsFetched (ok es) out answer.ListTooShort out
-  unfolding answered rows_after and_then
-  rows_short l =
-      record {
-        number = rw (room-is out, e, lt-leb n (length out / 8) l);
-        rows = rw (room-is out, e, lt-leb n (length out / 8) l);
-      }
+-- a refusal that a `?` passes on leaves the list
+pub rows-refused : {answer : Result (List EntryIndex)} {out : List ℕ} {cause : Cause} → judged (length out / 8) answer ≡ refuse cause → (r : ByCause ℕ) → IsErrAnd r (λ y. y ≡ cause) → RowsFetched answer out r out
+unfolding rows_after and_then
+rows-refused {answer} {out} e r p =
+    let q = err_from_is_err_and r p in
+    rw (q.1, q.2) (record { number = rw (judged-rows out answer, e); rows = rw (judged-rows out answer, e) })
 
-  pub rows-done : n ≤ length out / 8 → (exits : List ℕ) → exits ≡ put out 0 (rows_of es) → RowsFetched (ok es) out (answer.Done n) exits
-  unfolding answered rows_after and_then
-  rows-done l exits d =
-      record {
-        number = rw (room-is out, e, le-leb n (length out / 8) l, e);
-        rows = rw (room-is out, e, le-leb n (length out / 8) l) d;
-      }
-
--- equal answers
-pub rows_same : {out : List ℕ} {r : Fetched} {exits : List ℕ} {a b : Result (List EntryIndex)} → a ≡ b → RowsFetched a out r exits → RowsFetched b out r exits
-rows_same e f = rw (← e) f
-
--- ---- the ways of `answer_rows`
-
-module _ {g : ℕ} {xs bs : List ℕ} {k : ℕ} (w : Wf xs bs) (s : StandsAt g xs bs k) {head : Head} (e : head ≡ head_part (stretch_at k xs)) (range : Range) (l : range_end range ≤ head.len) where
-  module _ {a n : ℕ} (d : range ≡ Rows a n) where
-    within : a + n ≤ (head_part (stretch_at k xs)).len
-    within = rw (d, e) at l
-
-    pub fills : (room : ℕ) → n ≤ room → Fillable (k * 586 + 10 + a * 8) (head.first_index + a) n xs room
-    fills room m = rw e (fillable_at w s a n within room m)
-
-    -- the places and the indexes of the rows
-    pub fits : (k * 586 + 10 + a * 8 + n * 8 ≤ length xs) × (head.first_index + a + n ≤ 2 ^ 63)
-    fits = let f = fills n (le_refl n) in (f.inside, f.index)
-
-    pub answer-short : (out : List ℕ) → length out / 8 < n → RowsFetched (range_of range head (entry_rows (stretch_at k xs))) out answer.ListTooShort out
-    answer-short out m = rw (d, e) (rows_short out _ n (length-records w s a n within) m)
-
-    pub answer-done : (out exits : List ℕ) → n ≤ length out / 8 → exits ≡ put out 0 (rows_of (window (head.first_index + a) n (drop (k * 586 + 10 + a * 8) xs))) → RowsFetched (range_of range head (entry_rows (stretch_at k xs))) out (answer.Done n) exits
-    answer-done out exits m f =
-        rw (d, e) (rows-done out _ n (length-records w s a n within) m exits (rw (e, records_at w s a n within) at f))
-
-  pub answer-compacted : (out : List ℕ) → range ≡ EntryCompacted → RowsFetched (range_of range head (entry_rows (stretch_at k xs))) out answer.EntryCompacted out
-  answer-compacted out d = rw d (rows-refused out entry_compacted answer.EntryCompacted refl)
-
-  pub answer-not-found : (out : List ℕ) → range ≡ EntryNotFound → RowsFetched (range_of range head (entry_rows (stretch_at k xs))) out answer.EntryNotFound out
-  answer-not-found out d = rw d (rows-refused out entry_not_found answer.EntryNotFound refl)
-
--- the group is absent
-pub answer-absent : {query : Result (List EntryIndex)} (out : List ℕ) → refuse group_absent ≡ query → RowsFetched query out answer.GroupAbsent out
-answer-absent out e = rows_same e (rows-refused out group_absent answer.GroupAbsent refl)
+pub rows-done : {answer : Result (List EntryIndex)} {xs out exits : List ℕ} {p : Plan} → Storing answer xs (length out / 8) p → exits ≡ put out 0 (rows_of (window p.first p.count (drop p.at xs))) → RowsFetched answer out (Ok p.count) exits
+unfolding judged rows_after and_then
+rows-done {xs = xs} {out} {p = p} s d =
+    let e = length-window p.first p.count (drop p.at xs) in
+    let t = le-leb p.count (length out / 8) s.fillable.fits in
+    record {
+      number = rw (judged-rows out _, s.records-are, e, t, e);
+      rows = rw (judged-rows out _, s.records-are, e, t) d;
+    }

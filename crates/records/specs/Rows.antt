@@ -3,12 +3,10 @@ use Rattle.std.specs.Prelude.{List, [], ◌∷◌, ◌++◌, ◌≡◌, ℕ, ◌
 use Rattle.cells.specs.Part.{put}
 use Rattle.pipe_log.specs.Numbers.{queue_number, compression_number}
 use Rattle.pipe_log.specs.Rows.{entry_width, entries_of}
-use Rattle.rules.specs.Causes.{Result, ok, refused, and_then}
+use Rattle.rules.specs.Causes.{by_cause, ByCause, Result, Ok, Err, and_then}
 use Rattle.rules.specs.Items.{EntryIndex, file_of}
 use Rattle.rules.specs.Queries.{answered}
 use Rattle.memtable.specs.Columns.{block_offset, block_len}
-use Rattle.queries.specs.declared.Fetched.{Fetched}
-use Rattle.queries.specs.Answers.{fetched_as}
 
 -- the row of a record
 unfoldable pub row_of : EntryIndex → List ℕ
@@ -33,12 +31,12 @@ lent_rows out = entries_of (length out / entry_width) out
 
 -- the lent list at exit: the rows of the answer from its first place, everything else as it was
 unfoldable pub rows_after : List ℕ → Result (List EntryIndex) → List ℕ
-rows_after out (ok es) = put out 0 (rows_of es)
-rows_after out (refused r) = out
+rows_after out (Ok es) = put out 0 (rows_of es)
+rows_after out (Err r) = out
 
 -- an answer of the rules, given in lent rows: r is returned, with the number of records, and exits is the list at exit
-pub record RowsFetched (answer : Result (List EntryIndex)) (out : List ℕ) (r : Fetched) (exits : List ℕ) : Type 0 where
-  pub number : fetched_as r ≡ and_then (answered (lent_rows out) answer) (λ es. ok (length es))
+pub record RowsFetched (answer : Result (List EntryIndex)) (out : List ℕ) (r : ByCause ℕ) (exits : List ℕ) : Type 0 where
+  pub number : by_cause r ≡ and_then (answered (lent_rows out) answer) (λ es. Ok (length es))
   pub rows : exits ≡ rows_after out (answered (lent_rows out) answer)
 
 -- the numbers of the row from place p on, with an index of its own

@@ -6,8 +6,7 @@ ghost use Rattle.records.specs.Fetches.{query_of, Fetching};
 use crate::Fetch;
 use crate::fill::fill_records;
 use crate::planning::plan;
-use pipe_log::EntryIndex;
-use queries::Fetched;
+use pipe_log::{Cause, EntryIndex};
 
 // Fetches a group's records into a lent list, from its first place.
 pub fn fetch_records(
@@ -16,11 +15,11 @@ pub fn fetch_records(
     group: u64,
     fetch: Fetch,
     out: &mut [EntryIndex],
-) -> Fetched
+) -> Result<usize, Cause>
     requires { Wf xs.now bs.now }
     ensures { Fetching (in_group group (query_of fetch) (context_of xs.now bs.now)) out.old result out.new }
 {
-    let plan = plan(xs, bs, group, fetch, out.len());
-    fill_records(xs, plan.at, plan.first, plan.count, out);
-    plan.answer
+    let plan = plan(xs, bs, group, fetch, out.len())?;
+    fill_records(xs, plan, out);
+    Ok(plan.count)
 }

@@ -5,25 +5,23 @@ ghost use Rattle.pipe_log.specs.Rows.{window};
 ghost use Rattle.memtable.specs.Views.{row_at};
 ghost use Rattle.records.specs.Filling.{Readable, Fillable};
 
+use crate::Plan;
 use pipe_log::EntryIndex;
 
-// The record of row i of those from place `at` on, of which the first one's index is `first`.
-fn record_at(xs: &[u64], at: usize, first: u64, i: usize) -> EntryIndex
-    requires { Readable at first i xs.now }
-    ensures { result ≡ row_at first (drop at xs.now) i }
+// The record of row i of a plan's.
+fn record_at(xs: &[u64], plan: Plan, i: usize) -> EntryIndex
+    requires { Readable plan.at plan.first i xs.now }
+    ensures { result ≡ row_at plan.first (drop plan.at xs.now) i }
 {
-    let rows = &xs[at..];
-    memtable::entry_at(rows, i, first + i as u64)
+    memtable::entry_at(&xs[plan.at..], i, plan.first + i as u64)
 }
 
-// Stores the records of `count` rows from place `at` on, from the first place of the list.
-pub fn fill_records(xs: &[u64], at: usize, first: u64, count: usize, out: &mut [EntryIndex])
-    requires { Fillable at first count xs.now (length out.old) }
-    ensures { out.new ≡ put out.old 0 (window first count (drop at xs.now)) }
+// Stores the records of a plan's rows, from the first place of the list.
+pub fn fill_records(xs: &[u64], plan: Plan, out: &mut [EntryIndex])
+    requires { Fillable plan.at plan.first plan.count xs.now (length out.old) }
+    ensures { out.new ≡ put out.old 0 (window plan.first plan.count (drop plan.at xs.now)) }
 {
-    let mut i = 0;
-    while i < count {
-        out[i] = record_at(xs, at, first, i);
-        i += 1;
+    for i in 0..plan.count {
+        out[i] = record_at(xs, plan, i);
     }
 }

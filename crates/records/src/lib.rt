@@ -9,18 +9,17 @@ mod rows;
 
 pub use fetching::fetch_records;
 pub use listing::fetch_listed;
-use pipe_log::{Bound, EntryIndex};
-use queries::Fetched;
+use pipe_log::EntryIndex;
 pub use rows::{fetch_rewritten_rows, fetch_rows_before, fetch_rows_to};
 use stretch::MAX_ENTRIES;
 
-// A fetch of entry records, with document 01's arguments.
+// A fetch of entry records, with its arguments.
 #[derive(Clone, Copy)]
 pub enum Fetch {
     EntriesTo {
         begin: u64,
         end: u64,
-        max_size: Bound,
+        max_size: Option<u64>,
     },
     EntryIndexesBefore {
         gate: u64,
@@ -28,22 +27,20 @@ pub enum Fetch {
     RewrittenEntryIndexes,
 }
 
-// What a fetch does: `count` rows from place `at` of the area's numbers are stored, of which the first has the index `first`; and
-// what it answers. A refused one stores nothing.
+// What a fetch stores: the records of `count` rows from place `at` of the area's numbers on, of which the first has the index `first`.
 #[derive(Clone, Copy)]
 pub struct Plan {
     pub at: usize,
     pub first: u64,
     pub count: usize,
-    pub answer: Fetched,
 }
 
 // How many records a list by value has: as many as a group can have entries.
 pub const LISTED: usize = MAX_ENTRIES;
 
-// What a fetch into a list by value answers, with the list.
+// What a fetch into a list by value gives: the list, and the number of records from its first place on.
 #[derive(Clone, Copy)]
 pub struct Listed {
-    pub answer: Fetched,
+    pub count: usize,
     pub list: [EntryIndex; LISTED],
 }

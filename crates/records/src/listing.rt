@@ -1,11 +1,11 @@
 // The fetch for a caller that holds the list itself.
 ghost use Rattle.rules.specs.Queries.{in_group};
 ghost use Rattle.contexts.specs.Contexts.{context_of, Wf};
-ghost use Rattle.records.specs.Fetches.{query_of, Fetching};
+ghost use Rattle.records.specs.Fetches.{query_of, Listing};
 
 use crate::fetching::fetch_records;
 use crate::{Fetch, LISTED, Listed};
-use pipe_log::EntryIndex;
+use pipe_log::{Cause, EntryIndex};
 
 // Fetches a group's records into a list that comes and goes by value.
 pub fn fetch_listed(
@@ -14,11 +14,11 @@ pub fn fetch_listed(
     group: u64,
     fetch: Fetch,
     list: [EntryIndex; LISTED],
-) -> Listed
+) -> Result<Listed, Cause>
     requires { Wf xs.now bs.now }
-    ensures { Fetching (in_group group (query_of fetch) (context_of xs.now bs.now)) list result.answer result.list }
+    ensures { Listing (in_group group (query_of fetch) (context_of xs.now bs.now)) list result }
 {
-    let mut out = list;
-    let answer = fetch_records(xs, bs, group, fetch, &mut out);
-    Listed { answer, list: out }
+    let mut list = list;
+    let count = fetch_records(xs, bs, group, fetch, &mut list)?;
+    Ok(Listed { count, list })
 }

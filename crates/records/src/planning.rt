@@ -1,19 +1,19 @@
 // What a fetch does, decided before anything is stored.
-ghost use Rattle.std.specs.Prelude.{◌≡◌};
 ghost use Rattle.memtable.specs.Views as table;
 ghost use Rattle.memtable.specs.Fetches.{RangeAnswer};
-ghost use Rattle.contexts.specs.Contexts.{Wf};
+ghost use Rattle.rules.specs.Queries.{in_group};
+ghost use Rattle.contexts.specs.Contexts.{context_of, Wf};
 ghost use Rattle.records.specs.Fetches.{query_of};
-ghost use Rattle.records.specs.Plans.{refusal, plan_of, Within, Planned};
+ghost use Rattle.records.specs.Plans.{Planned};
 
 use crate::{Fetch, Plan};
-use memtable::{Head, Range};
-use pipe_log::ENTRY_WIDTH;
-use queries::{Fetched, Place, entry_rows, head_at, place_of};
+use memtable::{Head, RowRange};
+use pipe_log::{Cause, ENTRY_WIDTH};
+use queries::{entry_rows, head_at, place_of};
 use stretch::{ENTRIES_AT, STRETCH};
 
 // The entries that a fetch answers.
-fn range_of(head: Head, rows: &[u64], fetch: Fetch) -> Range
+fn range_of(head: Head, rows: &[u64], fetch: Fetch) -> Result<RowRange, Cause>
     requires { table.Wf head rows.now }
     ensures { RangeAnswer head rows.now (query_of fetch) result }
 {
@@ -28,49 +28,20 @@ fn range_of(head: Head, rows: &[u64], fetch: Fetch) -> Range
     }
 }
 
-// Nothing is stored.
-fn refused(answer: Fetched) -> Plan
-    ensures { result ≡ refusal answer }
-{
-    Plan {
-        at: 0,
-        first: 0,
-        count: 0,
-        answer,
-    }
-}
-
-// The plan for a range of the entries of stretch k, with room for as many records as the lent list has.
-fn plan_range(k: usize, head: Head, range: Range, room: usize) -> Plan
-    requires { Within k head range }
-    ensures { result ≡ plan_of k head range room }
-{
-    match range {
-        Range::Rows(from, count) => {
-            if room < count {
-                return refused(Fetched::ListTooShort);
-            }
-            Plan {
-                at: k * STRETCH + ENTRIES_AT + from * ENTRY_WIDTH,
-                first: head.first_index + from as u64,
-                count,
-                answer: Fetched::Done(count),
-            }
-        }
-        Range::EntryCompacted => refused(Fetched::EntryCompacted),
-        Range::EntryNotFound => refused(Fetched::EntryNotFound),
-    }
-}
-
-// The plan for a fetch of a group's records.
-pub fn plan(xs: &[u64], bs: &[u8], group: u64, fetch: Fetch, room: usize) -> Plan
+// The plan for a fetch of a group's records into a list with room for so many, or its refusal.
+pub fn plan(xs: &[u64], bs: &[u8], group: u64, fetch: Fetch, room: usize) -> Result<Plan, Cause>
     requires { Wf xs.now bs.now }
-    ensures { Planned (query_of fetch) group xs.now bs.now room result }
+    ensures { Planned (in_group group (query_of fetch) (context_of xs.now bs.now)) xs.now room result }
 {
-    let Place::At(k) = place_of(xs, group) else {
-        return refused(Fetched::GroupAbsent);
-    };
+    let k = place_of(xs, group)?;
     let head = head_at(xs, k);
-    let range = range_of(head, entry_rows(xs, k), fetch);
-    plan_range(k, head, range, room)
+    let range = range_of(head, entry_rows(xs, k), fetch)?;
+    if room < range.count {
+        return Err(Cause::ListTooShort);
+    }
+    Ok(Plan {
+        at: k * STRETCH + ENTRIES_AT + range.from * ENTRY_WIDTH,
+        first: head.first_index + range.from as u64,
+        count: range.count,
+    })
 }

@@ -1,40 +1,38 @@
 -- What calls on areas do is what the rules' calls do to the contexts that the areas stand for.
 -- Assumes nothing.
+use Rattle.std.specs.Prelude.{Option}
 use mathlib.Core.List.{List, [], ◌∷◌, ◌++◌}
 use mathlib.Core.Path.{◌≡◌, refl, sym, ap, ◌∙◌}
 use Prim.Native.Nat.{ℕ}
-use Rattle.rules.specs.Causes.{Refusal, Result, ok, refused, left}
+use Rattle.rules.specs.Causes.{Cause, Refusal, Result, Ok, Err, left}
 use Rattle.rules.specs.Items.{Append, Batch}
 use Rattle.rules.specs.Context.{Context, fresh}
 use Rattle.rules.specs.Calls.{replay, merge, join, append, rewrite}
 use Rattle.rules_by_group.proofs.ResultLaws.{refused_not_ok}
-use Rattle.contexts.specs.declared.Answer.{Answer}
-use Rattle.contexts.specs.declared.Answer.TheVariants.{Accepted, Refused}
-use Rattle.contexts.specs.declared.Position.{Position}
-use Rattle.contexts.specs.Contexts.{position_of, answer_as}
+use Rattle.contexts.specs.Contexts.{answer_as}
 use Rattle.history.specs.Recovery.{one_pass, keep_if, history, Runs, Made}
 use Rattle.recovery.specs.Areas.{Area, context_in, CallOn, Took, MadeBy}
 
 -- ---- one call
 
 -- an accepted call
-accepted-is : (call : Context → Result Context) (a z : Area) → CallOn call a Accepted z → call (context_in a) ≡ ok (context_in z)
+accepted-is : (call : Context → Result Context) (a z : Area) → CallOn call a (Ok tt) z → call (context_in a) ≡ Ok (context_in z)
 unfolding answer_as
 accepted-is call a z h = sym h.answers
 
 -- a refused one, and what it leaves
-abbrev refusal_of : ℕ → Position → Refusal
-refusal_of n p = record { number = n; place = position_of p }
+abbrev refusal_of : Cause → Option ℕ → Refusal
+refusal_of n p = record { cause = n; place = p }
 
-refused-is : (call : Context → Result Context) (a z : Area) (n : ℕ) (p : Position) → CallOn call a (Refused n p) z → call (context_in a) ≡ refused (refusal_of n p)
+refused-is : (call : Context → Result Context) (a z : Area) (n : Cause) (p : Option ℕ) → CallOn call a (Err (record { cause = n; place = p })) z → call (context_in a) ≡ Err (refusal_of n p)
 unfolding answer_as
 refused-is call a z n p h = sym h.answers
 
 -- a call of which the rules accept is answered so
-pub answers-accepted : (call : Context → Result Context) (a z : Area) (r : Answer) (d : Context) → CallOn call a r z → call (context_in a) ≡ ok d → r ≡ Accepted
+pub answers-accepted : (call : Context → Result Context) (a z : Area) (r : Result (Unit {0})) (d : Context) → CallOn call a r z → call (context_in a) ≡ Ok d → r ≡ (Ok tt)
 unfolding answer_as
-answers-accepted call a z Accepted d h e = refl
-answers-accepted call a z (Refused n p) d h e = absurd (refused_not_ok (h.answers ∙ e))
+answers-accepted call a z (Ok _) d h e = refl
+answers-accepted call a z (Err r) d h e = absurd (refused_not_ok (h.answers ∙ e))
 
 -- ---- runs
 
@@ -61,17 +59,17 @@ module _ (b : Batch) where
 
   keep_append : (x : Batch) (r : Result Context) (hs : List Batch) → keep_if r x (hs ++ (b ∷ [])) ≡ keep_if r x hs ++ (b ∷ [])
   unfolding keep_if
-  keep_append x (ok y) hs = refl
-  keep_append x (refused y) hs = refl
+  keep_append x (Ok y) hs = refl
+  keep_append x (Err y) hs = refl
 
   -- is part of the history if it is accepted
-  history-kept : (bs : List Batch) (c d : Context) → replay b (one_pass bs c) ≡ ok d → history (bs ++ (b ∷ [])) c ≡ history bs c ++ (b ∷ [])
+  history-kept : (bs : List Batch) (c d : Context) → replay b (one_pass bs c) ≡ Ok d → history (bs ++ (b ∷ [])) c ≡ history bs c ++ (b ∷ [])
   unfolding one_pass history
   history-kept [] c d e = rw e (unfold keep_if in refl)
   history-kept (x ∷ bs) c d e =
       ap (keep_if (replay x c) x) (history-kept bs (left c (replay x c)) d e) ∙ keep_append x (replay x c) (history bs (left c (replay x c)))
 
-  history-dropped : (bs : List Batch) (c : Context) (r : Refusal) → replay b (one_pass bs c) ≡ refused r → history (bs ++ (b ∷ [])) c ≡ history bs c
+  history-dropped : (bs : List Batch) (c : Context) (r : Refusal) → replay b (one_pass bs c) ≡ Err r → history (bs ++ (b ∷ [])) c ≡ history bs c
   unfolding one_pass history
   history-dropped [] c r e = rw e (unfold keep_if in refl)
   history-dropped (x ∷ bs) c r e = ap (keep_if (replay x c) x) (history-dropped bs (left c (replay x c)) r e)
@@ -85,14 +83,14 @@ pub took-as : {bs taken : List Batch} {a : Area} → Took bs taken a → TookAs 
 took-as (Took.started a f) = record { context-is = f.context-is ∙ unfold one_pass in refl; history-is = unfold history in refl }
 took-as (Took.accepted {bs = bs} {taken = taken} {a = a} b z t h) =
     let w = took-as t in
-    let e : replay b (one_pass bs (fresh Append)) ≡ ok (context_in z) = rw w.context-is at (accepted-is (replay b) a z h) in
+    let e : replay b (one_pass bs (fresh Append)) ≡ Ok (context_in z) = rw w.context-is at (accepted-is (replay b) a z h) in
     record {
       context-is = h.leaves ∙ ap (λ c. left c (replay b c)) w.context-is ∙ sym (pass-more b bs (fresh Append));
       history-is = ap (λ hs. hs ++ (b ∷ [])) w.history-is ∙ sym (history-kept b bs (fresh Append) (context_in z) e);
     }
 took-as (Took.refused_one {bs = bs} {taken = taken} {a = a} b n p z t h) =
     let w = took-as t in
-    let e : replay b (one_pass bs (fresh Append)) ≡ refused (refusal_of n p) = rw w.context-is at (refused-is (replay b) a z n p h) in
+    let e : replay b (one_pass bs (fresh Append)) ≡ Err (refusal_of n p) = rw w.context-is at (refused-is (replay b) a z n p h) in
     record {
       context-is = h.leaves ∙ ap (λ c. left c (replay b c)) w.context-is ∙ sym (pass-more b bs (fresh Append));
       history-is = w.history-is ∙ sym (history-dropped b bs (fresh Append) (refusal_of n p) e);

@@ -1,9 +1,8 @@
 -- Demand 3 of the calls, clause by clause.
+use Rattle.rules.specs.Causes.{Result, Ok}
 use Rattle.std.specs.Prelude.{List, ◌∷◌, ◌++◌, map, ◌≡◌}
 use Rattle.rules.specs.Items.{Batch}
 use Rattle.rules.specs.Calls.{replay, merge}
-use Rattle.contexts.specs.declared.Answer.{Answer}
-use Rattle.contexts.specs.declared.Answer.TheVariants.{Accepted}
 use Rattle.history.specs.Held.{Premise}
 use Rattle.history.specs.Recovery.{items_of, Runs, run, merged, batches_of}
 use Rattle.history.specs.Demand3.{Last}
@@ -14,19 +13,19 @@ use Rattle.recovery.specs.Areas.{Area, context_in, CallOn, Took, MadeBy, LentBat
 pub record Demand3 (batches taken : List Batch) (a : Area) : Type 1 where
   -- 'every replay .. is accepted': whatever the call of the next batch of a run answers, it is that the batch is accepted
   pub replay-accepted :
-      (before so_far after : List Batch) (b : Batch) (c z : Area) (r : Answer)
+      (before so_far after : List Batch) (b : Batch) (c z : Area) (r : Result (Unit {0}))
       → taken ≡ before ++ (so_far ++ (b ∷ after))
       → MadeBy (run so_far) c
       → CallOn (replay b) c r z
-      → r ≡ Accepted
+      → r ≡ (Ok tt)
   -- 'and merge': of neighbouring stretches of the history, newer into older, each made by runs and merges of its own
   pub merge-accepted :
-      (before after : List Batch) (older newer : Runs) (c d z : Area) (r : Answer)
+      (before after : List Batch) (older newer : Runs) (c d z : Area) (r : Result (Unit {0}))
       → taken ≡ before ++ (batches_of (merged older newer) ++ after)
       → MadeBy older c
       → MadeBy newer d
       → CallOn (merge (context_in d)) c r z
-      → r ≡ Accepted
+      → r ≡ (Ok tt)
   -- 'The last context': of runs that the whole history was cut into
   pub last : (runs : Runs) (z : Area) → batches_of runs ≡ taken → MadeBy runs z → Last batches (context_in z)
   -- it 'equals the one that took the whole list'

@@ -16,17 +16,6 @@ pub record Cleared (k n : ℕ) (ws : List ℕ) : Type 0 where
   pub entries : get_or ws 1 0 ≡ 0
   pub cells : (j : ℕ) → j < k → get_or ws (2 + j * 10) 0 ≡ 0
 
-pub cleared-counts : (n : ℕ) (ws : List ℕ) → length ws ≡ 2 + n * 218 → Cleared 0 n (set (set ws 0 0) 1 0)
-cleared-counts n ws e =
-    let l = length-set ws 0 0 in
-    let m = length-set (set ws 0 0) 1 0 in
-    record {
-      numbers-are = m ∙ l ∙ e;
-      items = get_or-set_other (set ws 0 0) 1 0 0 0 (λ z. omega arith) ∙ get_or-set_same ws 0 0 0 (omega arith);
-      entries = get_or-set_same (set ws 0 0) 1 0 0 (omega arith);
-      cells = λ j h. absurd (omega arith);
-    }
-
 pub cleared_more : (k n : ℕ) (ws : List ℕ) → k < n → Cleared k n ws → Cleared (k + 1) n (set ws (2 + k * 10) 0)
 cleared_more k n ws h c =
     let e = c.numbers-are in

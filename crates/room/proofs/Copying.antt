@@ -1,4 +1,6 @@
 -- An item of a room is read, and copied to the front of other slices. Assumes nothing.
+use Rattle.log_batch.specs.declared.item.Bytes.{Bytes}
+use Rattle.std.specs.Prelude.{Option, Some, None}
 use mathlib.Core.List.{List, [], ◌∷◌}
 use mathlib.Core.Path.{◌≡◌, refl, sym, ap, ◌∙◌}
 use Prim.Native.Nat.{ℕ, zero, suc, ◌+◌, ◌*◌, ◌≤◌, ◌<◌}
@@ -8,7 +10,6 @@ use Rattle.cells.specs.Part.{part, put}
 use Rattle.cells.specs.PartLaws.{length_part, length-put, get_or-part}
 use Rattle.rules.specs.Items as rules
 use Rattle.log_batch.specs.declared.item.OpType as op
-use Rattle.log_batch.specs.declared.item.Value as value
 use Rattle.log_batch.specs.declared.item.KeyValue.{KeyValue}
 use Rattle.log_batch.specs.declared.item.LogItemContent as content
 use Rattle.log_batch.specs.declared.item.LogItem.{LogItem}
@@ -64,9 +65,9 @@ row-used n ws vs e f w j h = let l = length-items n ws vs e f in let r = w.rows 
 
 -- ---- the item at the front of other slices
 
-front-value : (v : value.Value) (n : ℕ) → n ≤ 32 → ValueShort v → ValueWithin (placed_value v n) 64
-front-value value.TheVariants.Absent n h s = tt
-front-value (value.TheVariants.At a m) n h s = omega arith
+front-value : (v : Option Bytes) (n : ℕ) → n ≤ 32 → ValueShort v → ValueWithin (placed_value v n) 64
+front-value None n h s = tt
+front-value (Some b) n h s = omega arith
 
 front_key : (o : op.OpType) (k : KeyValue) → ContentShort (content.TheVariants.Kv k) → BytesWithin (content.TheVariants.Kv (placed_key o k 0)) 64 × Bare (content.TheVariants.Kv (placed_key o k 0))
 front_key op.TheVariants.Put k s = let n = s.0 in ((omega arith, front-value k.value (0 + k.key_len) (omega arith) s.1), tt)

@@ -1,10 +1,10 @@
 -- An item of a room is opened as one of its parts. Assumes nothing.
+use Rattle.log_batch.specs.Lent.{Opened}
 use mathlib.Core.List.{List}
 use mathlib.Core.Path.{◌≡◌}
 use Prim.Native.Nat.{ℕ, ◌+◌, ◌-◌, ◌*◌, ◌/◌}
 use native.Mathlib.Omega.{arith}
 use lib.ListN.{length, take, drop}
-use Rattle.log_batch.specs.declared.open.Opened.{Opened}
 use Rattle.log_batch.specs.Lent.{opened_row, OpenedWithin}
 use Rattle.room.specs.Layout.{numbers_of, bytes_of, room_of}
 use Rattle.room.specs.PlaceLaws.{bytes-are}

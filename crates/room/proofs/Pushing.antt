@@ -1,8 +1,9 @@
 -- The items of a marked batch, one by one. Assumes nothing.
+use Rattle.rules.specs.Causes.{Ok, Err}
 use mathlib.Core.Bool.{true, false, true≢false}
 use mathlib.Core.List.{List, [], ◌∷◌}
-use mathlib.Core.Option.{none, some}
-use mathlib.Core.Path.{◌≡◌, sym, ap, ◌∙◌}
+use Rattle.std.specs.Prelude.{None, Some}
+use mathlib.Core.Path.{◌≡◌, sym, ◌∙◌}
 use Prim.Native.Nat.{ℕ, ◌+◌, ◌*◌, ◌/◌, ◌≤◌, ◌<◌}
 use native.Mathlib.Nat.{le_antisymm}
 use native.Mathlib.Decide.{dec_le}
@@ -15,10 +16,7 @@ use Rattle.rules.specs.Items.{is_mark, mark_byte, replay_rewrite}
 use Rattle.rules.specs.Checks.{long, checks}
 use Rattle.rules.specs.Context.{entries_in}
 use Rattle.log_batch.specs.declared.item.LogItem.{LogItem}
-use Rattle.log_batch.specs.declared.mark.MarkByte as byte
-use Rattle.log_batch.specs.declared.open.Opened.{TheVariants.Item, TheVariants.Refused}
 use Rattle.log_batch.specs.Lent.{row_count_of, opened_row, content_of, item_of, item_at, items_of}
-use Rattle.log_batch.specs.Judged.{byte_as}
 use Rattle.log_batch.specs.OpenLaws.{refused-item, item-opened}
 use Rattle.log_batch.specs.PassedLaws.{passed-opens}
 use Rattle.stores.specs.declared.Store.{Store}
@@ -35,11 +33,11 @@ use Rattle.room.specs.BatchLaws.{unmarked-mark, unmarked-plain, counts-append, c
 
 -- ---- an item is a mark or not
 
-mark-some : (it : rules.LogItem) (b : ℕ) → some b ≡ mark_byte it.content → is_mark it ≡ true
+mark-some : (it : rules.LogItem) (b : ℕ) → Some b ≡ mark_byte it.content → is_mark it ≡ true
 unfolding is_mark or_else
 mark-some it b e = rw (← e)
 
-mark-none : (it : rules.LogItem) → none ≡ mark_byte it.content → is_mark it ≡ false
+mark-none : (it : rules.LogItem) → None ≡ mark_byte it.content → is_mark it ≡ false
 unfolding is_mark or_else
 mark-none it e = rw (← e)
 
@@ -53,34 +51,34 @@ few-entries : (it : rules.LogItem) → long it.content ≡ false → entries_in 
 few-entries it e = few_of it.group it.content e
 
 -- a batch that passed has at most 32 items
-pub few-rows : (xs es bs : List ℕ) → checks replay_rewrite (items_of xs es bs) ≡ none → row_count_of xs ≤ 32
+pub few-rows : (xs es bs : List ℕ) → checks replay_rewrite (items_of xs es bs) ≡ None → row_count_of xs ≤ 32
 few-rows xs es bs passed =
     elim (dec_le (row_count_of xs) 32) [
       | yes l ↦ l
       | no l ↦ let early : true ≡ false = (passed-opens replay_rewrite xs es bs passed 32 (omega arith)).passed.early in absurd (true≢false early)
     ]
 
-module _ (xs es bs : List ℕ) (passed : checks replay_rewrite (items_of xs es bs) ≡ none) (i : ℕ) (h : i < row_count_of xs) where
-  pub never-refused : {P : Type 0} (g : ℕ) → opened_row (drop (i * 9) xs) (length es / 8) (length bs) ≡ Refused g → P
+module _ (xs es bs : List ℕ) (passed : checks replay_rewrite (items_of xs es bs) ≡ None) (i : ℕ) (h : i < row_count_of xs) where
+  pub never-refused : {P : Type 0} (g : ℕ) → opened_row (drop (i * 9) xs) (length es / 8) (length bs) ≡ Err (record { raft_group_id = g }) → P
   never-refused g e = absurd (refused-item g _ (sym e ∙ (passed-opens replay_rewrite xs es bs passed i h).opens))
 
-  module _ (it : LogItem) (e : opened_row (drop (i * 9) xs) (length es / 8) (length bs) ≡ Item it) (m : byte.MarkByte) (f : (ns : List ℕ) → byte_as m ≡ mark_byte (content_of it.content ns bs)) where
-    pub is-mark : (b : ℕ) → m ≡ byte.TheVariants.Byte b → is_mark (item_at es bs (drop (i * 9) xs)) ≡ true
-    unfolding byte_as item_of
-    is-mark b q = rw (item-opened es bs (drop (i * 9) xs) it e) (mark-some (item_of it es bs) b (ap byte_as (sym q) ∙ f es))
+  module _ (it : LogItem) (e : opened_row (drop (i * 9) xs) (length es / 8) (length bs) ≡ Ok it) where
+    pub is-mark : (b : ℕ) → ((ns : List ℕ) → Some b ≡ mark_byte (content_of it.content ns bs)) → is_mark (item_at es bs (drop (i * 9) xs)) ≡ true
+    unfolding item_of
+    is-mark b f = rw (item-opened es bs (drop (i * 9) xs) it e) (mark-some (item_of it es bs) b (f es))
 
-    no-mark : m ≡ byte.TheVariants.Absent → is_mark (item_of it es bs) ≡ false
-    unfolding byte_as item_of
-    no-mark q = mark-none (item_of it es bs) (ap byte_as (sym q) ∙ f es)
+    no-mark : ((ns : List ℕ) → None ≡ mark_byte (content_of it.content ns bs)) → is_mark (item_of it es bs) ≡ false
+    unfolding item_of
+    no-mark f = mark-none (item_of it es bs) (f es)
 
-    pub is_plain : m ≡ byte.TheVariants.Absent → Plain xs es bs i it
-    is_plain q =
+    pub is_plain : ((ns : List ℕ) → None ≡ mark_byte (content_of it.content ns bs)) → Plain xs es bs i it
+    is_plain f =
         let o = passed-opens replay_rewrite xs es bs passed i h in
         let same : o.item ≡ it = cc (sym o.opens ∙ e) in
         let few = few-entries (item_of it es bs) (rw same at o.passed.short) in
         record {
           is = item-opened es bs (drop (i * 9) xs) it e;
-          plain = no-mark q;
+          plain = no-mark f;
           lent = checked-opens replay_rewrite xs es bs passed i h it e;
           few = rw (entries-count it es bs) at few;
         }

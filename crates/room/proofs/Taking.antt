@@ -101,9 +101,6 @@ module _ (n tag : ℕ) (ws₀ vs₀ : List ℕ) (e : length ws₀ ≡ numbers_of
       }
 
   module _ (j : ℕ) (left : Store) (ws vs : List ℕ) (t : TakingIn n s.items tag j ws₀ vs₀ left ws vs) (h : j < s.items) where
-    pub taking-in-stored : Stored left (area_in (room_of n ws vs))
-    taking-in-stored = t.taking.wf
-
     pub taking-in_movable : Movable left j (area_in (room_of n ws vs))
     taking-in_movable = taking_movable (area_in (room_of n ws₀ vs₀)) (room_of n ws₀ vs₀).tags tag s.items j left (area_in (room_of n ws vs)) (room_of n ws vs).tags t.taking h
 

@@ -1,5 +1,5 @@
 -- The items of a marked batch but its mark: the part that waits.
-use Rattle.std.specs.Prelude.{true, false, not, List, ◌++◌, map, ◌≡◌, ℕ, ◌+◌, ◌*◌, ◌≤◌, length, drop}
+use Rattle.std.specs.Prelude.{Option, Some, None, true, false, not, List, ◌++◌, map, ◌≡◌, ℕ, ◌+◌, ◌*◌, ◌≤◌, length, drop}
 use Rattle.maps.specs.Lists.{select, sum}
 use Rattle.rules.specs.Items as rules
 use Rattle.rules.specs.Items.{is_mark}
@@ -10,7 +10,6 @@ use Rattle.stores.specs.declared.Store.{Store}
 use Rattle.stores.specs.Written.{count_of, Lent}
 use Rattle.stores.specs.Stores.{Stored}
 use Rattle.stores.specs.Tags.{Tagged}
-use Rattle.room.specs.declared.Unmarked as item
 use Rattle.room.specs.Rooms.{Room, area_in, items_in}
 
 unfoldable pub unmarked : List rules.LogItem → List rules.LogItem
@@ -27,9 +26,9 @@ pub record Plain (xs es bs : List ℕ) (i : ℕ) (it : LogItem) : Type 0 where
   pub lent : Lent it (length es) (length bs)
   pub few : count_of it.content ≤ 32
 
-abbrev pub Unmarks : List ℕ → List ℕ → List ℕ → ℕ → item.Unmarked → Type 0
-Unmarks xs es bs i item.TheVariants.Mark = is_mark (item_at es bs (drop (i * 9) xs)) ≡ true
-Unmarks xs es bs i (item.TheVariants.Item it) = Plain xs es bs i it
+abbrev pub Unmarks : List ℕ → List ℕ → List ℕ → ℕ → Option LogItem → Type 0
+Unmarks xs es bs i None = is_mark (item_at es bs (drop (i * 9) xs)) ≡ true
+Unmarks xs es bs i (Some it) = Plain xs es bs i it
 
 -- an item with the tag
 abbrev pub tag_with : ℕ → rules.LogItem → Tagged

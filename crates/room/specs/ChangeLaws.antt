@@ -1,6 +1,6 @@
 -- What waits in a room after a change of one cell. Assumes nothing.
 use Rattle.std.specs.Prelude.{List, ◌≡◌, length, get_or, set}
-use Rattle.std.proofs.Math.Option.{Option, none, some}
+use Rattle.std.specs.Prelude.{Option, None, Some}
 use Rattle.std.proofs.Math.Path.{refl, sym}
 use Rattle.std.proofs.Common.{ap, ◌∙◌, zero-add}
 use Prim.Native.Nat.{ℕ, zero, suc, ◌+◌, ◌*◌, ◌≤◌, ◌<◌}
@@ -112,7 +112,7 @@ would-wait s r w g x =
     (a ∙ ap (λ (m : ℕ). or_else 0 item_count x + m) c, b ∙ ap (λ (m : ℕ). or_else 0 entry_count x + m) d)
 
 -- the parts of the group at cell k
-pub waiting_at_lem : (s : Store) (r : Room) → Wf s r → (k g : ℕ) (ps : List Part) → k < cell_count r.heads → cell_of (head_at k r.heads) (items_in s r) ≡ some (pair g ps) → lookup numbers g (waiting_in s r) ≡ some ps
+pub waiting_at_lem : (s : Store) (r : Room) → Wf s r → (k g : ℕ) (ps : List Part) → k < cell_count r.heads → cell_of (head_at k r.heads) (items_in s r) ≡ Some (pair g ps) → lookup numbers g (waiting_in s r) ≡ Some ps
 waiting_at_lem s r w k g ps l e =
     rw (waiting-map_of s r)
     (lookup_at (cells_of r.heads (items_in s r)) k g ps w.distinct (rw (length-cells r.heads (items_in s r)) l) (get_or-cells k r.heads (items_in s r) l ∙ e))
@@ -158,7 +158,7 @@ module _ (k : ℕ) (h : List ℕ) (s : Store) (r : Room) (t : Store) (q : Room) 
         ]
       ]
 
-  cell-before : get_or (cells_of r.heads (items_in s r)) k none ≡ cell_of (head_at k r.heads) (items_in s r)
+  cell-before : get_or (cells_of r.heads (items_in s r)) k None ≡ cell_of (head_at k r.heads) (items_in s r)
   cell-before = get_or-cells k r.heads (items_in s r) l
 
   there-are : k < length (cells_of r.heads (items_in s r))
@@ -200,38 +200,38 @@ module _ (k : ℕ) (h : List ℕ) (s : Store) (r : Room) (t : Store) (q : Room) 
 
   module _ (g : ℕ) where
     -- cell k was free, and has the first parts of group g
-    pub first-came : (ps : List Part) → count_in (head_at k r.heads) ≡ 0 → lookup numbers g (waiting_in s r) ≡ none → cell_of h (items_in t q) ≡ some (pair g ps) → t.items ≡ item_count ps + s.items → t.entries ≡ entry_count ps + s.entries → Became g (some ps) s r t q
+    pub first-came : (ps : List Part) → count_in (head_at k r.heads) ≡ 0 → lookup numbers g (waiting_in s r) ≡ None → cell_of h (items_in t q) ≡ Some (pair g ps) → t.items ≡ item_count ps + s.items → t.entries ≡ entry_count ps + s.entries → Became g (Some ps) s r t q
     unfolding store or_else
     first-came ps z n c items entries =
         let b = cell-before ∙ free-cell (head_at k r.heads) (items_in s r) z in
         let n' = rw (waiting-map_of s r) at n in
-        became g (some ps)
+        became g (Some ps)
         (rw (waiting-map_of t q, waiting-map_of s r, cells-set, c) (map-store-free (cells_of r.heads (items_in s r)) k g ps there-are b n'))
         (rw (cells-set, c) (distinct-store-free (cells_of r.heads (items_in s r)) k g ps w.distinct there-are b n'))
         (rw n (omega arith))
         (rw n (omega arith))
 
-    module _ (old : List Part) (c : cell_of (head_at k r.heads) (items_in s r) ≡ some (pair g old)) where
-      was : lookup numbers g (waiting_in s r) ≡ some old
+    module _ (old : List Part) (c : cell_of (head_at k r.heads) (items_in s r) ≡ Some (pair g old)) where
+      was : lookup numbers g (waiting_in s r) ≡ Some old
       was = waiting_at_lem s r w k g old l c
 
       -- group g had other parts there
-      pub others-came : (ps : List Part) → cell_of h (items_in t q) ≡ some (pair g ps) → t.items + item_count old ≡ item_count ps + s.items → t.entries + entry_count old ≡ entry_count ps + s.entries → Became g (some ps) s r t q
+      pub others-came : (ps : List Part) → cell_of h (items_in t q) ≡ Some (pair g ps) → t.items + item_count old ≡ item_count ps + s.items → t.entries + entry_count old ≡ entry_count ps + s.entries → Became g (Some ps) s r t q
       unfolding store or_else
       others-came ps d items entries =
           let b = cell-before ∙ c in
-          became g (some ps)
+          became g (Some ps)
           (rw (waiting-map_of t q, waiting-map_of s r, cells-set, d) (map-store_at (cells_of r.heads (items_in s r)) k g ps old w.distinct there-are b))
           (rw (cells-set, d) (distinct-store_at (cells_of r.heads (items_in s r)) k g ps old w.distinct there-are b))
           (rw was items)
           (rw was entries)
 
       -- and has none left
-      pub all_left : cell_of h (items_in t q) ≡ none → t.items + item_count old ≡ s.items → t.entries + entry_count old ≡ s.entries → Became g none s r t q
+      pub all_left : cell_of h (items_in t q) ≡ None → t.items + item_count old ≡ s.items → t.entries + entry_count old ≡ s.entries → Became g None s r t q
       unfolding store or_else
       all_left d items entries =
           let b = cell-before ∙ c in
-          became g none
+          became g None
           (rw (waiting-map_of t q, waiting-map_of s r, cells-set, d) (map-free (cells_of r.heads (items_in s r)) k g old w.distinct there-are b))
           (rw (cells-set, d) (distinct-free (cells_of r.heads (items_in s r)) k g old w.distinct there-are b))
           (rw was (omega arith))

@@ -1,6 +1,6 @@
 -- A change of a room: one cell, and the items of its two tags.
 use Rattle.std.specs.Prelude.{List, ◌≡◌, ℕ, ◌*◌, ◌/◌, length}
-use Rattle.std.proofs.Math.Option.{Option}
+use Rattle.std.specs.Prelude.{Option}
 use Rattle.cells.specs.Part.{put}
 use Rattle.maps.specs.Maps.{store, numbers}
 use Rattle.rules.specs.Context.{Part}

@@ -1,8 +1,8 @@
 -- What becomes of the items of a room: one is added with its tag, a tag is taken out, and one is copied out. The cells stay.
+use Rattle.log_batch.specs.Lent.{Opened}
 use Rattle.std.specs.Prelude.{List, ◌≡◌, ℕ, ◌*◌, ◌/◌, eqb, length, get_or, drop}
 use Rattle.rules.specs.Items as rules
 use Rattle.log_batch.specs.declared.item.LogItem.{LogItem}
-use Rattle.log_batch.specs.declared.open.Opened.{Opened}
 use Rattle.log_batch.specs.Lent.{opened_row, OpenedWithin, item_of, item_at}
 use Rattle.log_batch.specs.OpenLaws.{Bare}
 use Rattle.stores.specs.declared.Store.{Store}

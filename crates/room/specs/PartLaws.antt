@@ -2,7 +2,7 @@
 use Rattle.std.specs.Prelude.{List, [], ◌∷◌, ◌++◌, map, ◌≡◌, ℕ, ◌+◌, ◌-◌, ◌*◌, ◌/◌, ◌≤◌, ◌<◌, eqb, length, get_or}
 use Rattle.std.proofs.lemmas.List.{map-append}
 use Rattle.std.proofs.Common.{append-nil, sym, ap, ◌∙◌, eq-eqb, ne_eqb, eqb-true}
-use Rattle.std.proofs.Math.Option.{none, some}
+use Rattle.std.specs.Prelude.{None, Some}
 use Rattle.std.proofs.Math.Path.{refl}
 use native.Mathlib.Omega.{arith}
 use Rattle.std.proofs.lemmas.Bool.{eqb-false}
@@ -64,21 +64,21 @@ counts-nil = (refl, refl)
 
 -- ---- the cells that are written
 
-first_cell : (k g status start last : ℕ) (xs : List Tagged) → cell_of (first_head k g status start last) xs ≡ some (pair g (part status (items_with (first_tag k) xs) start last ∷ []))
+first_cell : (k g status start last : ℕ) (xs : List Tagged) → cell_of (first_head k g status start last) xs ≡ Some (pair g (part status (items_with (first_tag k) xs) start last ∷ []))
 unfolding cell_of parts_of newest older count_in group_in newest_tag older_tag first_head
 first_cell k g status start last xs = refl
 
-front-cell : (k status start last : ℕ) (h : List ℕ) (xs : List Tagged) → cell_of (front_head k status start last h) xs ≡ some (pair (group_in h) (part status (items_with (other_tag k (newest_tag h)) xs) start last ∷ newest h xs ∷ []))
+front-cell : (k status start last : ℕ) (h : List ℕ) (xs : List Tagged) → cell_of (front_head k status start last h) xs ≡ Some (pair (group_in h) (part status (items_with (other_tag k (newest_tag h)) xs) start last ∷ newest h xs ∷ []))
 unfolding cell_of parts_of newest older count_in group_in newest_tag older_tag front_head
 front-cell k status start last h xs = refl
 
 -- ---- a cell with parts, by its number of parts
 
-pub one_cell : (h : List ℕ) (xs : List Tagged) → count_in h ≡ 1 → cell_of h xs ≡ some (pair (group_in h) (newest h xs ∷ []))
+pub one_cell : (h : List ℕ) (xs : List Tagged) → count_in h ≡ 1 → cell_of h xs ≡ Some (pair (group_in h) (newest h xs ∷ []))
 unfolding cell_of parts_of
 one_cell h xs e = rw e
 
-pub two-cell : (h : List ℕ) (xs : List Tagged) → count_in h ≡ 2 → cell_of h xs ≡ some (pair (group_in h) (newest h xs ∷ older h xs ∷ []))
+pub two-cell : (h : List ℕ) (xs : List Tagged) → count_in h ≡ 2 → cell_of h xs ≡ Some (pair (group_in h) (newest h xs ∷ older h xs ∷ []))
 unfolding cell_of parts_of
 two-cell h xs e = rw e
 
@@ -138,7 +138,7 @@ module _ (k g status start last : ℕ) (its : List rules.LogItem) (s : Store) (r
   unfolding first_head
   first-length = refl
 
-  pub first-waits : lookup numbers g (waiting_in s r) ≡ none → Became g (some (part status its start last ∷ [])) s r t q
+  pub first-waits : lookup numbers g (waiting_in s r) ≡ None → Became g (Some (part status its start last ∷ [])) s r t q
   first-waits n =
       let c = counts-cons (part status its start last) [] in
       let c0 = c.0 in
@@ -151,7 +151,7 @@ module _ (k g status start last : ℕ) (its : List rules.LogItem) (s : Store) (r
       first-came k (first_head k g status start last) s r t q w l
       (wrote-only k (first_head k g status start last) (first_tag k) its s r t q w o first-length (record { from = omega arith; to = omega arith }) first_wf)
       g (part status its start last ∷ []) z n
-      (first_cell k g status start last (items_in t q) ∙ ap (λ (m : List rules.LogItem). some (pair g (part status m start last ∷ []))) first-items)
+      (first_cell k g status start last (items_in t q) ∙ ap (λ (m : List rules.LogItem). Some (pair g (part status m start last ∷ []))) first-items)
       (omega arith) (omega arith)
 
 -- one more part in front of an End
@@ -186,7 +186,7 @@ module _ (k start last : ℕ) (its : List rules.LogItem) (s : Store) (r : Room) 
   unfolding front_head
   front_length = refl
 
-  pub front-waits : Became (group_in h) (some (part 0 its start last ∷ newest h (items_in s r) ∷ [])) s r t q
+  pub front-waits : Became (group_in h) (Some (part 0 its start last ∷ newest h (items_in s r) ∷ [])) s r t q
   front-waits =
       let new = part 0 its start last in
       let old = newest h (items_in s r) in
@@ -274,7 +274,7 @@ module _ (k status start last : ℕ) (its : List rules.LogItem) (s : Store) (r :
         let y = o.total in
         (omega arith, omega arith)
 
-  pub renewed-one : count_in head ≡ 1 → Became (group_in head) (some (part status its start last ∷ [])) s r t q
+  pub renewed-one : count_in head ≡ 1 → Became (group_in head) (Some (part status its start last ∷ [])) s r t q
   renewed-one z =
       let n = renewed-count status start last head in
       let one = one-part k head (items_in s r) z (w.cells k l) in
@@ -290,7 +290,7 @@ module _ (k status start last : ℕ) (its : List rules.LogItem) (s : Store) (r :
       (one_cell renewed (items_in t q) (n.0 ∙ z) ∙ rw (n.1, renewed-items))
       c.0 c.1
 
-  pub renewed_two : count_in head ≡ 2 → status ≡ 0 → Became (group_in head) (some (part status its start last ∷ older head (items_in s r) ∷ [])) s r t q
+  pub renewed_two : count_in head ≡ 2 → status ≡ 0 → Became (group_in head) (Some (part status its start last ∷ older head (items_in s r) ∷ [])) s r t q
   renewed_two z b =
       let n = renewed-count status start last head in
       let two = two-parts k head (items_in s r) z (w.cells k l) in
@@ -352,7 +352,7 @@ module _ (k : ℕ) (s : Store) (r : Room) (t : Store) (q : Room) (w : Wf s r) (l
       let same : u ≡ other_tag k (newest_tag had) = omega (arith, d) in
       o.others u d ∙ rw same one.free)
 
-  pub left-none : count_in had ≡ 1 → Became (group_in had) none s r t q
+  pub left-none : count_in had ≡ 1 → Became (group_in had) None s r t q
   left-none z =
       let n = left-count had in
       let zero_left : count_in (left_head had) ≡ 0 = n.0 ∙ rw z in
@@ -368,7 +368,7 @@ module _ (k : ℕ) (s : Store) (r : Room) (t : Store) (q : Room) (w : Wf s r) (l
       (group_in had) (newest had (items_in s r) ∷ []) (one_cell had (items_in s r) z)
       (free-cell (left_head had) (items_in t q) zero_left) (omega arith) (omega arith)
 
-  pub left_one : count_in had ≡ 2 → Became (group_in had) (some (older had (items_in s r) ∷ [])) s r t q
+  pub left_one : count_in had ≡ 2 → Became (group_in had) (Some (older had (items_in s r) ∷ [])) s r t q
   left_one z =
       let n = left-count had in
       let two = two-parts k had (items_in s r) z (w.cells k l) in

@@ -1,6 +1,6 @@
 -- The heads of parts as they are written, and what a part that comes makes of what waits.
 use Rattle.std.specs.Prelude.{List, [], ◌∷◌, ◌++◌, map, ◌≡◌, ℕ, ◌+◌, ◌-◌, ◌*◌, length, get_or}
-use Rattle.std.proofs.Math.Option.{some}
+use Rattle.std.specs.Prelude.{Some}
 use Rattle.cells.specs.Part.{put}
 use Rattle.maps.specs.MapLaws.{pair}
 use Rattle.rules.specs.Items as rules
@@ -50,7 +50,7 @@ pub record WroteIn (k : ℕ) (h : List ℕ) (tag : ℕ) (its : List rules.LogIte
 
 -- the newest part of cell k is taken out; the room is well formed
 pub record TookPart (n k : ℕ) (ws vs ws' vs' : List ℕ) : Type 0 where
-  pub became : (g : ℕ) (p : Part) (ps : List Part) → cell_of (head_at k (room_of n ws vs).heads) (items_in (store_of ws) (room_of n ws vs)) ≡ some (pair g (p ∷ ps)) → Became g (some_parts ps) (store_of ws) (room_of n ws vs) (store_of ws') (room_of n ws' vs')
+  pub became : (g : ℕ) (p : Part) (ps : List Part) → cell_of (head_at k (room_of n ws vs).heads) (items_in (store_of ws) (room_of n ws vs)) ≡ Some (pair g (p ∷ ps)) → Became g (some_parts ps) (store_of ws) (room_of n ws vs) (store_of ws') (room_of n ws' vs')
 
 -- ---- a part that comes
 

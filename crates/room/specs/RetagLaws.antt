@@ -1,6 +1,7 @@
 -- The items of one tag change, and with them the newest part of a cell. Assumes nothing.
 use mathlib.Core.List.{List, [], ◌∷◌, ◌++◌}
-use Rattle.std.proofs.Math.Option.{some, some-injective}
+use Rattle.std.specs.Prelude.{Some}
+use Rattle.std.proofs.lemmas.Option.{same_Some}
 use Rattle.std.specs.Prelude.{◌≡◌}
 use Rattle.std.proofs.Math.Path.{refl, ap}
 use Rattle.std.proofs.Common.{sym, ◌∙◌}
@@ -135,7 +136,7 @@ retagged-more k h tag its s r t q w v =
 
 -- ---- a newest part that leaves, by the number of parts
 
-module _ (k : ℕ) (s : Store) (r : Room) (t : Store) (q : Room) (w : Wf s r) (l : k < cell_count r.heads) (o : Retagged k (left_head (head_at k r.heads)) (newest_tag (head_at k r.heads)) [] s r t q) (g : ℕ) (p : Part) (ps : List Part) (c : cell_of (head_at k r.heads) (items_in s r) ≡ some (pair g (p ∷ ps))) where
+module _ (k : ℕ) (s : Store) (r : Room) (t : Store) (q : Room) (w : Wf s r) (l : k < cell_count r.heads) (o : Retagged k (left_head (head_at k r.heads)) (newest_tag (head_at k r.heads)) [] s r t q) (g : ℕ) (p : Part) (ps : List Part) (c : cell_of (head_at k r.heads) (items_in s r) ≡ Some (pair g (p ∷ ps))) where
   abbrev h : List ℕ
   h = head_at k r.heads
 
@@ -146,7 +147,7 @@ module _ (k : ℕ) (s : Store) (r : Room) (t : Store) (q : Room) (w : Wf s r) (l
   left_when-one : count_in h ≡ 1 → Became g (some_parts ps) s r t q
   unfolding some_parts
   left_when-one z =
-      let e = some-injective _ _ (sym (one_cell h (items_in s r) z) ∙ c) in
+      let e = same_Some _ _ (sym (one_cell h (items_in s r) z) ∙ c) in
       let k1 : group_in h ≡ g = ap (λ (y : Pair ℕ (List Part)). y.key) e in
       let k2 : [] ≡ ps = ap (λ (y : Pair ℕ (List Part)). tail_of y.val) e in
       rw (← k1, ← k2) (left-none k s r t q w l o z)
@@ -154,7 +155,7 @@ module _ (k : ℕ) (s : Store) (r : Room) (t : Store) (q : Room) (w : Wf s r) (l
   left_when_two : count_in h ≡ 2 → Became g (some_parts ps) s r t q
   unfolding some_parts
   left_when_two z =
-      let e = some-injective _ _ (sym (two-cell h (items_in s r) z) ∙ c) in
+      let e = same_Some _ _ (sym (two-cell h (items_in s r) z) ∙ c) in
       let k1 : group_in h ≡ g = ap (λ (y : Pair ℕ (List Part)). y.key) e in
       let k2 : older h (items_in s r) ∷ [] ≡ ps = ap (λ (y : Pair ℕ (List Part)). tail_of y.val) e in
       rw (← k1, ← k2) (left_one k s r t q w l o z)

@@ -1,6 +1,6 @@
 -- The laws of the cells of a room. Assumes nothing.
 use Rattle.std.specs.Prelude.{List, ◌∷◌, ◌≡◌, length, get_or, set}
-use Rattle.std.proofs.Math.Option.{none}
+use Rattle.std.specs.Prelude.{None}
 use Rattle.std.proofs.Math.Path.{refl, ap}
 use Rattle.std.proofs.Common.{◌∙◌, zero-add, add-zero, arith}
 use Prim.Native.Nat.{ℕ, zero, suc, ◌+◌, ◌*◌, ◌≤◌, ◌<◌}
@@ -18,7 +18,7 @@ module _ {A : Type 0} where
   length-cells_by f k zero = refl
   length-cells_by f k (suc n) = ap suc (length-cells_by f (suc k) n)
 
-  pub get_or-cells_by : (f : ℕ → Cell A) (k n i : ℕ) → i < n → get_or (cells_by f k n) i none ≡ f (k + i)
+  pub get_or-cells_by : (f : ℕ → Cell A) (k n i : ℕ) → i < n → get_or (cells_by f k n) i None ≡ f (k + i)
   unfolding cells_by
   get_or-cells_by f k zero i h = absurd (omega arith)
   get_or-cells_by f k (suc n) zero h = rw (add-zero k)
@@ -45,12 +45,12 @@ pub length-cells : (hs : List ℕ) (xs : List Tagged) → length (cells_of hs xs
 unfolding cells_of
 length-cells hs xs = length-cells_by (λ k. cell_of (head_at k hs) xs) 0 (cell_count hs)
 
-pub get_or-cells : (k : ℕ) (hs : List ℕ) (xs : List Tagged) → k < cell_count hs → get_or (cells_of hs xs) k none ≡ cell_of (head_at k hs) xs
+pub get_or-cells : (k : ℕ) (hs : List ℕ) (xs : List Tagged) → k < cell_count hs → get_or (cells_of hs xs) k None ≡ cell_of (head_at k hs) xs
 unfolding cells_of
 get_or-cells k hs xs l = rw (zero-add k) at (get_or-cells_by (λ j. cell_of (head_at j hs) xs) 0 (cell_count hs) k l)
 
 -- a cell with no part is free
-pub free-cell : (h : List ℕ) (xs : List Tagged) → count_in h ≡ 0 → cell_of h xs ≡ none
+pub free-cell : (h : List ℕ) (xs : List Tagged) → count_in h ≡ 0 → cell_of h xs ≡ None
 unfolding cell_of
 free-cell h xs e = rw e
 

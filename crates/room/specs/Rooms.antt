@@ -1,7 +1,7 @@
 -- Waiting parts in a room: n cells of part heads, and a store of items whose tags say which part each belongs to. A cell has the
 -- number of its parts (0 if it is free), the group, and tag, status, start and end of the newest part and of the older one.
 use Rattle.std.specs.Prelude.{cond, List, [], ◌∷◌, ◌≡◌, ℕ, zero, suc, ◌+◌, ◌-◌, ◌*◌, ◌/◌, ◌≤◌, ◌<◌, eqb, length, get_or}
-use Rattle.std.proofs.Math.Option.{none, some}
+use Rattle.std.specs.Prelude.{None, Some}
 use Rattle.cells.specs.Part.{part}
 use Rattle.maps.specs.Lists.{sum}
 use Rattle.maps.specs.Maps.{Map}
@@ -66,7 +66,7 @@ unfoldable pub parts_of : List ℕ → List Tagged → List Part
 parts_of h xs = newest h xs ∷ cond (eqb (count_in h) 1) [] (older h xs ∷ [])
 
 unfoldable pub cell_of : List ℕ → List Tagged → Cell (List Part)
-cell_of h xs = cond (eqb (count_in h) 0) none (some (pair (group_in h) (parts_of h xs)))
+cell_of h xs = cond (eqb (count_in h) 0) None (Some (pair (group_in h) (parts_of h xs)))
 
 -- the n cells that f gives from k on
 unfoldable pub cells_by : {A : Type 0} → (ℕ → Cell A) → ℕ → ℕ → List (Cell A)

@@ -1,6 +1,5 @@
 // The items of a marked batch but its mark: their counts, and all of them added to a room with one tag.
-ghost use Rattle.std.specs.Prelude.{[], ◌∷◌, ◌≡◌, ◌+◌, ◌*◌, ◌≤◌, ◌<◌, length, drop};
-ghost use Rattle.std.proofs.Math.Option.{none};
+ghost use Rattle.std.specs.Prelude.{[], ◌∷◌, ◌≡◌, ◌+◌, ◌*◌, ◌≤◌, ◌<◌, length, drop, None};
 ghost use Rattle.rules.specs.Items.{replay_rewrite};
 ghost use Rattle.rules.specs.Checks.{checks};
 ghost use Rattle.log_batch.specs.Lent.{row_count_of, item_at, items_of};
@@ -9,64 +8,58 @@ ghost use Rattle.room.specs.Rooms.{area_in};
 ghost use Rattle.room.specs.Layout.{room_of};
 ghost use Rattle.room.specs.Batches.{unmarked, counts_for, Unmarks, PushedAll};
 
-use crate::Unmarked;
 use crate::items::add;
-use log_batch::mark::{MarkByte, mark_byte};
-use log_batch::open::{Opened, open_item, row_count};
+use log_batch::item::LogItem;
+use log_batch::mark::mark_byte;
+use log_batch::open::{open_item, row_count};
 use stores::Store;
 use stores::add::count_of;
 
-// Item `i` of a batch that passed the checks.
-fn unmarked_at(items: &[u64], entries: &[u64], bytes: &[u8], i: usize) -> Unmarked
+// Item `i` of a batch that passed the checks, unless it is the mark.
+fn unmarked_at(items: &[u64], entries: &[u64], bytes: &[u8], i: usize) -> Option<LogItem>
     requires i_bound { i < row_count_of items.now }
-    requires bytes_value { checks replay_rewrite (items_of items.now entries.now bytes.now) ≡ none }
+    requires bytes_value { checks replay_rewrite (items_of items.now entries.now bytes.now) ≡ None }
     ensures { Unmarks items.now entries.now bytes.now i result }
 {
-    let Opened::Item(item) = open_item(items, entries, bytes, i) else {
-        return Unmarked::Mark;
+    let Ok(item) = open_item(items, entries, bytes, i) else {
+        unreachable!()
     };
-    let content = item.content;
-    let MarkByte::Absent = mark_byte(content, bytes) else {
-        return Unmarked::Mark;
-    };
-    Unmarked::Item(item)
+    match mark_byte(item.content, bytes) {
+        Some(_) => None,
+        None => Some(item),
+    }
 }
 
 // The counts so far, with item `i` unless it is the mark.
 fn count_item(count: Store, items: &[u64], entries: &[u64], bytes: &[u8], i: usize) -> Store
     requires i_bound { i < row_count_of items.now }
-    requires bytes_value { checks replay_rewrite (items_of items.now entries.now bytes.now) ≡ none }
+    requires bytes_value { checks replay_rewrite (items_of items.now entries.now bytes.now) ≡ None }
     requires count_le_i { (count.items ≤ i) × (count.entries ≤ i * 32) }
     ensures result_value { result.items ≡ count.items + (counts_for (unmarked (item_at entries.now bytes.now (drop (i * 9) items.now) ∷ []))).items }
     ensures entries_value { result.entries ≡ count.entries + (counts_for (unmarked (item_at entries.now bytes.now (drop (i * 9) items.now) ∷ []))).entries }
     ensures result_bound { (result.items ≤ i + 1) × (result.entries ≤ (i + 1) * 32) }
 {
-    let Unmarked::Item(item) = unmarked_at(items, entries, bytes, i) else {
+    let Some(item) = unmarked_at(items, entries, bytes, i) else {
         return count;
     };
-    let content = item.content;
-    let more = count_of(content);
     Store {
         items: count.items + 1,
-        entries: count.entries + more,
+        entries: count.entries + count_of(item.content),
     }
 }
 
 // The counts of the items of a batch but the mark.
 pub fn count_batch(items: &[u64], entries: &[u64], bytes: &[u8]) -> Store
-    requires { checks replay_rewrite (items_of items.now entries.now bytes.now) ≡ none }
+    requires { checks replay_rewrite (items_of items.now entries.now bytes.now) ≡ None }
     ensures value { result ≡ counts_for (unmarked (items_of items.now entries.now bytes.now)) }
     ensures result_bound { (result.items ≤ 32) × (result.entries ≤ 1024) }
 {
-    let n = row_count(items);
     let mut count = Store {
         items: 0,
         entries: 0,
     };
-    let mut i = 0;
-    while i < n {
+    for i in 0..row_count(items) {
         count = count_item(count, items, entries, bytes, i);
-        i += 1;
     }
     count
 }
@@ -86,11 +79,11 @@ fn push_item(
     requires ws_len { (length ws.old ≡ 2 + cells * 218) × (length vs.old ≡ cells * 512) }
     requires stored { Stored store (area_in (room_of cells ws.old vs.old)) }
     requires i_bound { i < row_count_of items.now }
-    requires bytes_value { checks replay_rewrite (items_of items.now entries.now bytes.now) ≡ none }
+    requires bytes_value { checks replay_rewrite (items_of items.now entries.now bytes.now) ≡ None }
     requires bound { (store.items + (counts_for (unmarked (item_at entries.now bytes.now (drop (i * 9) items.now) ∷ []))).items ≤ cells * 8) × (store.entries + (counts_for (unmarked (item_at entries.now bytes.now (drop (i * 9) items.now) ∷ []))).entries ≤ cells * 16) }
     ensures { PushedAll store (room_of cells ws.old vs.old) tag (unmarked (item_at entries.now bytes.now (drop (i * 9) items.now) ∷ [])) result (room_of cells ws.new vs.new) }
 {
-    let Unmarked::Item(item) = unmarked_at(items, entries, bytes, i) else {
+    let Some(item) = unmarked_at(items, entries, bytes, i) else {
         return store;
     };
     add(ws, vs, cells, store, tag, item, entries, bytes)
@@ -109,16 +102,13 @@ pub fn push_batch(
 ) -> Store
     requires ws_len { (length ws.old ≡ 2 + cells * 218) × (length vs.old ≡ cells * 512) }
     requires stored { Stored store (area_in (room_of cells ws.old vs.old)) }
-    requires bytes_value { checks replay_rewrite (items_of items.now entries.now bytes.now) ≡ none }
+    requires bytes_value { checks replay_rewrite (items_of items.now entries.now bytes.now) ≡ None }
     requires bytes_bound { (store.items + (counts_for (unmarked (items_of items.now entries.now bytes.now))).items ≤ cells * 8) × (store.entries + (counts_for (unmarked (items_of items.now entries.now bytes.now))).entries ≤ cells * 16) }
     ensures { PushedAll store (room_of cells ws.old vs.old) tag (unmarked (items_of items.now entries.now bytes.now)) result (room_of cells ws.new vs.new) }
 {
-    let n = row_count(items);
     let mut all = store;
-    let mut i = 0;
-    while i < n {
+    for i in 0..row_count(items) {
         all = push_item(ws, vs, cells, all, tag, items, entries, bytes, i);
-        i += 1;
     }
     all
 }

@@ -11,10 +11,7 @@ ghost use Rattle.room.specs.Items.{ItemCopied};
 
 use crate::items::open_in;
 use crate::{CELLS, ENTRIES, ENTRIES_FROM, HEADS_AT, TAGS_FROM};
-use log_batch::item::{
-    Command, EntryIndexes, KeyFile, KeyValue, LogItem, LogItemContent, OpType, Value,
-};
-use log_batch::open::Opened;
+use log_batch::item::{Bytes, EntryIndexes, KeyValue, LogItem, LogItemContent, OpType};
 
 // The tag of item `j` of a context's room.
 pub fn tag_at(ws: &[u64], j: usize) -> u64
@@ -31,23 +28,19 @@ pub fn item_in(ws: &[u64], vs: &[u8], cells: usize, j: usize) -> LogItem
     requires j_bound { j < (store_of ws.now).items }
     ensures { ItemAt (store_of ws.now) (area_in (room_of cells ws.now vs.now)) j result }
 {
-    let Opened::Item(item) = open_in(ws, vs, cells, j) else {
-        let content = LogItemContent::Command(Command::Clean);
-        return LogItem {
-            raft_group_id: 0,
-            content,
-        };
+    let Ok(item) = open_in(ws, vs, cells, j) else {
+        unreachable!()
     };
     item
 }
 
 // A value at another place.
-fn placed_value(value: Value, at: usize) -> Value
+fn placed_value(value: Option<Bytes>, at: usize) -> Option<Bytes>
     ensures { result ≡ placed_value value at }
 {
     match value {
-        Value::Absent => Value::Absent,
-        Value::At { at: from, len } => Value::At { at, len },
+        None => None,
+        Some(value) => Some(Bytes { at, len: value.len }),
     }
 }
 
@@ -56,55 +49,42 @@ fn placed_key(kv: KeyValue, at: usize) -> KeyValue
     requires { at + kv.key_len < 2 ^ 64 }
     ensures { result ≡ placed_key kv.op_type kv at }
 {
-    let op_type = kv.op_type;
     let key_len = kv.key_len;
-    let OpType::Put = op_type else {
-        return KeyValue {
+    match kv.op_type {
+        OpType::Put => KeyValue {
+            op_type: OpType::Put,
+            key_at: at,
+            key_len,
+            value: placed_value(kv.value, at + key_len),
+            file_id: kv.file_id,
+        },
+        OpType::Del => KeyValue {
             op_type: OpType::Del,
             key_at: at,
             key_len,
-            value: Value::Absent,
-            file_id: KeyFile::Absent,
-        };
-    };
-    let its = kv.value;
-    let file_id = kv.file_id;
-    let value = placed_value(its, at + key_len);
-    KeyValue {
-        op_type: OpType::Put,
-        key_at: at,
-        key_len,
-        value,
-        file_id,
+            value: None,
+            file_id: None,
+        },
     }
 }
 
 // An item whose rows of entries stand from row `row`, and its bytes from place `at`.
+#[tactic(auto, unfolding(stores::specs::Written::placed))]
 fn placed_item(item: LogItem, row: usize, at: usize) -> LogItem
     requires { at + key_length item.content < 2 ^ 64 }
     ensures { result ≡ placed item row at }
 {
-    let raft_group_id = item.raft_group_id;
-    let content = item.content;
-    match content {
-        LogItemContent::EntryIndexes(list) => {
-            let count = list.count;
-            LogItem {
-                raft_group_id,
-                content: LogItemContent::EntryIndexes(EntryIndexes { at: row, count }),
-            }
-        }
-        LogItemContent::Command(command) => LogItem {
-            raft_group_id,
-            content: LogItemContent::Command(command),
-        },
-        LogItemContent::Kv(kv) => {
-            let key = placed_key(kv, at);
-            LogItem {
-                raft_group_id,
-                content: LogItemContent::Kv(key),
-            }
-        }
+    let content = match item.content {
+        LogItemContent::EntryIndexes(list) => LogItemContent::EntryIndexes(EntryIndexes {
+            at: row,
+            count: list.count,
+        }),
+        LogItemContent::Command(command) => LogItemContent::Command(command),
+        LogItemContent::Kv(kv) => LogItemContent::Kv(placed_key(kv, at)),
+    };
+    LogItem {
+        raft_group_id: item.raft_group_id,
+        content,
     }
 }
 
@@ -128,8 +108,7 @@ pub fn copy_item(ws: &[u64], vs: &[u8], j: usize, es: &mut [u64], bs: &mut [u8])
     ensures { ItemCopied ws.now vs.now j result es.new bs.new }
 {
     let item = item_in(ws, vs, CELLS, j);
-    let content = item.content;
-    copy_entries(ws, CELLS, content, es);
-    stores::add::copy_bytes(bs, 0, content, vs);
+    copy_entries(ws, CELLS, item.content, es);
+    stores::add::copy_bytes(bs, 0, item.content, vs);
     placed_item(item, 0, 0)
 }

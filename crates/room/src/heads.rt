@@ -1,6 +1,5 @@
 // The heads of parts: written with the counts of the store, and a newest part that leaves.
-ghost use Rattle.std.specs.Prelude.{List, ◌≡◌, ℕ, ◌+◌, ◌*◌, ◌≤◌, ◌<◌, length, get_or};
-ghost use Rattle.std.proofs.Math.Option.{none};
+ghost use Rattle.std.specs.Prelude.{List, ◌≡◌, ℕ, ◌+◌, ◌*◌, ◌≤◌, ◌<◌, length, get_or, None};
 ghost use Rattle.cells.specs.Part.{part};
 ghost use Rattle.rules.specs.Items.{replay_rewrite};
 ghost use Rattle.rules.specs.Checks.{checks};
@@ -32,7 +31,7 @@ pub fn settle(ws: &mut [u64], cells: usize, k: usize, head: &[u64], store: Store
     requires { (length ws.old ≡ 2 + cells * 218) × (k < cells) × (length head.now ≡ 10) }
     ensures { Settled cells k head.now store ws.old ws.new }
 {
-    cells::copy_in_u64(ws, HEADS_AT + k * HEAD_WIDTH, head);
+    cells::copy_in(ws, HEADS_AT + k * HEAD_WIDTH, head);
     ws[0] = store.items as u64;
     ws[1] = store.entries as u64;
 }
@@ -90,7 +89,7 @@ pub fn write_part(
 )
     requires ws_len { (length ws.old ≡ 2 + cells * 218) × (length vs.old ≡ cells * 512) × (k < cells) × (length head.now ≡ 10) }
     requires stored { Stored store (area_in (room_of cells ws.old vs.old)) }
-    requires bytes_value { checks replay_rewrite (items_of items.now entries.now bytes.now) ≡ none }
+    requires bytes_value { checks replay_rewrite (items_of items.now entries.now bytes.now) ≡ None }
     requires bytes_bound { (store.items + (counts_for (unmarked (items_of items.now entries.now bytes.now))).items ≤ cells * 8) × (store.entries + (counts_for (unmarked (items_of items.now entries.now bytes.now))).entries ≤ cells * 16) }
     ensures { WroteIn k head.now tag (unmarked (items_of items.now entries.now bytes.now)) store (room_of cells ws.old vs.old) (store_of ws.new) (room_of cells ws.new vs.new) }
 {

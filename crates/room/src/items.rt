@@ -11,7 +11,7 @@ ghost use Rattle.room.specs.Items.{item_in, OpenedIn, AddedIn, MovedIn, KeepingI
 use crate::places::{copy_rows, move_rows, write_row};
 use crate::{ENTRIES, ENTRIES_FROM, HEADS_AT, ITEMS, ITEMS_FROM, TAGS_FROM};
 use log_batch::item::LogItem;
-use log_batch::open::{Opened, open_item};
+use log_batch::open::{Unopened, open_item};
 use stores::Store;
 use stores::row::ITEM_BYTES;
 
@@ -32,21 +32,18 @@ pub fn add(
     requires store_bound { (store.items < cells * 8) × (store.entries + count_of item.content ≤ cells * 16) }
     ensures { AddedIn store (room_of cells ws.old vs.old) tag (item_of item its_entries.now its_bytes.now) result (room_of cells ws.new vs.new) }
 {
-    let n = store.items;
-    let row = store.entries;
-    let content = item.content;
-    write_row(ws, cells, n, item, row);
-    let end = copy_rows(ws, cells, row, content, its_entries);
-    ws[HEADS_AT + cells * TAGS_FROM + n] = tag;
-    stores::add::copy_bytes(vs, n * ITEM_BYTES, content, its_bytes);
+    write_row(ws, cells, store.items, item, store.entries);
+    let end = copy_rows(ws, cells, store.entries, item.content, its_entries);
+    ws[HEADS_AT + cells * TAGS_FROM + store.items] = tag;
+    stores::add::copy_bytes(vs, store.items * ITEM_BYTES, item.content, its_bytes);
     Store {
-        items: n + 1,
+        items: store.items + 1,
         entries: end,
     }
 }
 
 // Opens item `j` of a room.
-pub fn open_in(ws: &[u64], vs: &[u8], cells: usize, j: usize) -> Opened
+pub fn open_in(ws: &[u64], vs: &[u8], cells: usize, j: usize) -> Result<LogItem, Unopened>
     requires ws_len { (length ws.now ≡ 2 + cells * 218) × (length vs.now ≡ cells * 512) }
     requires j_bound { j < cells * 8 }
     ensures { OpenedIn (room_of cells ws.now vs.now) j result }
@@ -67,14 +64,11 @@ fn put_down(ws: &mut [u64], vs: &mut [u8], cells: usize, left: Store, item: LogI
     requires behind { Behind item.content left.entries (left.items * 64) }
     ensures { MovedIn left (room_of cells ws.old vs.old) (item_of item (room_of cells ws.old vs.old).entries (room_of cells ws.old vs.old).bytes) result (room_of cells ws.new vs.new) }
 {
-    let n = left.items;
-    let row = left.entries;
-    let content = item.content;
-    write_row(ws, cells, n, item, row);
-    let end = move_rows(ws, cells, row, content);
-    stores::shift::move_bytes(vs, n * ITEM_BYTES, content);
+    write_row(ws, cells, left.items, item, left.entries);
+    let end = move_rows(ws, cells, left.entries, item.content);
+    stores::shift::move_bytes(vs, left.items * ITEM_BYTES, item.content);
     Store {
-        items: n + 1,
+        items: left.items + 1,
         entries: end,
     }
 }
@@ -86,8 +80,8 @@ fn keep_item(ws: &mut [u64], vs: &mut [u8], cells: usize, left: Store, j: usize)
     requires movable { Movable left j (area_in (room_of cells ws.old vs.old)) }
     ensures { MovedIn left (room_of cells ws.old vs.old) (item_in j (room_of cells ws.old vs.old)) result (room_of cells ws.new vs.new) }
 {
-    let Opened::Item(item) = open_in(ws, vs, cells, j) else {
-        return left;
+    let Ok(item) = open_in(ws, vs, cells, j) else {
+        unreachable!()
     };
     put_down(ws, vs, cells, left, item)
 }
@@ -105,8 +99,7 @@ fn keep_other(ws: &mut [u64], vs: &mut [u8], cells: usize, left: Store, j: usize
     if its == tag {
         return left;
     }
-    let at = left.items;
-    ws[from + at] = its;
+    ws[from + left.items] = its;
     keep_item(ws, vs, cells, left, j)
 }
 
@@ -116,15 +109,12 @@ pub fn take_out(ws: &mut [u64], vs: &mut [u8], cells: usize, store: Store, tag: 
     requires stored { Stored store (area_in (room_of cells ws.old vs.old)) }
     ensures { TakenIn store (room_of cells ws.old vs.old) tag result (room_of cells ws.new vs.new) }
 {
-    let n = store.items;
     let mut left = Store {
         items: 0,
         entries: 0,
     };
-    let mut j = 0;
-    while j < n {
+    for j in 0..store.items {
         left = keep_other(ws, vs, cells, left, j, tag);
-        j += 1;
     }
     left
 }

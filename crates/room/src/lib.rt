@@ -56,10 +56,3 @@ pub const ENTRIES: usize = MAX_ENTRIES / MAX_GROUPS * ENTRY_WIDTH;
 pub const NUMBERS: usize = HEADS_AT + CELLS * (ENTRIES_FROM + ENTRIES);
 
 pub const BYTES: usize = CELLS * TAGS * ITEM_BYTES;
-
-// An item of a marked batch: the mark, or one that waits with the part.
-#[derive(Clone, Copy)]
-pub enum Unmarked {
-    Mark,
-    Item(LogItem),
-}

@@ -11,9 +11,7 @@ pub fn clear(ws: &mut [u64], cells: usize)
 {
     ws[0] = 0;
     ws[1] = 0;
-    let mut k = 0;
-    while k < cells {
+    for k in 0..cells {
         ws[HEADS_AT + k * HEAD_WIDTH] = 0;
-        k += 1;
     }
 }

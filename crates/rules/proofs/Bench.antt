@@ -2,9 +2,9 @@
 use mathlib.Core.Path.{◌≡◌, refl}
 use mathlib.Core.Bool.{true}
 use mathlib.Core.List.{List, [], ◌∷◌, ◌++◌, map}
-use mathlib.Core.Option.{Option, none, some}
+use Rattle.std.specs.Prelude.{Option, None, Some}
 use Prim.Native.Nat.{ℕ}
-use Rattle.rules.specs.Causes.{Result, ok, refuse, and_then, entry_compacted, entry_not_found, below_first, above_last, append_left, already_rewritten}
+use Rattle.rules.specs.Causes.{Result, Ok, refuse, and_then, EntryCompacted, EntryNotFound, BelowFirst, AboveLast, AppendLeft, AlreadyRewritten}
 use Rattle.rules.specs.Items.{Append, Rewrite, EntryIndex, file_of, Batch, entries, command, compact}
 use Rattle.rules.specs.Table.{Table, Span, empty_table, appended, rewritten, compacted, compacted_count, with_entries, with_span}
 use Rattle.rules.specs.TableQueries.{fetch_entries_to, min_file_seq, rewrite_count}
@@ -13,10 +13,10 @@ use Rattle.rules.proofs.Terms.{sized_entry, entry, several, indexes, batch, reco
 
 -- the indexes that a table holds after a change
 abbrev pub held_by : Result Table → Result (List ℕ)
-held_by r = and_then r (λ t. ok (indexes t.entries))
+held_by r = and_then r (λ t. Ok (indexes t.entries))
 
 abbrev pub answer : Result (List EntryIndex) → Result (List ℕ)
-answer r = and_then r (λ es. ok (indexes es))
+answer r = and_then r (λ es. Ok (indexes es))
 
 abbrev pub table_of : List EntryIndex → Table
 table_of es = with_entries es empty_table
@@ -31,7 +31,7 @@ filed = table_of (entry Append 1 5 ∷ entry Append 1 6 ∷ entry Append 2 7 ∷
 
 -- the files' numbers after a rewrite of 4..8 to Rewrite file s, and the number of rewritten entries
 abbrev pub seqs : Result Table → Result (List ℕ)
-seqs r = and_then r (λ t. ok (map (λ (e : EntryIndex). (file_of e).seq) t.entries))
+seqs r = and_then r (λ t. Ok (map (λ (e : EntryIndex). (file_of e).seq) t.entries))
 
 abbrev pub moved : Option ℕ → ℕ → Table → Result Table
 moved gate s t = rewritten gate (several Rewrite s 4 5) t
@@ -54,39 +54,39 @@ rewrite2 = batch Rewrite 2 (entries (several Rewrite 2 10 3) ∷ entries (severa
 
 pub record Bench : Type 0 where
   -- 2. run 1: 1..10; run 2: 4..6, compact 7. One pass holds none; two runs merged hold 7..10.
-  pub case-2-pass : held (recovered Append (run1 ++ run2)) ≡ ok []
-  pub case-2-merge : held (merged (recovered Append run1) (recovered Append run2)) ≡ ok (7 ∷ 8 ∷ 9 ∷ 10 ∷ [])
+  pub case-2-pass : held (recovered Append (run1 ++ run2)) ≡ Ok []
+  pub case-2-merge : held (merged (recovered Append run1) (recovered Append run2)) ≡ Ok (7 ∷ 8 ∷ 9 ∷ 10 ∷ [])
   -- 3. Rewrite runs 1..3 and (10..12, 4..5): one pass 4..5, merged 1..5
-  pub case-3-pass : held (recovered Rewrite (rewrite1 ++ rewrite2)) ≡ ok (4 ∷ 5 ∷ [])
-  pub case-3-merge : held (merged (recovered Rewrite rewrite1) (recovered Rewrite rewrite2)) ≡ ok (1 ∷ 2 ∷ 3 ∷ 4 ∷ 5 ∷ [])
+  pub case-3-pass : held (recovered Rewrite (rewrite1 ++ rewrite2)) ≡ Ok (4 ∷ 5 ∷ [])
+  pub case-3-merge : held (merged (recovered Rewrite rewrite1) (recovered Rewrite rewrite2)) ≡ Ok (1 ∷ 2 ∷ 3 ∷ 4 ∷ 5 ∷ [])
   -- 4. live 5..8: append at 4 is 13, 10 is 14; 9 and 6 are taken
-  pub case-4-below : appended true (several Append 2 4 1) live ≡ refuse below_first
-  pub case-4-above : appended true (several Append 2 10 1) live ≡ refuse above_last
-  pub case-4-next : held_by (appended true (several Append 2 9 1) live) ≡ ok (5 ∷ 6 ∷ 7 ∷ 8 ∷ 9 ∷ [])
-  pub case-4-inside : held_by (appended true (several Append 2 6 1) live) ≡ ok (5 ∷ 6 ∷ [])
+  pub case-4-below : appended true (several Append 2 4 1) live ≡ refuse BelowFirst
+  pub case-4-above : appended true (several Append 2 10 1) live ≡ refuse AboveLast
+  pub case-4-next : held_by (appended true (several Append 2 9 1) live) ≡ Ok (5 ∷ 6 ∷ 7 ∷ 8 ∷ 9 ∷ [])
+  pub case-4-inside : held_by (appended true (several Append 2 6 1) live) ≡ Ok (5 ∷ 6 ∷ [])
   -- 5. the same: fetch [7,7) empty, [4,6) 11, [8,9) one, [8,10) 12
-  pub case-5-empty : fetch_entries_to 7 7 none live ≡ ok []
-  pub case-5-compacted : fetch_entries_to 4 6 none live ≡ refuse entry_compacted
-  pub case-5-one : answer (fetch_entries_to 8 9 none live) ≡ ok (8 ∷ [])
-  pub case-5-missing : fetch_entries_to 8 10 none live ≡ refuse entry_not_found
+  pub case-5-empty : fetch_entries_to 7 7 None live ≡ Ok []
+  pub case-5-compacted : fetch_entries_to 4 6 None live ≡ refuse EntryCompacted
+  pub case-5-one : answer (fetch_entries_to 8 9 None live) ≡ Ok (8 ∷ [])
+  pub case-5-missing : fetch_entries_to 8 10 None live ≡ refuse EntryNotFound
   -- 6. lengths 0, 0, 9, 1, size 5: three records
-  pub case-6 : answer (fetch_entries_to 1 5 (some 5) (table_of (sized_entry Append 1 1 0 ∷ sized_entry Append 1 2 0 ∷ sized_entry Append 1 3 9 ∷ sized_entry Append 1 4 1 ∷ []))) ≡ ok (1 ∷ 2 ∷ 3 ∷ [])
+  pub case-6 : answer (fetch_entries_to 1 5 (Some 5) (table_of (sized_entry Append 1 1 0 ∷ sized_entry Append 1 2 0 ∷ sized_entry Append 1 3 9 ∷ sized_entry Append 1 4 1 ∷ []))) ≡ Ok (1 ∷ 2 ∷ 3 ∷ [])
   -- 7. 5..8 in files 1, 1, 2, 3; rewrite 4..8, gate 2: three moved. Again: 16. Ungated: three renewed.
-  pub case-7-moved : seqs (moved (some 2) 4 filed) ≡ ok (4 ∷ 4 ∷ 4 ∷ 3 ∷ [])
-  pub case-7-count : and_then (moved (some 2) 4 filed) (λ t. ok (rewrite_count t)) ≡ ok 3
-  pub case-7-again : and_then (moved (some 2) 4 filed) (moved (some 2) 5) ≡ refuse already_rewritten
-  pub case-7-renewed : seqs (and_then (moved (some 2) 4 filed) (moved none 5)) ≡ ok (5 ∷ 5 ∷ 5 ∷ 3 ∷ [])
+  pub case-7-moved : seqs (moved (Some 2) 4 filed) ≡ Ok (4 ∷ 4 ∷ 4 ∷ 3 ∷ [])
+  pub case-7-count : and_then (moved (Some 2) 4 filed) (λ t. Ok (rewrite_count t)) ≡ Ok 3
+  pub case-7-again : and_then (moved (Some 2) 4 filed) (moved (Some 2) 5) ≡ refuse AlreadyRewritten
+  pub case-7-renewed : seqs (and_then (moved (Some 2) 4 filed) (moved None 5)) ≡ Ok (5 ∷ 5 ∷ 5 ∷ 3 ∷ [])
   -- 8. 5..8 Append, rewrite 7..8: 15
-  pub case-8 : rewritten (some 9) (several Rewrite 1 7 2) live ≡ refuse append_left
+  pub case-8 : rewritten (Some 9) (several Rewrite 1 7 2) live ≡ refuse AppendLeft
   -- 9. Rewrite files 9, 4: least 9; span (3,12): 3; span (3,8): 9
-  pub case-9-least : min_file_seq Rewrite (nine_four none) ≡ some 9
-  pub case-9-inside : min_file_seq Rewrite (nine_four (some (record { start = 3; end = 12 }))) ≡ some 3
-  pub case-9-after : min_file_seq Rewrite (nine_four (some (record { start = 3; end = 8 }))) ≡ some 9
+  pub case-9-least : min_file_seq Rewrite (nine_four None) ≡ Some 9
+  pub case-9-inside : min_file_seq Rewrite (nine_four (Some (record { start = 3; end = 12 }))) ≡ Some 3
+  pub case-9-after : min_file_seq Rewrite (nine_four (Some (record { start = 3; end = 8 }))) ≡ Some 9
   -- 10. 5..8, compact 5: 0; 7: 2; 20: 2; then append at 3 is taken
   pub case-10-first : compacted_count 5 live ≡ 0
   pub case-10-seven : compacted_count 7 (compacted 5 live) ≡ 2
   pub case-10-twenty : compacted_count 20 (compacted 7 (compacted 5 live)) ≡ 2
-  pub case-10-append : held_by (appended true (several Append 2 3 1) (compacted 20 (compacted 7 (compacted 5 live)))) ≡ ok (3 ∷ [])
+  pub case-10-append : held_by (appended true (several Append 2 3 1) (compacted 20 (compacted 7 (compacted 5 live)))) ≡ Ok (3 ∷ [])
 
 pub bench : Bench
 unfolding opened

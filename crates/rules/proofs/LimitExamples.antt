@@ -2,10 +2,10 @@
 use mathlib.Core.Path.{◌≡◌, refl}
 use mathlib.Core.Bool.{false}
 use mathlib.Core.List.{List, [], ◌∷◌, ◌++◌}
-use mathlib.Core.Option.{none, some}
+use Rattle.std.specs.Prelude.{None, Some}
 use Prim.Native.Nat.{ℕ, zero, suc, ◌^◌}
 use lib.ListN.{length}
-use Rattle.rules.specs.Causes.{Result, ok, and_then}
+use Rattle.rules.specs.Causes.{Result, Ok, and_then}
 use Rattle.rules.specs.Items.{LogQueue, Append, Rewrite, Content, LogItem, Batch, entries, command, clean, compact, kv, put}
 use Rattle.rules.specs.Table.{Table, empty_table, with_entries, rewritten}
 use Rattle.rules.specs.TableQueries.{fetch_entries_to, scan}
@@ -55,7 +55,7 @@ begin_of_each zero g = []
 begin_of_each (suc n) g = begins g 1 ∷ begin_of_each n (suc g)
 
 abbrev pub count_of : Result Context → Result ℕ
-count_of r = and_then (held r) (λ is. ok (length is))
+count_of r = and_then (held r) (λ is. Ok (length is))
 
 abbrev pub live : Table
 live = with_entries (several Append 1 5 4) empty_table
@@ -67,56 +67,56 @@ sixty_two = begins 1 31 ∷ begins 2 31 ∷ []
 pub record LimitExamples : Type 0 where
   -- numbers: 33 items, a Put without value, a target of 2^63, a Rewrite entry in Append replay, a Compact in a live rewrite
   pub number-2 : recovered Append (batch Append 1 (times 33 empty_list) ∷ []) ≡ no_at 2 32
-  pub number-3 : recovered Append (batch Append 1 (kv [] (put none none) ∷ []) ∷ []) ≡ no_at 3 0
+  pub number-3 : recovered Append (batch Append 1 (kv [] (put None None) ∷ []) ∷ []) ≡ no_at 3 0
   pub number-4 : recovered Append (batch Append 1 (command (compact (2 ^ 63)) ∷ []) ∷ []) ≡ no_at 4 0
   pub number-5 : recovered Append (batch Append 1 (one_entry Rewrite 1 ∷ []) ∷ []) ≡ no_at 5 0
-  pub number-6 : and_then empty_index (rewrite none (batch Rewrite 1 (command (compact 1) ∷ []))) ≡ no_at 6 0
+  pub number-6 : and_then empty_index (rewrite None (batch Rewrite 1 (command (compact 1) ∷ []))) ≡ no_at 6 0
   -- a mark of status 3
   pub number-7 : recovered Rewrite (part 3 1 1 ∷ []) ≡ no_at 7 0
   -- the least number of 2 to 7, then the first item that meets it, before anything that depends on what is held
-  pub least-number : recovered Append (batch Append 1 (one_entry Rewrite 1 ∷ empty_list ∷ kv [] (put none none) ∷ []) ∷ []) ≡ no_at 3 2
-  pub first-item : recovered Append (batch Append 1 (empty_list ∷ kv [] (put none none) ∷ kv [] (put none none) ∷ []) ∷ []) ≡ no_at 3 1
+  pub least-number : recovered Append (batch Append 1 (one_entry Rewrite 1 ∷ empty_list ∷ kv [] (put None None) ∷ []) ∷ []) ≡ no_at 3 2
+  pub first-item : recovered Append (batch Append 1 (empty_list ∷ kv [] (put None None) ∷ kv [] (put None None) ∷ []) ∷ []) ≡ no_at 3 1
   pub before-held : recovered Append (batch Append 1 (one_entry Append 1 ∷ []) ∷ batch Append 1 (one_entry Append 9 ∷ command (compact (2 ^ 63)) ∷ []) ∷ []) ≡ no_at 4 1
   -- a scan of count 0; 5..8 held: a fetch of [4,6) and of [8,10), a rewrite of 7..8; an answer of one in a list of none
-  pub number-10 : scan none none false 0 empty_table ≡ no 10
-  pub number-11 : fetch_entries_to 4 6 none live ≡ no 11
-  pub number-12 : fetch_entries_to 8 10 none live ≡ no 12
-  pub number-15 : rewritten (some 9) (several Rewrite 1 7 2) live ≡ no 15
-  pub number-19 : answered {A = ℕ} [] (ok (1 ∷ [])) ≡ no 19
+  pub number-10 : scan None None false 0 empty_table ≡ no 10
+  pub number-11 : fetch_entries_to 4 6 None live ≡ no 11
+  pub number-12 : fetch_entries_to 8 10 None live ≡ no 12
+  pub number-15 : rewritten (Some 9) (several Rewrite 1 7 2) live ≡ no 15
+  pub number-19 : answered {A = ℕ} [] (Ok (1 ∷ [])) ≡ no 19
   -- groups: eight, and a ninth
-  pub eight-groups : groups_in (recovered Append (batch_of Append 1 (of_groups 8 1 empty_list) ∷ [])) ≡ ok (1 ∷ 2 ∷ 3 ∷ 4 ∷ 5 ∷ 6 ∷ 7 ∷ 8 ∷ [])
+  pub eight-groups : groups_in (recovered Append (batch_of Append 1 (of_groups 8 1 empty_list) ∷ [])) ≡ Ok (1 ∷ 2 ∷ 3 ∷ 4 ∷ 5 ∷ 6 ∷ 7 ∷ 8 ∷ [])
   pub nine-groups : recovered Append (batch_of Append 1 (of_groups 9 1 empty_list) ∷ []) ≡ no_at 18 8
   -- entries: 64, and one more; keys: 16, and one more
-  pub full-entries : count_of (recovered Append (full Append ∷ [])) ≡ ok 64
+  pub full-entries : count_of (recovered Append (full Append ∷ [])) ≡ Ok 64
   pub more-entries : recovered Append (full Append ∷ batch Append 1 (one_entry Append 65 ∷ []) ∷ []) ≡ no_at 18 0
-  pub full-keys : groups_in (recovered Append (batch Append 1 (puts 16 1) ∷ [])) ≡ ok (7 ∷ [])
+  pub full-keys : groups_in (recovered Append (batch Append 1 (puts 16 1) ∷ [])) ≡ Ok (7 ∷ [])
   pub more-keys : recovered Append (batch Append 1 (puts 17 1) ∷ []) ≡ no_at 18 16
   -- tombstones: 64 Compacts, and one more; cleaned numbers: 64 live Cleans, and one more
-  pub full-tombstones : groups_in (recovered Append (batch Append 1 (times 32 (command (compact 1))) ∷ batch Append 1 (times 32 (command (compact 1))) ∷ [])) ≡ ok (7 ∷ [])
+  pub full-tombstones : groups_in (recovered Append (batch Append 1 (times 32 (command (compact 1))) ∷ batch Append 1 (times 32 (command (compact 1))) ∷ [])) ≡ Ok (7 ∷ [])
   pub more-tombstones :
       recovered Append (batch Append 1 (times 32 (command (compact 1))) ∷ batch Append 1 (times 32 (command (compact 1))) ∷ batch Append 1 (command (compact 1) ∷ []) ∷ [])
       ≡ no_at 18 0
-  pub full-cleaned : and_then (appended_to empty_index (batch Append 1 (times 32 (command clean)) ∷ batch Append 1 (times 32 (command clean)) ∷ [])) (λ c. ok (length c.cleaned)) ≡ ok 64
+  pub full-cleaned : and_then (appended_to empty_index (batch Append 1 (times 32 (command clean)) ∷ batch Append 1 (times 32 (command clean)) ∷ [])) (λ c. Ok (length c.cleaned)) ≡ Ok 64
   pub more-cleaned :
       appended_to empty_index (batch Append 1 (times 32 (command clean)) ∷ batch Append 1 (times 32 (command clean)) ∷ batch Append 1 (command clean ∷ []) ∷ [])
       ≡ no_at 18 0
   -- waiting parts: of eight groups, and of a ninth; of 64 items, of which the mark is none, and of 65; of 128 entries, and of 129
   pub nine-waiting : recovered Rewrite (begin_of_each 8 1 ++ (batch_of Rewrite 1 (item 9 empty_list ∷ item 9 (mark 0) ∷ []) ∷ [])) ≡ no_at 18 1
-  pub full-waiting : groups_in (recovered Rewrite (sixty_two ++ (begins 3 2 ∷ []))) ≡ ok []
+  pub full-waiting : groups_in (recovered Rewrite (sixty_two ++ (begins 3 2 ∷ []))) ≡ Ok []
   pub more-waiting : recovered Rewrite (sixty_two ++ (begins 3 3 ∷ [])) ≡ no_at 18 0
-  pub full-waiting-entries : groups_in (recovered Rewrite (batch Rewrite 1 (mark 0 ∷ times 4 (entries (several Rewrite 1 1 32))) ∷ [])) ≡ ok []
+  pub full-waiting-entries : groups_in (recovered Rewrite (batch Rewrite 1 (mark 0 ∷ times 4 (entries (several Rewrite 1 1 32))) ∷ [])) ≡ Ok []
   pub more-waiting-entries :
       recovered Rewrite (batch Rewrite 1 (mark 0 ∷ times 4 (entries (several Rewrite 1 1 32))) ∷ batch_of Rewrite 1 (item 8 (mark 0) ∷ item 8 (one_entry Rewrite 1) ∷ []) ∷ [])
       ≡ no_at 18 0
   -- what does not wait: a part that a Begin replaces, and the items of an End that finishes one
-  pub replaced-leaves : groups_in (recovered Rewrite (sixty_two ++ (begins 1 31 ∷ []))) ≡ ok []
-  pub finishing-goes : groups_in (recovered Rewrite (sixty_two ++ (batch_of Rewrite 1 (item 1 (mark 2) ∷ item 1 empty_list ∷ item 1 empty_list ∷ item 1 empty_list ∷ []) ∷ []))) ≡ ok (1 ∷ [])
+  pub replaced-leaves : groups_in (recovered Rewrite (sixty_two ++ (begins 1 31 ∷ []))) ≡ Ok []
+  pub finishing-goes : groups_in (recovered Rewrite (sixty_two ++ (batch_of Rewrite 1 (item 1 (mark 2) ∷ item 1 empty_list ∷ item 1 empty_list ∷ item 1 empty_list ∷ []) ∷ []))) ≡ Ok (1 ∷ [])
   -- a group whose part was finished waits no more: a ninth takes its place
-  pub place-again : groups_in (recovered Rewrite (begin_of_each 8 1 ++ (batch_of Rewrite 1 (item 1 (mark 2) ∷ []) ∷ begins 9 1 ∷ []))) ≡ ok (1 ∷ [])
+  pub place-again : groups_in (recovered Rewrite (begin_of_each 8 1 ++ (batch_of Rewrite 1 (item 1 (mark 2) ∷ []) ∷ begins 9 1 ∷ []))) ≡ Ok (1 ∷ [])
   -- a merge may pass a limit on its way: 65 entries are held before the newer Compact is replayed
   pub merge-passes :
       count_of (merged (recovered Rewrite (full Rewrite ∷ batch Rewrite 1 (mark 0 ∷ []) ∷ [])) (recovered Rewrite (batch Rewrite 2 (command (compact 2) ∷ []) ∷ part 2 2 65 ∷ [])))
-      ≡ ok 64
+      ≡ Ok 64
   -- and is refused by its end state, without a position
   pub merge-limit : merged (recovered Append (batch_of Append 1 (of_groups 8 1 empty_list) ∷ [])) (recovered Append (batch_of Append 1 (of_groups 1 9 empty_list) ∷ [])) ≡ no 18
   -- positions of an 18: in an item of the part that waited it is the mark's, in an item of the End batch the item's own

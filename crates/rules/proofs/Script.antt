@@ -2,9 +2,9 @@
 -- oracle/bench/script.txt; `oracle/target/release/oracle check oracle/bench/script.txt` compares those answers with the Rust.
 use mathlib.Core.Path.{◌≡◌, refl}
 use mathlib.Core.List.{List, [], ◌∷◌, ◌++◌, map}
-use mathlib.Core.Option.{Option, none, some}
+use Rattle.std.specs.Prelude.{Option, None, Some}
 use Prim.Native.Nat.{ℕ}
-use Rattle.rules.specs.Causes.{Result, ok, refused, left}
+use Rattle.rules.specs.Causes.{Result, number_of, Ok, Err, left}
 use Rattle.rules.specs.Items.{LogQueue, Append, Rewrite, EntryIndex, entries, command, clean, compact, kv, put, del, LogItem}
 use Rattle.rules.specs.Table.{Table, first_index_of}
 use Rattle.rules.specs.TableQueries.{fetch_entries_to, min_file_seq}
@@ -24,8 +24,8 @@ pub data Answer : Type 0 where
   records : List EntryIndex → Answer
 
 abbrev pub answer_of : {A : Type 0} → (A → Answer) → Result A → Answer
-answer_of f (ok a) = f a
-answer_of f (refused r) = no r.number r.place
+answer_of f (Ok a) = f a
+answer_of f (Err r) = no (number_of r.cause) r.place
 
 -- contexts by the numbers that the script has for them; a call gives its answer and the contexts after it
 abbrev pub World : Type 0
@@ -75,13 +75,13 @@ abbrev pub lent_numbers : List ℕ
 lent_numbers = 0 ∷ 0 ∷ 0 ∷ 0 ∷ 0 ∷ 0 ∷ 0 ∷ 0 ∷ []
 
 abbrev pub fetches : ℕ → ℕ → ℕ → Context → Answer
-fetches g begin end c = answer_of records (answered lent_records (in_group g (fetch_entries_to begin end none) c))
+fetches g begin end c = answer_of records (answered lent_records (in_group g (fetch_entries_to begin end None) c))
 
 abbrev pub number : Option ℕ → Answer
 number n = counts (or_else [] (λ k. k ∷ []) n)
 
 abbrev pub asks_number : ℕ → (Table → Option ℕ) → Context → Answer
-asks_number g f c = answer_of number (in_group g (λ t. ok (f t)) c)
+asks_number g f c = answer_of number (in_group g (λ t. Ok (f t)) c)
 
 abbrev pub taken : ℕ → World → Result (List ℕ) → Step
 taken n w r = record { next = insert numbers n (after_taking r (context_at n w)) w; answer = answer_of counts r }
@@ -111,7 +111,7 @@ script =
     -- Append runs: 14 in between, a Clean of an absent group
     replays 0 Append 1 (list_of 7 Append 1 4 3 ∷ item 7 (key_put (0x6b ∷ []) (0x76 ∷ []) Append 1) ∷ []) ⇒ done
     ∷ replays 0 Append 2 (list_of 8 Append 2 5 2 ∷ []) ⇒ done
-    ∷ replays 0 Append 2 (list_of 8 Append 2 7 1 ∷ list_of 7 Append 2 9 1 ∷ []) ⇒ no 14 (some 1)
+    ∷ replays 0 Append 2 (list_of 8 Append 2 7 1 ∷ list_of 7 Append 2 9 1 ∷ []) ⇒ no 14 (Some 1)
     ∷ replays 1 Append 3 (item 7 (command (compact 3)) ∷ list_of 7 Append 3 6 3 ∷ item 7 (kv (0x6b ∷ []) del) ∷ item 9 (key_put (0x61 ∷ []) (0x62 ∷ []) Append 3) ∷ []) ⇒ done
     ∷ replays 1 Append 3 (item 6 (command clean) ∷ []) ⇒ done
     ∷ merges 0 1 ⇒ done
@@ -119,30 +119,30 @@ script =
     ∷ replays 10 Rewrite 1 (list_of 7 Rewrite 1 1 2 ∷ []) ⇒ done
     ∷ replays 10 Rewrite 2 (item 7 (mark 0) ∷ list_of 7 Rewrite 2 3 1 ∷ []) ⇒ done
     ∷ replays 10 Rewrite 3 (item 7 (mark 1) ∷ list_of 7 Rewrite 3 4 1 ∷ []) ⇒ done
-    ∷ replays 10 Rewrite 2 (item 7 (mark 2) ∷ []) ⇒ no 8 none
+    ∷ replays 10 Rewrite 2 (item 7 (mark 2) ∷ []) ⇒ no 8 None
     ∷ replays 10 Rewrite 4 (item 7 (mark 2) ∷ item 7 (key_put (0x6d ∷ []) (0x77 ∷ []) Rewrite 4) ∷ item 7 (key_put (0x6e ∷ []) (0x78 ∷ []) Rewrite 4) ∷ []) ⇒ done
-    ∷ replays 10 Rewrite 4 (item 7 (mark 0) ∷ item 8 (command clean) ∷ []) ⇒ no 7 (some 1)
+    ∷ replays 10 Rewrite 4 (item 7 (mark 0) ∷ item 8 (command clean) ∷ []) ⇒ no 7 (Some 1)
     ∷ replays 10 Rewrite 5 (item 9 (mark 0) ∷ list_of 9 Rewrite 5 1 2 ∷ []) ⇒ done
     ∷ replays 11 Rewrite 6 (item 9 (mark 2) ∷ list_of 9 Rewrite 6 3 1 ∷ []) ⇒ done
     ∷ replays 11 Rewrite 6 (list_of 7 Rewrite 6 3 1 ∷ item 7 (kv (0x6e ∷ []) del) ∷ []) ⇒ done
     ∷ merges 10 11 ⇒ done
-    ∷ merges 10 0 ⇒ no 1 none
+    ∷ merges 10 0 ⇒ no 1 None
     -- group 8 is adopted: the live counts leave it out
     ∷ joins 10 0 ⇒ done
     ∷ asks 10 live ⇒ counts (6 ∷ 5 ∷ [])
     -- live writes: 13, 16 and 17 in between; group 8 is cleaned and made again
-    ∷ appends 10 Append 4 (list_of 7 Append 4 2 1 ∷ []) ⇒ no 13 (some 0)
+    ∷ appends 10 Append 4 (list_of 7 Append 4 2 1 ∷ []) ⇒ no 13 (Some 0)
     ∷ appends 10 Append 4 (item 8 (command clean) ∷ list_of 8 Append 4 1 2 ∷ list_of 7 Append 4 9 1 ∷ []) ⇒ done
-    ∷ rewrites 10 Rewrite 7 (some 1) (list_of 7 Rewrite 7 4 2 ∷ []) ⇒ done
-    ∷ rewrites 10 Rewrite 7 (some 1) (list_of 7 Rewrite 7 5 2 ∷ []) ⇒ no 16 (some 0)
-    ∷ rewrites 10 Rewrite 8 none (list_of 7 Rewrite 8 3 4 ∷ []) ⇒ done
-    ∷ rewrites 10 Rewrite 3 none (item 7 (kv (0x6d ∷ []) (put none none)) ∷ []) ⇒ no 17 (some 0)
+    ∷ rewrites 10 Rewrite 7 (Some 1) (list_of 7 Rewrite 7 4 2 ∷ []) ⇒ done
+    ∷ rewrites 10 Rewrite 7 (Some 1) (list_of 7 Rewrite 7 5 2 ∷ []) ⇒ no 16 (Some 0)
+    ∷ rewrites 10 Rewrite 8 None (list_of 7 Rewrite 8 3 4 ∷ []) ⇒ done
+    ∷ rewrites 10 Rewrite 3 None (item 7 (kv (0x6d ∷ []) (put None None)) ∷ []) ⇒ no 17 (Some 0)
     -- queries
     ∷ asks 10 live ⇒ counts (7 ∷ 7 ∷ [])
     ∷ takes 10 ⇒ counts (6 ∷ 8 ∷ [])
     ∷ asks 10 (fetches 7 3 10) ⇒ records (several Rewrite 8 3 3 ++ several Append 3 6 3 ++ several Append 4 9 1)
     ∷ asks 10 (asks_number 7 (min_file_seq Rewrite)) ⇒ counts (2 ∷ [])
-    ∷ asks 10 (asks_number 5 (λ t. first_index_of t.entries)) ⇒ no 9 none
+    ∷ asks 10 (asks_number 5 (λ t. first_index_of t.entries)) ⇒ no 9 None
     ∷ []
 
 -- the rules' answers to calls in order

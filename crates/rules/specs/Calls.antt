@@ -1,7 +1,7 @@
 -- Rules of contexts: the calls that write. Each gives the state that it ends with, or the refusal; `left` is the state after either.
 use Rattle.std.specs.Prelude.{Bool, false, cond, ◌&&◌, [], ◌++◌, ℕ}
-use Rattle.std.proofs.Math.Option.{Option, none, some}
-use Rattle.rules.specs.Causes.{Cause, Result, refused, refuse, and_then, wrong_kind, files_go_back, above_last}
+use Rattle.std.specs.Prelude.{Option, None, Some}
+use Rattle.rules.specs.Causes.{Cause, Result, Err, refuse, and_then, WrongKind, FilesGoBack, AboveLast}
 use Rattle.maps.specs.Lists.{any, or_else}
 use Rattle.maps.specs.Maps.{Map, lookup, merge_with, numbers}
 use Rattle.rules.specs.Items.{LogQueue, Append, Rewrite, same_queue, Batch, placed_from, Call, replay_append, replay_rewrite, live_append, live_rewrite}
@@ -12,7 +12,7 @@ use Rattle.rules.specs.Waiting.{replay_marked, accept_all}
 
 -- a call of a batch goes on if the checks 2 to 7 refuse nothing
 unfoldable pub checked : Call → Batch → Result Context → Result Context
-checked call b next = or_else next (λ r. refused r) (checks call b.items)
+checked call b next = or_else next (λ r. Err r) (checks call b.items)
 
 -- items in order, each judged by the limits
 unfoldable pub run_batch : Call → Batch → Context → Result Context
@@ -30,7 +30,7 @@ replay_batch Rewrite b c =
 
 -- a batch replayed into a context of its file's queue
 unfoldable pub replay : Batch → Context → Result Context
-replay b c = cond (is_context b.file.queue c.kind) (replay_batch b.file.queue b c) (refuse wrong_kind)
+replay b c = cond (is_context b.file.queue c.kind) (replay_batch b.file.queue b c) (refuse WrongKind)
 
 -- ---- merge
 
@@ -41,8 +41,8 @@ clashes Rewrite older newer = or_else false (span_goes_back (made older).span) n
 
 -- what a clash of two tables is: an append above last + 1, or files of spans that go back
 unfoldable pub clash : LogQueue → Cause
-clash Append = above_last
-clash Rewrite = files_go_back
+clash Append = AboveLast
+clash Rewrite = FilesGoBack
 
 -- a newer entries list is one replayed list of that queue
 unfoldable pub over_of : LogQueue → Table → Table → Table
@@ -52,14 +52,14 @@ over_of Rewrite older newer = with_entries (over_gap older.entries newer.entries
 -- a newer table laid over an older one
 unfoldable pub merge_table : LogQueue → Option Table → Table → Table
 merge_table q older newer =
-    with_span (or_else (made older).span some newer.span)
+    with_span (or_else (made older).span Some newer.span)
     (with_keys (over_keys (made older).keys newer.keys) (over_of q (made older) newer))
 
 unfoldable pub merge_tables : LogQueue → Context → Context → Result Context
 merge_tables q newer c =
     cond (any (λ p. clashes q (lookup numbers p.key c.groups) p.val) newer.groups)
     (refuse (clash q))
-    (limited none (with_groups (merge_with numbers (merge_table q) c.groups newer.groups) c))
+    (limited None (with_groups (merge_with numbers (merge_table q) c.groups newer.groups) c))
 
 unfoldable pub replay_call : LogQueue → Call
 replay_call Append = replay_append
@@ -80,14 +80,14 @@ unfoldable pub merge : Context → Context → Result Context
 merge newer c =
     cond (both Append newer c)
     (merge_contexts Append newer c)
-    (cond (both Rewrite newer c) (merge_contexts Rewrite newer c) (refuse wrong_kind))
+    (cond (both Rewrite newer c) (merge_contexts Rewrite newer c) (refuse WrongKind))
 
 -- ---- join
 
 -- an Append table laid over its Rewrite table, a gap dropping all, or adopted if there is none
 unfoldable pub join_table : Option Table → Table → Table
-join_table none newer = uncounted newer
-join_table (some older) newer =
+join_table None newer = uncounted newer
+join_table (Some older) newer =
     with_keys (over_keys older.keys newer.keys) (with_entries (over_gap older.entries newer.entries) older)
 
 -- the index: waiting parts and tombstones go
@@ -97,18 +97,18 @@ index_of g c = record { kind = index; groups = g; tombstones = []; cleaned = c.c
 unfoldable pub join_contexts : Context → Context → Result Context
 join_contexts newer c =
     and_then (replay_tombstones live_append newer.tombstones c)
-    (λ d. limited none (index_of (merge_with numbers join_table d.groups newer.groups) d))
+    (λ d. limited None (index_of (merge_with numbers join_table d.groups newer.groups) d))
 
 -- an Append context joined to the Rewrite context c, which becomes the index
 unfoldable pub join : Context → Context → Result Context
-join newer c = cond (is_context Append newer.kind && is_context Rewrite c.kind) (join_contexts newer c) (refuse wrong_kind)
+join newer c = cond (is_context Append newer.kind && is_context Rewrite c.kind) (join_contexts newer c) (refuse WrongKind)
 
 -- ---- live writes
 
 -- a call of the index that writes queue q takes a batch file of that queue
 unfoldable pub write : LogQueue → Call → Batch → Context → Result Context
 write q call b c =
-    cond (is_index c.kind && same_queue b.file.queue q) (checked call b (run_batch call b c)) (refuse wrong_kind)
+    cond (is_index c.kind && same_queue b.file.queue q) (checked call b (run_batch call b c)) (refuse WrongKind)
 
 unfoldable pub append : Batch → Context → Result Context
 append b c = write Append live_append b c

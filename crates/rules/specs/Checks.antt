@@ -1,8 +1,8 @@
 -- Causes 2 to 7: judged on the batch alone, before anything that depends on the state.
 use Rattle.std.specs.Prelude.{Bool, true, false, cond, not, ◌&&◌, ◌||◌, List, [], ◌∷◌, ℕ, suc, ltb, eqb, length}
-use Rattle.std.proofs.Math.Option.{Option, none, some}
+use Rattle.std.specs.Prelude.{Option, None, Some}
 use Rattle.rules.specs.Limits.{max_items, max_list_entries, max_bytes, max_index, max_entry_len, max_status}
-use Rattle.rules.specs.Causes.{Cause, number_of, Refusal, too_long, incomplete, out_of_range, wrong_queue, not_rewritable, bad_mark}
+use Rattle.rules.specs.Causes.{Cause, number_of, Refusal, TooLong, Incomplete, OutOfRange, WrongQueue, NotRewritable, BadMark}
 use Rattle.maps.specs.Lists.{any, or_else, find_from}
 use Rattle.rules.specs.Items.{LogQueue, FileId, EntryIndex, same_queue, has_file, file_of, clean, compact, Change, put, del, Content, entries, command, kv, LogItem, is_reserved, is_clean, is_tombstone, mark_byte, is_mark, Call, replay_append, replay_rewrite, live_append, live_rewrite, writes, is_live_rewrite}
 
@@ -79,9 +79,9 @@ pub record Mark : Type 0 where
   pub byte : ℕ
 
 unfoldable pub first_mark : ℕ → List LogItem → Option Mark
-first_mark i [] = none
+first_mark i [] = None
 first_mark i (x ∷ xs) =
-    or_else (first_mark (suc i) xs) (λ (b : ℕ). some (record { at = i; group = x.group; byte = b })) (mark_byte x.content)
+    or_else (first_mark (suc i) xs) (λ (b : ℕ). Some (record { at = i; group = x.group; byte = b })) (mark_byte x.content)
 
 -- 7: a second mark, a status above 2, an item of another group in a marked batch
 unfoldable pub breaks_mark : Mark → ℕ → LogItem → Bool
@@ -93,8 +93,8 @@ meets7 call m i it = is_rewrite_replay call && or_else false (λ (k : Mark). bre
 
 -- a refusal by a cause at the first position where it is met, and else what comes next
 unfoldable pub or_next : Cause → Option ℕ → Option Refusal → Option Refusal
-or_next n none next = next
-or_next n (some i) next = some (record { number = number_of n; place = some i })
+or_next n None next = next
+or_next n (Some i) next = Some (record { cause = n; place = Some i })
 
 -- 4, 5 and 6 are met by items that are not reserved
 unfoldable pub unless_reserved : (Content → Bool) → ℕ → LogItem → Bool
@@ -103,9 +103,9 @@ unless_reserved p i it = not (is_reserved it.content) && p it.content
 -- the least of 2 to 7 met by any item, at the first item that meets it; a batch over 32 is met at item 32
 unfoldable pub checks : Call → List LogItem → Option Refusal
 checks call items =
-    or_next too_long (find_from (λ i it. eqb i max_items || long it.content) 0 items)
-    (or_next incomplete (find_from (λ i it. meets3 call it.content) 0 items)
-    (or_next out_of_range (find_from (unless_reserved is_out_of_range) 0 items)
-    (or_next wrong_queue (find_from (unless_reserved (is_other_queue call)) 0 items)
-    (or_next not_rewritable (find_from (unless_reserved (is_not_rewritable call)) 0 items)
-    (or_next bad_mark (find_from (meets7 call (first_mark 0 items)) 0 items) none)))))
+    or_next TooLong (find_from (λ i it. eqb i max_items || long it.content) 0 items)
+    (or_next Incomplete (find_from (λ i it. meets3 call it.content) 0 items)
+    (or_next OutOfRange (find_from (unless_reserved is_out_of_range) 0 items)
+    (or_next WrongQueue (find_from (unless_reserved (is_other_queue call)) 0 items)
+    (or_next NotRewritable (find_from (unless_reserved (is_not_rewritable call)) 0 items)
+    (or_next BadMark (find_from (meets7 call (first_mark 0 items)) 0 items) None)))))

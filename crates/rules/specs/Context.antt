@@ -1,8 +1,8 @@
 -- Contexts and the index: what they hold, their limits, and what one item does.
 use Rattle.std.specs.Prelude.{Bool, true, false, cond, ◌&&◌, List, [], ◌∷◌, ◌++◌, ℕ, leb, length}
-use Rattle.std.proofs.Math.Option.{Option}
+use Rattle.std.specs.Prelude.{Option}
 use Rattle.rules.specs.Limits.{max_groups, max_entries, max_keys, max_tombstones, max_cleaned, max_waiting_groups, max_waiting_items, max_waiting_entries}
-use Rattle.rules.specs.Causes.{Result, ok, refuse_at, and_then, in_order, placed, limit_passed}
+use Rattle.rules.specs.Causes.{Result, Ok, refuse_at, and_then, in_order, placed, LimitPassed}
 use Rattle.maps.specs.Lists.{every, sum}
 use Rattle.maps.specs.Maps.{Map, lookup, store, numbers}
 use Rattle.rules.specs.Items.{LogQueue, Append, Content, entries, command, kv, LogItem, Placed, Status, same_queue, is_reserved, is_clean, is_tombstone, writes, Call, replay_append, replay_rewrite, live_append, live_rewrite}
@@ -84,10 +84,10 @@ abbrev pub Judge : Type 0
 Judge = Option ℕ → Context → Result Context
 
 unfoldable pub limited : Judge
-limited p c = cond (fits c) (ok c) (refuse_at limit_passed p)
+limited p c = cond (fits c) (Ok c) (refuse_at LimitPassed p)
 
 unfoldable pub unjudged : Judge
-unjudged p c = ok c
+unjudged p c = Ok c
 
 -- ---- one item
 
@@ -99,9 +99,9 @@ add_cleaned call it c = cond (same_queue (writes call) Append && is_clean it.con
 unfoldable pub act : Call → LogItem → Context → Result Context
 act call it c =
     cond (is_reserved it.content)
-    (ok c)
+    (Ok c)
     (and_then (change call it.content (lookup numbers it.group c.groups))
-    (λ t. ok (add_cleaned call it (with_groups (store numbers it.group t c.groups) c))))
+    (λ t. Ok (add_cleaned call it (with_groups (store numbers it.group t c.groups) c))))
 
 -- a replay keeps tombstones
 unfoldable pub keeps : Call → Bool

@@ -1,9 +1,9 @@
 -- Files, entry records, items and batches.
 use Rattle.std.specs.Prelude.{Bool, true, false, cond, List, [], ◌∷◌, map, ℕ, zero, suc}
-use Rattle.std.proofs.Math.Option.{Option, none, some}
+use Rattle.std.specs.Prelude.{Option, None, Some}
 pub use Rattle.pipe_log.specs.declared.LogQueue.{LogQueue, TheVariants.Append, TheVariants.Rewrite}
 pub use Rattle.pipe_log.specs.declared.FileId.{FileId}
-pub use Rattle.pipe_log.specs.declared.EntryBlock.{EntryBlock, TheVariants.Absent, TheVariants.At}
+pub use Rattle.pipe_log.specs.declared.FileBlockHandle.{FileBlockHandle}
 pub use Rattle.pipe_log.specs.declared.EntryIndex.{EntryIndex}
 use Rattle.rules.specs.Limits.{reserved_key}
 use Rattle.maps.specs.Lists.{or_else}
@@ -16,13 +16,13 @@ same_queue Rewrite Append = false
 same_queue Rewrite Rewrite = true
 
 -- whether an entry has a file, and the file; an entry without one is refused by 3 and never held
-unfoldable pub has_file : EntryBlock → Bool
-has_file Absent = false
-has_file (At block) = true
+unfoldable pub has_file : Option FileBlockHandle → Bool
+has_file None = false
+has_file (Some block) = true
 
-unfoldable pub block_file : EntryBlock → FileId
-block_file Absent = record { queue = Append; seq = 0 }
-block_file (At block) = block.id
+unfoldable pub block_file : Option FileBlockHandle → FileId
+block_file None = record { queue = Append; seq = 0 }
+block_file (Some block) = block.id
 
 unfoldable pub file_of : EntryIndex → FileId
 file_of e = block_file e.entries
@@ -74,16 +74,16 @@ is_tombstone (kv k del) = true
 
 -- the status byte of a mark: a Put of a reserved key with one value byte
 unfoldable pub one_byte : Option (List ℕ) → Option ℕ
-one_byte none = none
-one_byte (some []) = none
-one_byte (some (b ∷ [])) = some b
-one_byte (some (b ∷ (d ∷ ds))) = none
+one_byte None = None
+one_byte (Some []) = None
+one_byte (Some (b ∷ [])) = Some b
+one_byte (Some (b ∷ (d ∷ ds))) = None
 
 unfoldable pub mark_byte : Content → Option ℕ
-mark_byte (entries es) = none
-mark_byte (command c) = none
-mark_byte (kv k del) = none
-mark_byte (kv k (put v f)) = cond (equal_bytes k reserved_key) (one_byte v) none
+mark_byte (entries es) = None
+mark_byte (command c) = None
+mark_byte (kv k del) = None
+mark_byte (kv k (put v f)) = cond (equal_bytes k reserved_key) (one_byte v) None
 
 unfoldable pub is_mark : LogItem → Bool
 is_mark it = or_else false (λ (b : ℕ). true) (mark_byte it.content)
@@ -105,7 +105,7 @@ pub record Placed : Type 0 where
 -- the items of a batch with their own positions, counted from i
 unfoldable pub placed_from : ℕ → List LogItem → List Placed
 placed_from i [] = []
-placed_from i (x ∷ xs) = record { item = x; place = some i } ∷ placed_from (suc i) xs
+placed_from i (x ∷ xs) = record { item = x; place = Some i } ∷ placed_from (suc i) xs
 
 -- items that are all refused with one place
 unfoldable pub placed_at : Option ℕ → List LogItem → List Placed

@@ -1,6 +1,6 @@
 -- Queries of contexts and the index, their answers in lent lists, and the cleaned numbers.
 use Rattle.std.specs.Prelude.{Bool, cond, List, [], ◌++◌, map, ℕ, leb, eqb, length, drop}
-use Rattle.rules.specs.Causes.{Result, ok, refused, refuse, wrong_kind, group_absent, list_too_short, and_then}
+use Rattle.rules.specs.Causes.{Result, Ok, Err, refuse, WrongKind, GroupAbsent, ListTooShort, and_then}
 use Rattle.maps.specs.Lists.{or_else, sum}
 use Rattle.maps.specs.Maps.{Pair, lookup, numbers}
 use Rattle.rules.specs.Items.{LogQueue}
@@ -13,18 +13,18 @@ use Rattle.rules.specs.Context.{is_index, Context, with_cleaned}
 module _ {A : Type 0} where
   -- an answer longer than the lent list is refused
   unfoldable pub answered : List A → Result (List A) → Result (List A)
-  answered lent r = and_then r (λ rows. cond (leb (length rows) (length lent)) (ok rows) (refuse list_too_short))
+  answered lent r = and_then r (λ rows. cond (leb (length rows) (length lent)) (Ok rows) (refuse ListTooShort))
 
   -- what stands in the lent list at exit: the rows from its first place, everything else as it was
   unfoldable pub lent_after : List A → Result (List A) → List A
-  lent_after lent (ok rows) = rows ++ drop (length rows) lent
-  lent_after lent (refused r) = lent
+  lent_after lent (Ok rows) = rows ++ drop (length rows) lent
+  lent_after lent (Err r) = lent
 
 -- ---- queries of one group
 
 -- a table's query asked of group g; of an absent group it is refused. With a lent list: `answered lent (in_group g query c)`.
 unfoldable pub in_group : {A : Type 0} → ℕ → (Table → Result A) → Context → Result A
-in_group g query c = or_else (refuse group_absent) query (lookup numbers g c.groups)
+in_group g query c = or_else (refuse GroupAbsent) query (lookup numbers g c.groups)
 
 -- ---- queries of all groups
 
@@ -42,9 +42,9 @@ live_entries q c = sum (λ (p : Pair ℕ Table). cond p.val.counted (live_of q p
 
 -- `take_cleaned_region_logs`, an index call: the cleaned numbers in order
 unfoldable pub take_cleaned : List ℕ → Context → Result (List ℕ)
-take_cleaned lent c = cond (is_index c.kind) (answered lent (ok c.cleaned)) (refuse wrong_kind)
+take_cleaned lent c = cond (is_index c.kind) (answered lent (Ok c.cleaned)) (refuse WrongKind)
 
 -- the list is emptied by an accepted call
 unfoldable pub after_taking : Result (List ℕ) → Context → Context
-after_taking (ok rows) c = with_cleaned [] c
-after_taking (refused r) c = c
+after_taking (Ok rows) c = with_cleaned [] c
+after_taking (Err r) c = c

@@ -1,8 +1,8 @@
 -- Rules of one group: what a table answers.
 use Rattle.std.specs.Prelude.{Bool, true, false, cond, not, ◌&&◌, ◌||◌, List, [], ◌∷◌, reverse, map, ℕ, ◌+◌, ◌-◌, min, ltb, leb, eqb, length, take}
-use Rattle.std.proofs.Math.Option.{Option, none, some}
-use Rattle.std.proofs.Math.ListN.{get_elem?}
-use Rattle.rules.specs.Causes.{Result, ok, refuse, bad_range, entry_compacted, entry_not_found}
+use Rattle.std.specs.Prelude.{Option, None, Some}
+use Rattle.std.specs.Prelude.{slice_get}
+use Rattle.rules.specs.Causes.{Result, Ok, refuse, BadRange, EntryCompacted, EntryNotFound}
 use Rattle.maps.specs.Lists.{select, front, rest, first, map_option, or_else, least}
 use Rattle.maps.specs.Maps.{Pair, Map, lookup, bytes, bytes_below}
 use Rattle.rules.specs.Items.{LogQueue, Append, Rewrite, EntryIndex, same_queue, file_of, is_rewrite}
@@ -21,8 +21,8 @@ up_to_size size sum (e ∷ es) =
     cond (ltb size (sum + e.entry_len) && ltb 0 sum) [] (e ∷ up_to_size size (sum + e.entry_len) es)
 
 unfoldable pub sized : Option ℕ → List EntryIndex → List EntryIndex
-sized none es = es
-sized (some size) es = up_to_size size 0 es
+sized None es = es
+sized (Some size) es = up_to_size size 0 es
 
 -- the records with indexes in [begin, end)
 unfoldable pub within : ℕ → ℕ → List EntryIndex → List EntryIndex
@@ -32,11 +32,11 @@ within begin end es = select (λ e. leb begin e.index && ltb e.index end) es
 unfoldable pub fetch_entries_to : ℕ → ℕ → Option ℕ → Table → Result (List EntryIndex)
 fetch_entries_to begin end size t =
     cond (leb end begin)
-    (ok [])
-    (or_else (refuse entry_not_found)
+    (Ok [])
+    (or_else (refuse EntryNotFound)
     (λ f. cond (ltb begin f)
-    (refuse entry_compacted)
-    (cond (is_above_last end t.entries) (refuse entry_not_found) (ok (sized size (within begin end t.entries)))))
+    (refuse EntryCompacted)
+    (cond (is_above_last end t.entries) (refuse EntryNotFound) (Ok (sized size (within begin end t.entries)))))
     (first_index_of t.entries))
 
 -- the run of a queue's entries: Rewrite ones stand at the front
@@ -58,7 +58,7 @@ fetch_rewritten_entry_indexes t = select is_rewrite t.entries
 -- `has_at_least_some_entries_before`: the entry at count − 1 exists with a sequence number at most the gate's
 unfoldable pub has_at_least_some_entries_before : ℕ → ℕ → Table → Result Bool
 has_at_least_some_entries_before gate count t =
-    cond (eqb count 0) (refuse bad_range) (ok (or_else false (λ e. leb (file_of e).seq gate) (get_elem? t.entries (count - 1))))
+    cond (eqb count 0) (refuse BadRange) (Ok (or_else false (λ e. leb (file_of e).seq gate) (slice_get t.entries (count - 1))))
 
 -- ---- keys
 
@@ -87,8 +87,8 @@ in_direction true rows = reverse rows
 unfoldable pub scan : Option (List ℕ) → Option (List ℕ) → Bool → ℕ → Table → Result (List KeyValue)
 scan start end backwards count t =
     cond (start_above_end start end || eqb count 0)
-    (refuse bad_range)
-    (ok (take count (in_direction backwards (map row_of (select (λ p. in_bounds start end p.key) t.keys)))))
+    (refuse BadRange)
+    (Ok (take count (in_direction backwards (map row_of (select (λ p. in_bounds start end p.key) t.keys)))))
 
 unfoldable pub keys_of : LogQueue → Table → Map (List ℕ) Held
 keys_of q t = select (λ p. same_queue p.val.file.queue q) t.keys
@@ -103,8 +103,8 @@ fetch_rewritten_kvs t = map row_of (keys_of Rewrite t)
 -- ---- files and counts
 
 unfoldable pub least_seq : Map (List ℕ) Held → Option ℕ
-least_seq [] = none
-least_seq (p ∷ ps) = least (some p.val.file.seq) (least_seq ps)
+least_seq [] = None
+least_seq (p ∷ ps) = least (Some p.val.file.seq) (least_seq ps)
 
 -- the front entry of the queue's run and the queue's keys, the least
 unfoldable pub least_file : LogQueue → Table → Option ℕ
@@ -113,8 +113,8 @@ least_file q t = least (map_option (λ e. (file_of e).seq) (first (run_of q t.en
 -- for Rewrite with a span: if that is at most the span's end, the lesser of it and the span's start
 unfoldable pub by_span : LogQueue → Option Span → ℕ → ℕ
 by_span Append s n = n
-by_span Rewrite none n = n
-by_span Rewrite (some s) n = cond (leb n s.end) (min n s.start) n
+by_span Rewrite None n = n
+by_span Rewrite (Some s) n = cond (leb n s.end) (min n s.start) n
 
 unfoldable pub min_file_seq : LogQueue → Table → Option ℕ
 min_file_seq q t = map_option (by_span q t.span) (least_file q t)

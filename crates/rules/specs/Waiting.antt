@@ -1,7 +1,7 @@
 -- Waiting parts of Rewrite replay: `accept_new_group`.
 use Rattle.std.specs.Prelude.{cond, not, List, [], ◌∷◌, ◌++◌, map, reverse, ℕ, leb}
-use Rattle.std.proofs.Math.Option.{Option, none, some}
-use Rattle.rules.specs.Causes.{Result, ok, refuse, and_then, in_order, files_go_back}
+use Rattle.std.specs.Prelude.{Option, None, Some}
+use Rattle.rules.specs.Causes.{Result, Ok, refuse, and_then, in_order, FilesGoBack}
 use Rattle.maps.specs.Lists.{select, or_else}
 use Rattle.maps.specs.Maps.{Pair, Map, lookup, insert, store, numbers}
 use Rattle.rules.specs.Items.{Placed, placed_at, is_mark, Status, begin, middle, end, status_of, replay_rewrite}
@@ -43,8 +43,8 @@ accept (p ∷ ps) new = accept_by p.status new.status p new ps
 
 -- a group with no part left does not wait
 unfoldable pub some_parts : List Part → Option (List Part)
-some_parts [] = none
-some_parts (p ∷ ps) = some (p ∷ ps)
+some_parts [] = None
+some_parts (p ∷ ps) = Some (p ∷ ps)
 
 unfoldable pub set_waiting : ℕ → List Part → Context → Context
 set_waiting g ps c = with_waiting (store numbers g (some_parts ps) c.waiting) c
@@ -56,12 +56,12 @@ set_span judge p g s c =
 
 -- both parts' items are replayed; the span is set if there is one
 unfoldable pub finish_group : Judge → Option ℕ → ℕ → Span → List Placed → Context → Result Context
-finish_group judge p g s [] c = ok c
+finish_group judge p g s [] c = Ok c
 finish_group judge p g s (x ∷ xs) c = and_then (run judge replay_rewrite (x ∷ xs) c) (set_span judge p g s)
 
 unfoldable pub become : Judge → Option ℕ → ℕ → Part → List Placed → Context → Accepted → Result Context
 become judge p g new items c (wait ps) = judge p (set_waiting g ps c)
-become judge p g new items c back = refuse files_go_back
+become judge p g new items c back = refuse FilesGoBack
 become judge p g new items c (finish old ps) =
     finish_group judge p g (record { start = old.start; end = new.end }) (placed_at p old.items ++ items) (set_waiting g ps c)
 
@@ -75,14 +75,14 @@ unfoldable pub part_of : ℕ → ℕ → List Placed → Part
 part_of byte seq xs = record { status = status_of byte; items = map (λ (x : Placed). x.item) xs; start = seq; end = seq }
 
 unfoldable pub replay_marked : Mark → ℕ → List Placed → Context → Result Context
-replay_marked m seq xs c = accept_new_group limited (some m.at) m.group (part_of m.byte seq items) items c
+replay_marked m seq xs c = accept_new_group limited (Some m.at) m.group (part_of m.byte seq items) items c
   where
     items : List Placed
     items = select (λ x. not (is_mark x.item)) xs
 
 -- the waiting parts of a newer context: groups ascending, and in a group oldest first
 unfoldable pub accept_parts : Pair ℕ (List Part) → Context → Result Context
-accept_parts x = in_order (λ p. accept_new_group unjudged none x.key p (placed_at none p.items)) (reverse x.val)
+accept_parts x = in_order (λ p. accept_new_group unjudged None x.key p (placed_at None p.items)) (reverse x.val)
 
 unfoldable pub accept_all : Map ℕ (List Part) → Context → Result Context
 accept_all = in_order accept_parts

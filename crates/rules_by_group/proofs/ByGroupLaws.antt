@@ -3,7 +3,7 @@
 use Rattle.std.specs.Prelude.{◌≡◌, List, ◌++◌, ℕ}
 use Rattle.std.proofs.Common.{ap, ◌∙◌}
 use Rattle.maps.specs.Maps.{Map}
-use Rattle.rules.specs.Causes.{Cause, Refusal, ok, refused, refuse, files_go_back}
+use Rattle.rules.specs.Causes.{Cause, Refusal, Ok, Err, refuse, FilesGoBack}
 use Rattle.rules.specs.Items.{LogQueue, Append, Rewrite, same_queue}
 use Rattle.rules.specs.Context.{context, is_context, Part, Context, with_tombstones}
 use Rattle.rules.specs.Calls.{clash, merge_contexts, both, merge, join_contexts, join}
@@ -40,14 +40,14 @@ pub join_by-group : (n : Cause) (newer c : Context) (gs : List ℕ) → Kept new
 join_by-group n newer c gs kn kc a r v = join_is newer c a r ∙ join_contexts_by-group newer c kn kc a n gs v
 
 -- files of waiting parts that go back are 8, whatever the groups are
-pub merged_back : (q : LogQueue) (newer c : Context) (gs : List ℕ) (x : Refusal) → waiting_after newer.waiting c.waiting ≡ refused x → merged_by q newer c gs ≡ refuse files_go_back
+pub merged_back : (q : LogQueue) (newer c : Context) (gs : List ℕ) (x : Refusal) → waiting_after newer.waiting c.waiting ≡ Err x → merged_by q newer c gs ≡ refuse FilesGoBack
 unfolding merged_by
 merged_back q newer c gs x e =
     and_then-refused (waiting_after newer.waiting c.waiting) (λ w. answer (clash q) (merged_rest newer w c) (stage_all (merged_at q newer c) gs none_staged)) x e
-    ∙ ap (λ y. refused y) (waiting-refused newer.waiting c.waiting x e)
+    ∙ ap (λ y. Err y) (waiting-refused newer.waiting c.waiting x e)
 
 -- what waits otherwise is w
-pub merged-waiting : (q : LogQueue) (newer c : Context) (gs : List ℕ) (w : Map ℕ (List Part)) → waiting_after newer.waiting c.waiting ≡ ok w → merged_by q newer c gs ≡ answer (clash q) (merged_rest newer w c) (stage_all (merged_at q newer c) gs none_staged)
+pub merged-waiting : (q : LogQueue) (newer c : Context) (gs : List ℕ) (w : Map ℕ (List Part)) → waiting_after newer.waiting c.waiting ≡ Ok w → merged_by q newer c gs ≡ answer (clash q) (merged_rest newer w c) (stage_all (merged_at q newer c) gs none_staged)
 unfolding merged_by
 merged-waiting q newer c gs w e =
     and_then_of (waiting_after newer.waiting c.waiting) (λ v. answer (clash q) (merged_rest newer v c) (stage_all (merged_at q newer c) gs none_staged)) w e

@@ -5,14 +5,15 @@ use Rattle.std.proofs.Math.Path.{refl, ap}
 use Rattle.std.proofs.Common.{sym, ◌∙◌}
 use Rattle.std.proofs.Math.Bool.{true, false, not}
 use mathlib.Core.List.{List, [], ◌∷◌, ◌++◌}
-use Rattle.std.proofs.Math.Option.{Option, none, some, none-ne-some, some-injective}
+use Rattle.std.specs.Prelude.{Option, None, Some}
+use Rattle.std.proofs.lemmas.Option.{none-some, same_Some}
 use Rattle.std.proofs.Math.Dec.{leb, ltb}
 use Rattle.maps.specs.Lists.{every, last, or_else}
 use Rattle.maps.specs.Maps.{lookup, bytes}
 use Rattle.maps.specs.BoolLaws.{both, both_left, both_right}
 use Rattle.maps.specs.ListLaws.{every_append, every-head, every-tail, every-cons, every-from, every-selected}
 use Rattle.maps.specs.OrderLaws.{split}
-use Rattle.rules.specs.Causes.{ok, left}
+use Rattle.rules.specs.Causes.{Result, Ok, left}
 use Rattle.rules.specs.Items.{LogQueue, Append, Rewrite, FileId, EntryIndex, is_rewrite, Command, clean, compact, Change, put, del, Content, entries, command, kv, LogItem, is_reserved, Call, replay_append, replay_rewrite, live_append, live_rewrite, is_live_rewrite}
 use Rattle.rules.specs.Table.{Held, Span, Table, empty_table, made, with_entries, with_keys, with_span, span_goes_back, spanned, first_index_of, is_below_first, is_above_last, entries_below, entries_from, over, over_gap, appended, replayed_rewrite, compacted, replaces, replaced, stops_at, meets_rewrite, rewrite_overlap, rewritten, put_key, delete_key, rewrite_file, rewritten_key, put_held, entries_to, put_to, change_to, command_to, change}
 use Rattle.rules.specs.Context.{context, Part}
@@ -28,29 +29,29 @@ use Rattle.rules_by_group.proofs.WaitingLaws.{replay-changed}
 
 put-leaves : (k : List ℕ) (v : Option (List ℕ)) (f : Option FileId) (t : Table) → (put_held k v f t).entries ≡ t.entries
 unfolding put_held put_key with_keys
-put-leaves k none none t = refl
-put-leaves k none (some f) t = refl
-put-leaves k (some v) none t = refl
-put-leaves k (some v) (some f) t = refl
+put-leaves k None None t = refl
+put-leaves k None (Some f) t = refl
+put-leaves k (Some v) None t = refl
+put-leaves k (Some v) (Some f) t = refl
 
-key-leaves : (k : List ℕ) (gate : Option ℕ) (s : ℕ) (t u : Table) → rewritten_key k gate s t ≡ ok u → t.entries ≡ u.entries
+key-leaves : (k : List ℕ) (gate : Option ℕ) (s : ℕ) (t u : Table) → rewritten_key k gate s t ≡ Ok u → t.entries ≡ u.entries
 unfolding rewritten_key or_else
 key-leaves k gate s t u e =
     by_option (lookup bytes k t.keys)
     (λ a. ap (λ (v : Table). v.entries) (ok_inj (rw a at e)))
-    (λ h a. let r = and_then_ok (rewrite_file h.file.queue gate s h) (λ g. ok (put_key k g t)) u (rw a at e) in moved r.0 r.2)
+    (λ h a. let r = and_then_ok (rewrite_file h.file.queue gate s h) (λ g. Ok (put_key k g t)) u (rw a at e) in moved r.0 r.2)
   where
-    moved : (g : Held) → ok (put_key k g t) ≡ ok u → t.entries ≡ u.entries
+    moved : (g : Held) → ◌≡◌ {A = Result Table} (Ok (put_key k g t)) (Ok u) → t.entries ≡ u.entries
     moved g z = unfold put_key with_keys in ap (λ (v : Table). v.entries) (ok_inj z)
 
-put_to-leaves : (call : Call) (k : List ℕ) (v : Option (List ℕ)) (f : Option FileId) (t u : Table) → put_to call k v f t ≡ ok u → t.entries ≡ u.entries
+put_to-leaves : (call : Call) (k : List ℕ) (v : Option (List ℕ)) (f : Option FileId) (t u : Table) → put_to call k v f t ≡ Ok u → t.entries ≡ u.entries
 unfolding put_to
 put_to-leaves replay_append k v f t u e = sym (put-leaves k v f t) ∙ ap (λ (w : Table). w.entries) (ok_inj e)
 put_to-leaves replay_rewrite k v f t u e = sym (put-leaves k v f t) ∙ ap (λ (w : Table). w.entries) (ok_inj e)
 put_to-leaves live_append k v f t u e = sym (put-leaves k v f t) ∙ ap (λ (w : Table). w.entries) (ok_inj e)
 put_to-leaves (live_rewrite gate s) k v f t u e = key-leaves k gate s t u e
 
-change_to-leaves : (call : Call) (k : List ℕ) (c : Change) (t u : Table) → change_to call k c t ≡ ok u → t.entries ≡ u.entries
+change_to-leaves : (call : Call) (k : List ℕ) (c : Change) (t u : Table) → change_to call k c t ≡ Ok u → t.entries ≡ u.entries
 unfolding change_to
 change_to-leaves call k (put v f) t u e = put_to-leaves call k v f t u e
 change_to-leaves call k del t u e = unfold delete_key with_keys in ap (λ (w : Table). w.entries) (ok_inj e)
@@ -85,7 +86,7 @@ module _ (p : EntryIndex → Bool) where
       (λ s. rw s (every-cons p r (replaced gate es rs) (every-head p r rs k) (replaced-meets gate es rs (every-tail p e es h) (every-tail p r rs k))))
       (λ s. rw s h)
 
-  overlap-meets : (gate : Option ℕ) (before es rs l : List EntryIndex) → every p before ≡ true → every p es ≡ true → every p rs ≡ true → rewrite_overlap gate before es rs ≡ ok l → every p l ≡ true
+  overlap-meets : (gate : Option ℕ) (before es rs l : List EntryIndex) → every p before ≡ true → every p es ≡ true → every p rs ≡ true → rewrite_overlap gate before es rs ≡ Ok l → every p l ≡ true
   unfolding rewrite_overlap
   overlap-meets gate before [] rs l b h k e = rw (ok_inj e) at b
   overlap-meets gate before (x ∷ es) [] l b h k e = ap (every p) (sym (ok_inj e)) ∙ every_append p before (x ∷ es) ∙ both b h
@@ -98,7 +99,7 @@ module _ (p : EntryIndex → Bool) where
 
   -- ---- one table
 
-  appended-meets : (live : Bool) (es : List EntryIndex) (t u : Table) → every p es ≡ true → every p t.entries ≡ true → appended live es t ≡ ok u → every p u.entries ≡ true
+  appended-meets : (live : Bool) (es : List EntryIndex) (t u : Table) → every p es ≡ true → every p t.entries ≡ true → appended live es t ≡ Ok u → every p u.entries ≡ true
   unfolding appended
   appended-meets live [] t u k h e = rw (ok_inj e) at h
   appended-meets live (x ∷ es) t u k h e =
@@ -112,21 +113,21 @@ module _ (p : EntryIndex → Bool) where
   unfolding replayed_rewrite with_entries
   rewrite-replayed es t k h = gap_meets t.entries es h k
 
-  rewritten-meets : (gate : Option ℕ) (rs : List EntryIndex) (t u : Table) → every p rs ≡ true → every p t.entries ≡ true → rewritten gate rs t ≡ ok u → every p u.entries ≡ true
+  rewritten-meets : (gate : Option ℕ) (rs : List EntryIndex) (t u : Table) → every p rs ≡ true → every p t.entries ≡ true → rewritten gate rs t ≡ Ok u → every p u.entries ≡ true
   unfolding rewritten or_else
   rewritten-meets gate rs t u k h e =
       by_option (first_index_of rs)
       (λ a. rw (ok_inj (rw a at e)) at h)
       (λ s a. by_option (first_index_of t.entries)
       (λ b. rw (ok_inj (rw (a, b) at e)) at h)
-      (λ f b. laid_in s f (and_then_ok (rewrite_overlap gate (entries_below s t.entries) (entries_from s t.entries) (entries_from f rs)) (λ es. ok (with_entries es t)) u (rw (a, b) at e))))
+      (λ f b. laid_in s f (and_then_ok (rewrite_overlap gate (entries_below s t.entries) (entries_from s t.entries) (entries_from f rs)) (λ es. Ok (with_entries es t)) u (rw (a, b) at e))))
     where
-      laid_in : (s f : ℕ) → (es : List EntryIndex) × (rewrite_overlap gate (entries_below s t.entries) (entries_from s t.entries) (entries_from f rs) ≡ ok es) × (ok (with_entries es t) ≡ ok u) → every p u.entries ≡ true
+      laid_in : (s f : ℕ) → (es : List EntryIndex) × (rewrite_overlap gate (entries_below s t.entries) (entries_from s t.entries) (entries_from f rs) ≡ Ok es) × ◌≡◌ {A = Result Table} (Ok (with_entries es t)) (Ok u) → every p u.entries ≡ true
       laid_in s f r =
           ap (λ (v : Table). every p v.entries) (sym (ok_inj r.2))
           ∙ (unfold with_entries in overlap-meets gate (entries_below s t.entries) (entries_from s t.entries) (entries_from f rs) r.0 (below-meets s t.entries h) (from-meets s t.entries h) (from-meets f rs k) r.1)
 
-  entries-meet : (call : Call) (es : List EntryIndex) (t u : Table) → every p es ≡ true → every p t.entries ≡ true → entries_to call es t ≡ ok u → every p u.entries ≡ true
+  entries-meet : (call : Call) (es : List EntryIndex) (t u : Table) → every p es ≡ true → every p t.entries ≡ true → entries_to call es t ≡ Ok u → every p u.entries ≡ true
   unfolding entries_to
   entries-meet replay_append es t u k h e = appended-meets false es t u k h e
   entries-meet replay_rewrite es t u k h e = ap (λ (v : Table). every p v.entries) (sym (ok_inj e)) ∙ rewrite-replayed es t k h
@@ -135,7 +136,7 @@ module _ (p : EntryIndex → Bool) where
 
   -- ---- one item
 
-  made_nothing : every p (made none).entries ≡ true
+  made_nothing : every p (made None).entries ≡ true
   unfolding made or_else empty_table every
   made_nothing = refl
 
@@ -144,22 +145,22 @@ module _ (p : EntryIndex → Bool) where
   command-meets call clean o h = split (is_live_rewrite call) (λ e. rw e (unfold made or_else in h)) (λ e. rw e made_nothing)
   command-meets call (compact i) o h = unfold made or_else compacted with_entries in from-meets i (made o).entries h
 
-  some-made : (t : Table) (o : Option Table) → ok (some t) ≡ ok o → every p t.entries ≡ true → every p (made o).entries ≡ true
+  some-made : (t : Table) (o : Option Table) → ◌≡◌ {A = Result (Option Table)} (Ok (Some t)) (Ok o) → every p t.entries ≡ true → every p (made o).entries ≡ true
   unfolding made or_else
   some-made t o e h = rw (← (ok_inj e)) h
 
-  change-meets : (call : Call) (x : Content) (o t : Option Table) → each_entry p x ≡ true → every p (made o).entries ≡ true → change call x o ≡ ok t → every p (made t).entries ≡ true
+  change-meets : (call : Call) (x : Content) (o t : Option Table) → each_entry p x ≡ true → every p (made o).entries ≡ true → change call x o ≡ Ok t → every p (made t).entries ≡ true
   unfolding change each_entry
   change-meets call (entries es) o t k h e =
-      let s = and_then_ok (entries_to call es (made o)) (λ x. ok (some x)) t e in
+      let s = and_then_ok (entries_to call es (made o)) (λ x. Ok (Some x)) t e in
       some-made s.0 t s.2 (entries-meet call es (made o) s.0 k h s.1)
   change-meets call (command c) o t k h e = rw (← (ok_inj e)) (command-meets call c o h)
   change-meets call (kv y c) o t k h e =
-      let s = and_then_ok (change_to call y c (made o)) (λ x. ok (some x)) t e in
+      let s = and_then_ok (change_to call y c (made o)) (λ x. Ok (Some x)) t e in
       some-made s.0 t s.2 (rw (change_to-leaves call y c (made o) s.0 s.1) at h)
 
   -- what an item's entries and its table's meet, the table's meet afterwards
-  pub changed-meets : (call : Call) (x : Content) (o t : Option Table) → each_entry p x ≡ true → every p (made o).entries ≡ true → changed call x o ≡ ok t → every p (made t).entries ≡ true
+  pub changed-meets : (call : Call) (x : Content) (o t : Option Table) → each_entry p x ≡ true → every p (made o).entries ≡ true → changed call x o ≡ Ok t → every p (made t).entries ≡ true
   unfolding changed
   changed-meets call x o t k h e =
       split (is_reserved x)
@@ -175,28 +176,28 @@ module _ (p : EntryIndex → Bool) where
       items-meet xs (left o (changed replay_rewrite x.content o)) (every-tail (λ (it : LogItem). each_entry p it.content) x xs k)
       (changed-meets replay_rewrite x.content o (left o (changed replay_rewrite x.content o)) (every-head (λ (it : LogItem). each_entry p it.content) x xs k) h (replay-changed x.content o))
 
-  pub spanned-meets : (s : Span) (t u : Table) → every p t.entries ≡ true → spanned s t ≡ ok u → every p u.entries ≡ true
+  pub spanned-meets : (s : Span) (t u : Table) → every p t.entries ≡ true → spanned s t ≡ Ok u → every p u.entries ≡ true
   unfolding spanned
   spanned-meets s t u h e =
       split (span_goes_back t.span s)
       (λ b. absurd (refused_not_ok (rw b at e)))
       (λ b. ap (λ (v : Table). every p v.entries) (sym (ok_inj (rw b at e))) ∙ (unfold with_span in h))
 
-  finish_with-meets : (s : Span) (xs : List LogItem) (o t : Option Table) → every (λ (it : LogItem). each_entry p it.content) xs ≡ true → every p (made o).entries ≡ true → finish_with s xs o ≡ ok t → every p (made t).entries ≡ true
+  finish_with-meets : (s : Span) (xs : List LogItem) (o t : Option Table) → every (λ (it : LogItem). each_entry p it.content) xs ≡ true → every p (made o).entries ≡ true → finish_with s xs o ≡ Ok t → every p (made t).entries ≡ true
   unfolding finish_with
   finish_with-meets s [] o t k h e = rw (ok_inj e) at h
   finish_with-meets s (x ∷ xs) o t k h e =
-      let r = and_then_ok (spanned s (made (replayed_items (x ∷ xs) o))) (λ u. ok (some u)) t e in
+      let r = and_then_ok (spanned s (made (replayed_items (x ∷ xs) o))) (λ u. Ok (Some u)) t e in
       some-made r.0 t r.2 (spanned-meets s (made (replayed_items (x ∷ xs) o)) r.0 (items-meet (x ∷ xs) o k h) r.1)
 
   -- the entries of the items that finish
   unfoldable pub finished_meets : Option Finished → Bool
   finished_meets f = or_else true (λ (x : Finished). every (λ (it : LogItem). each_entry p it.content) x.items) f
 
-  finish-meets : (f : Option Finished) (o t : Option Table) → finished_meets f ≡ true → every p (made o).entries ≡ true → finish_table f o ≡ ok t → every p (made t).entries ≡ true
+  finish-meets : (f : Option Finished) (o t : Option Table) → finished_meets f ≡ true → every p (made o).entries ≡ true → finish_table f o ≡ Ok t → every p (made t).entries ≡ true
   unfolding finish_table finished_meets or_else
-  finish-meets none o t k h e = rw (ok_inj e) at h
-  finish-meets (some f) o t k h e = finish_with-meets f.span f.items o t k h e
+  finish-meets None o t k h e = rw (ok_inj e) at h
+  finish-meets (Some f) o t k h e = finish_with-meets f.span f.items o t k h e
 
   effect-meets : (x : Content) (o : Option Table) → every p (made o).entries ≡ true → every p (made (effect x o)).entries ≡ true
   unfolding effect
@@ -223,16 +224,16 @@ module _ (p : EntryIndex → Bool) where
   merge-meets Append o newer h k = over-meets (made o).entries newer.entries h k
   merge-meets Rewrite o newer h k = gap_meets (made o).entries newer.entries h k
 
-  lay-meets : (q : LogQueue) (newer o t : Option Table) → every p (made newer).entries ≡ true → every p (made o).entries ≡ true → lay_over q newer o ≡ ok t → every p (made t).entries ≡ true
+  lay-meets : (q : LogQueue) (newer o t : Option Table) → every p (made newer).entries ≡ true → every p (made o).entries ≡ true → lay_over q newer o ≡ Ok t → every p (made t).entries ≡ true
   unfolding lay_over
-  lay-meets q none o t k h e = rw (ok_inj e) at h
-  lay-meets q (some newer) o t k h e =
+  lay-meets q None o t k h e = rw (ok_inj e) at h
+  lay-meets q (Some newer) o t k h e =
       split (clashes q o newer)
       (λ s. absurd (refused_not_ok (rw s at e)))
       (λ s. some-made (merge_table q o newer) t (rw s at e) (merge-meets q o newer h (unfold made or_else in k)))
 
   -- what the entries of both tables and of the items that finish meet, those of the merged table meet
-  pub merged-meets : (q : LogQueue) (g : ℕ) (f : Option Finished) (tombs : List LogItem) (newer o t : Option Table) → finished_meets f ≡ true → every p (made newer).entries ≡ true → every p (made o).entries ≡ true → merged_group q g f tombs newer o ≡ ok t → every p (made t).entries ≡ true
+  pub merged-meets : (q : LogQueue) (g : ℕ) (f : Option Finished) (tombs : List LogItem) (newer o t : Option Table) → finished_meets f ≡ true → every p (made newer).entries ≡ true → every p (made o).entries ≡ true → merged_group q g f tombs newer o ≡ Ok t → every p (made t).entries ≡ true
   unfolding merged_group
   merged-meets q g f tombs newer o t k n h e =
       let r = and_then_ok (finish_table f o) (λ u. lay_over q newer (tombed g tombs u)) t e in
@@ -255,10 +256,10 @@ unfolding own_items
 own-passed g items h =
     every-from (is_own g) is_passed items (λ it k. unfold is_own in both_right (eqb it.group g && each_entry (entry_by (context Rewrite)) it.content) (is_passed it) k) h
 
-every-last : {A : Type 0} (p : A → Bool) (xs : List A) (x : A) → every p xs ≡ true → last xs ≡ some x → p x ≡ true
+every-last : {A : Type 0} (p : A → Bool) (xs : List A) (x : A) → every p xs ≡ true → last xs ≡ Some x → p x ≡ true
 unfolding last
-every-last p [] x h e = absurd (none-ne-some x e)
-every-last p (y ∷ []) x h e = rw (some-injective y x e) at (every-head p y [] h)
+every-last p [] x h e = absurd (none-some x e)
+every-last p (y ∷ []) x h e = rw (same_Some y x e) at (every-head p y [] h)
 every-last p (y ∷ (z ∷ zs)) x h e = every-last p (z ∷ zs) x (every-tail p y (z ∷ zs) h) e
 
 accepted-meets : (g : ℕ) (new : Part) (a : Accepted) → own_items g new.items ≡ true → OwnAccepted g a → finished_meets (entry_by (context Rewrite)) (finished_by new a) ≡ true
@@ -267,7 +268,7 @@ accepted-meets g new (wait ps) hn h = refl
 accepted-meets g new (finish old ps) hn h = own-each g (old.items ++ new.items) (own-items-append g old.items new.items (own_old g old ps h) hn)
 accepted-meets g new back hn h = refl
 
-last-own : (g : ℕ) (ps : List Part) (p : Part) → own_parts g ps ≡ true → last ps ≡ some p → own_items g p.items ≡ true
+last-own : (g : ℕ) (ps : List Part) (p : Part) → own_parts g ps ≡ true → last ps ≡ Some p → own_items g p.items ≡ true
 unfolding own_parts
 last-own g ps p h e = every-last (λ (x : Part). own_items g x.items) ps p h e
 

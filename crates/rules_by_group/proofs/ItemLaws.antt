@@ -5,13 +5,13 @@ use Rattle.std.proofs.Math.Path.{refl, ap}
 use Rattle.std.proofs.Common.{sym, ◌∙◌, true≢false, eqb-true}
 use Rattle.std.proofs.lemmas.Bool.{false≢true}
 use mathlib.Core.List.{List, [], ◌∷◌, ◌++◌, map, append_assoc, append-nil}
-use Rattle.std.proofs.Math.Option.{Option, none}
+use Rattle.std.specs.Prelude.{Option, None}
 use Rattle.maps.specs.Lists.{every}
 use Rattle.maps.specs.Maps.{Map, lookup, store, numbers}
 use Rattle.maps.specs.ListLaws.{every-head, every-tail}
 use Rattle.maps.specs.OrderLaws.{split, numbers_lawful}
 use Rattle.maps.specs.MapLaws.{Ascending, ascending-store, store-again}
-use Rattle.rules.specs.Causes.{Refusal, ok, refused, and_then, in_order, placed}
+use Rattle.rules.specs.Causes.{Refusal, Ok, Err, and_then, in_order, placed}
 use Rattle.rules.specs.Items.{Append, same_queue, clean, compact, put, del, Content, entries, command, kv, LogItem, Placed, is_reserved, is_clean, is_tombstone, Call, writes, is_live_rewrite}
 use Rattle.rules.specs.Table.{Table, change, change_to, command_to}
 use Rattle.rules.specs.Context.{Context, with_groups, with_tombstones, with_cleaned, fits, Judge, limited, add_cleaned, act, keeps, add_tombstone, step, replay_tombstones}
@@ -67,19 +67,19 @@ module _ (call : Call) (it : LogItem) (c : Context) where
   abbrev own-table : Option Table
   own-table = lookup numbers it.group c.groups
 
-  act_reserved : is_reserved it.content ≡ true → act call it c ≡ ok c
+  act_reserved : is_reserved it.content ≡ true → act call it c ≡ Ok c
   unfolding act
   act_reserved e = rw e
 
-  act-not : is_reserved it.content ≡ false → (t : Option Table) → change call it.content own-table ≡ ok t → act call it c ≡ ok (acted call it t c)
+  act-not : is_reserved it.content ≡ false → (t : Option Table) → change call it.content own-table ≡ Ok t → act call it c ≡ Ok (acted call it t c)
   unfolding act acted and_then with_cleaned with_groups
-  act-not e t h = rw (e, h) (ap ok (add-cleaned call it (with_groups (store numbers it.group t c.groups) c)))
+  act-not e t h = rw (e, h) (ap Ok (add-cleaned call it (with_groups (store numbers it.group t c.groups) c)))
 
-  act-not-refused : is_reserved it.content ≡ false → (r : Refusal) → change call it.content own-table ≡ refused r → act call it c ≡ refused r
+  act-not-refused : is_reserved it.content ≡ false → (r : Refusal) → change call it.content own-table ≡ Err r → act call it c ≡ Err r
   unfolding act and_then
   act-not-refused e r h = rw (e, h)
 
-  changed_reserved : (o : Option Table) → is_reserved it.content ≡ true → changed call it.content o ≡ ok o
+  changed_reserved : (o : Option Table) → is_reserved it.content ≡ true → changed call it.content o ≡ Ok o
   unfolding changed
   changed_reserved o e = rw e
 
@@ -107,13 +107,13 @@ module _ (call : Call) (it : LogItem) (c : Context) where
           waiting = c.waiting;
         }
 
-    pub act_of : (t : Option Table) → changed call it.content own-table ≡ ok t → act call it c ≡ ok (acted call it t c)
+    pub act_of : (t : Option Table) → changed call it.content own-table ≡ Ok t → act call it c ≡ Ok (acted call it t c)
     act_of t h =
         split (is_reserved it.content)
-        (λ e. act_reserved e ∙ ap ok (sym (acted_reserved e) ∙ ap (λ x. acted call it x c) (ok_inj (sym (changed_reserved own-table e) ∙ h))))
+        (λ e. act_reserved e ∙ ap Ok (sym (acted_reserved e) ∙ ap (λ x. acted call it x c) (ok_inj (sym (changed_reserved own-table e) ∙ h))))
         (λ e. act-not e t (sym (changed-not own-table e) ∙ h))
 
-    pub act-refused : (r : Refusal) → changed call it.content own-table ≡ refused r → act call it c ≡ refused r
+    pub act-refused : (r : Refusal) → changed call it.content own-table ≡ Err r → act call it c ≡ Err r
     act-refused r h =
         split (is_reserved it.content)
         (λ e. absurd (refused_not_ok (sym h ∙ changed_reserved own-table e)))
@@ -133,11 +133,11 @@ after call it t c =
     }
 
 module _ (judge : Judge) (call : Call) (x : Placed) (c : Context) (asc : Ascending numbers c.groups) where
-  step-acted : (d : Context) → act call x.item c ≡ ok d → step judge call x c ≡ judge x.place (add_tombstone call x.item d)
+  step-acted : (d : Context) → act call x.item c ≡ Ok d → step judge call x c ≡ judge x.place (add_tombstone call x.item d)
   unfolding step placed and_then
   step-acted d h = rw h
 
-  step-not : (r : Refusal) → act call x.item c ≡ refused r → step judge call x c ≡ refused (record { number = r.number; place = x.place })
+  step-not : (r : Refusal) → act call x.item c ≡ Err r → step judge call x c ≡ Err (record { cause = r.cause; place = x.place })
   unfolding step placed and_then
   step-not r h = rw h
 
@@ -145,11 +145,11 @@ module _ (judge : Judge) (call : Call) (x : Placed) (c : Context) (asc : Ascendi
   unfolding acted after with_tombstones
   with_tombstone t = add_tombstone_lem call x.item (acted call x.item t c)
 
-  pub step_of : (t : Option Table) → changed call x.item.content (lookup numbers x.item.group c.groups) ≡ ok t → step judge call x c ≡ judge x.place (after call x.item t c)
+  pub step_of : (t : Option Table) → changed call x.item.content (lookup numbers x.item.group c.groups) ≡ Ok t → step judge call x c ≡ judge x.place (after call x.item t c)
   step_of t h = step-acted (acted call x.item t c) (act_of call x.item c asc t h) ∙ ap (judge x.place) (with_tombstone t)
 
   -- what an accepted step has done
-  pub step_ok : (d : Context) → step judge call x c ≡ ok d → (t : Option Table) × (changed call x.item.content (lookup numbers x.item.group c.groups) ≡ ok t) × (judge x.place (after call x.item t c) ≡ ok d)
+  pub step_ok : (d : Context) → step judge call x c ≡ Ok d → (t : Option Table) × (changed call x.item.content (lookup numbers x.item.group c.groups) ≡ Ok t) × (judge x.place (after call x.item t c) ≡ Ok d)
   step_ok d h =
       by_result (changed call x.item.content (lookup numbers x.item.group c.groups))
       (λ t e. (t, e, sym (step_of t e) ∙ h))
@@ -157,17 +157,17 @@ module _ (judge : Judge) (call : Call) (x : Placed) (c : Context) (asc : Ascendi
 
 -- ---- judged by the limits
 
-pub limited-fits : (p : Option ℕ) (c : Context) → fits c ≡ true → limited p c ≡ ok c
+pub limited-fits : (p : Option ℕ) (c : Context) → fits c ≡ true → limited p c ≡ Ok c
 unfolding limited
 limited-fits p c h = rw h
 
 -- an accepted state is the state judged
-pub limited_ok : (p : Option ℕ) (c d : Context) → limited p c ≡ ok d → (c ≡ d) × (fits c ≡ true)
+pub limited_ok : (p : Option ℕ) (c d : Context) → limited p c ≡ Ok d → (c ≡ d) × (fits c ≡ true)
 unfolding limited
 limited_ok p c d h = split (fits c) (λ e. (ok_inj (rw e at h), e)) (λ e. absurd (refused_not_ok (rw e at h)))
 
 -- what an accepted item of a batch has done
-pub step-taken : (call : Call) (x : Placed) (c d : Context) → Ascending numbers c.groups → step limited call x c ≡ ok d → (t : Option Table) × (changed call x.item.content (lookup numbers x.item.group c.groups) ≡ ok t) × (d ≡ after call x.item t c) × (fits d ≡ true)
+pub step-taken : (call : Call) (x : Placed) (c d : Context) → Ascending numbers c.groups → step limited call x c ≡ Ok d → (t : Option Table) × (changed call x.item.content (lookup numbers x.item.group c.groups) ≡ Ok t) × (d ≡ after call x.item t c) × (fits d ≡ true)
 step-taken call x c d asc h =
     let s = step_ok limited call x c asc d h in
     let l = limited_ok x.place (after call x.item s.0 c) d s.2 in
@@ -175,20 +175,20 @@ step-taken call x c d asc h =
 
 -- ---- tombstones, replayed and not kept a second time
 
-change-clean : (call : Call) (o : Option Table) → is_live_rewrite call ≡ false → change call (command clean) o ≡ ok none
+change-clean : (call : Call) (o : Option Table) → is_live_rewrite call ≡ false → change call (command clean) o ≡ Ok None
 unfolding change command_to
 change-clean call o e = rw e
 
-change-compact : (call : Call) (i : ℕ) (o : Option Table) → change call (command (compact i)) o ≡ ok (effect (command (compact i)) o)
+change-compact : (call : Call) (i : ℕ) (o : Option Table) → change call (command (compact i)) o ≡ Ok (effect (command (compact i)) o)
 unfolding change command_to effect
 change-compact call i o = refl
 
-change-del : (call : Call) (k : List ℕ) (o : Option Table) → change call (kv k del) o ≡ ok (effect (kv k del) o)
+change-del : (call : Call) (k : List ℕ) (o : Option Table) → change call (kv k del) o ≡ Ok (effect (kv k del) o)
 unfolding change change_to effect and_then
 change-del call k o = refl
 
 -- a tombstone is never refused
-pub tomb-changed : (call : Call) (x : Content) (o : Option Table) → is_live_rewrite call ≡ false → is_tombstone x ≡ true → changed call x o ≡ ok (effected x o)
+pub tomb-changed : (call : Call) (x : Content) (o : Option Table) → is_live_rewrite call ≡ false → is_tombstone x ≡ true → changed call x o ≡ Ok (effected x o)
 unfolding changed effected is_tombstone
 tomb-changed call (entries es) o l h = absurd (false≢true h)
 tomb-changed call (command clean) o l h = unfold is_reserved effect in change-clean call o l
@@ -204,9 +204,9 @@ unfolding cleaned_by cleans_by cleans_of
 cleans-cons call x xs = split (same_queue (writes call) Append) (λ q. rw q) (λ q. rw q)
 
 abbrev pub tomb_deed : LogItem → Deed Table
-tomb_deed it = record { group = it.group; by = λ o. ok (effected it.content o) }
+tomb_deed it = record { group = it.group; by = λ o. Ok (effected it.content o) }
 
-pub own-tombs : (g : ℕ) (xs : List LogItem) (o : Option Table) → own g (map tomb_deed xs) o ≡ ok (tombed g xs o)
+pub own-tombs : (g : ℕ) (xs : List LogItem) (o : Option Table) → own g (map tomb_deed xs) o ≡ Ok (tombed g xs o)
 unfolding own tombed and_then
 own-tombs g [] o = refl
 own-tombs g (x ∷ xs) o = split (eqb x.group g) (λ e. rw e (own-tombs g xs (effected x.content o))) (λ e. rw e (own-tombs g xs o))
@@ -247,25 +247,25 @@ module _ (call : Call) (live : is_live_rewrite call ≡ false) where
     first_done_lem : do_all (map tomb_deed (x ∷ xs)) c.groups ≡ do_all (map tomb_deed xs) (store numbers x.group next-table c.groups)
     first_done_lem = deed_ok (tomb_deed x) (map tomb_deed xs) c.groups next-table refl
 
-    cons-acted : in_order (act call) xs (acted call x next-table c) ≡ and_then (do_all (map tomb_deed xs) (acted call x next-table c).groups) (λ m. ok (replayed_to (cleans_by call xs) (acted call x next-table c) m)) → in_order (act call) (x ∷ xs) c ≡ and_then (do_all (map tomb_deed (x ∷ xs)) c.groups) (λ m. ok (replayed_to (cleans_by call (x ∷ xs)) c m))
+    cons-acted : in_order (act call) xs (acted call x next-table c) ≡ and_then (do_all (map tomb_deed xs) (acted call x next-table c).groups) (λ m. Ok (replayed_to (cleans_by call xs) (acted call x next-table c) m)) → in_order (act call) (x ∷ xs) c ≡ and_then (do_all (map tomb_deed (x ∷ xs)) c.groups) (λ m. Ok (replayed_to (cleans_by call (x ∷ xs)) c m))
     cons-acted ih =
         first-acted
         ∙ ih
-        ∙ and_then_same (do_all (map tomb_deed xs) (acted call x next-table c).groups) (λ m. ok (replayed_to (cleans_by call xs) (acted call x next-table c) m)) (λ m. ok (replayed_to (cleans_by call (x ∷ xs)) c m)) (λ m. ap ok (acted-more x xs next-table c m))
-        ∙ ap (λ r. and_then r (λ m. ok (replayed_to (cleans_by call (x ∷ xs)) c m))) (ap (do_all (map tomb_deed xs)) (acted-groups call x next-table c) ∙ sym first_done_lem)
+        ∙ and_then_same (do_all (map tomb_deed xs) (acted call x next-table c).groups) (λ m. Ok (replayed_to (cleans_by call xs) (acted call x next-table c) m)) (λ m. Ok (replayed_to (cleans_by call (x ∷ xs)) c m)) (λ m. ap Ok (acted-more x xs next-table c m))
+        ∙ ap (λ r. and_then r (λ m. Ok (replayed_to (cleans_by call (x ∷ xs)) c m))) (ap (do_all (map tomb_deed xs)) (acted-groups call x next-table c) ∙ sym first_done_lem)
 
-  nil-acted : (c : Context) → in_order (act call) [] c ≡ and_then (do_all [] c.groups) (λ m. ok (replayed_to (cleans_by call []) c m))
+  nil-acted : (c : Context) → in_order (act call) [] c ≡ and_then (do_all [] c.groups) (λ m. Ok (replayed_to (cleans_by call []) c m))
   unfolding in_order do_all and_then cleans_by cleans_of
   nil-acted c = split (same_queue (writes call) Append) (λ q. rw (q, append-nil c.cleaned)) (λ q. rw (q, append-nil c.cleaned))
 
-  tombs-acted : (xs : List LogItem) (c : Context) → Ascending numbers c.groups → all_tombstones xs ≡ true → in_order (act call) xs c ≡ and_then (do_all (map tomb_deed xs) c.groups) (λ m. ok (replayed_to (cleans_by call xs) c m))
+  tombs-acted : (xs : List LogItem) (c : Context) → Ascending numbers c.groups → all_tombstones xs ≡ true → in_order (act call) xs c ≡ and_then (do_all (map tomb_deed xs) c.groups) (λ m. Ok (replayed_to (cleans_by call xs) c m))
   tombs-acted [] c asc h = nil-acted c
   tombs-acted (x ∷ xs) c asc h =
       cons-acted x xs c asc (tombs-head x xs h)
       (tombs-acted xs (acted call x (effected x.content (lookup numbers x.group c.groups)) c) (acted-ascend call x (effected x.content (lookup numbers x.group c.groups)) c asc) (tombs-tail x xs h))
 
   -- tombstones on a context are their deeds on its groups, and the Cleans among them are cleaned numbers of the Append side
-  pub tombs-replayed : (xs : List LogItem) (c : Context) → Ascending numbers c.groups → all_tombstones xs ≡ true → replay_tombstones call xs c ≡ and_then (do_all (map tomb_deed xs) c.groups) (λ m. ok (replayed_to (cleans_by call xs) c m))
+  pub tombs-replayed : (xs : List LogItem) (c : Context) → Ascending numbers c.groups → all_tombstones xs ≡ true → replay_tombstones call xs c ≡ and_then (do_all (map tomb_deed xs) c.groups) (λ m. Ok (replayed_to (cleans_by call xs) c m))
   unfolding replay_tombstones
   tombs-replayed xs c asc h = tombs-acted xs c asc h
 

@@ -4,11 +4,11 @@ use Rattle.std.specs.Prelude.{◌≡◌, refl, false, ℕ}
 use Rattle.std.proofs.Math.Path.{sym, ap}
 use Rattle.std.proofs.Common.{◌∙◌}
 use mathlib.Core.List.{List, [], ◌∷◌, ◌++◌, map}
-use Rattle.std.proofs.Math.Option.{Option, none, some}
+use Rattle.std.specs.Prelude.{Option, None, Some}
 use Rattle.maps.specs.Lists.{any, or_else}
 use Rattle.maps.specs.Maps.{Pair, Map, lookup, merge_with, numbers}
 use Rattle.maps.specs.MapLaws.{laid}
-use Rattle.rules.specs.Causes.{Cause, Refusal, Result, ok, refused, and_then}
+use Rattle.rules.specs.Causes.{Cause, WrongKind, Refusal, Result, Ok, Err, and_then}
 use Rattle.rules.specs.Items.{Append, same_queue, live_append, writes, is_live_rewrite}
 use Rattle.rules.specs.Table.{Table}
 use Rattle.rules.specs.Context.{context, index, Context, with_groups, limited}
@@ -25,7 +25,7 @@ use Rattle.rules_by_group.proofs.StageLaws.{staged}
 
 -- an Append table is laid over or adopted, never refused
 abbrev joins : ℕ → Table → Option Table → Result (Option Table)
-joins = lay_by (λ o t. false) (record { number = 0; place = none }) join_table
+joins = lay_by (λ o t. false) (record { cause = WrongKind; place = None }) join_table
 
 never : (xs : Map ℕ Table) → any (λ (p : Pair ℕ Table). false) xs ≡ false
 unfolding any
@@ -35,10 +35,10 @@ never (x ∷ xs) = never xs
 abbrev join_deeds : Context → List (Deed Table)
 join_deeds newer = map tomb_deed newer.tombstones ++ deeds_of joins newer.groups
 
-joins-laid : (g : ℕ) (n : Option Table) (o : Option Table) → or_else (ok o) (λ t. joins g t o) n ≡ ok (laid join_table o n)
+joins-laid : (g : ℕ) (n : Option Table) (o : Option Table) → or_else (Ok o) (λ t. joins g t o) n ≡ Ok (laid join_table o n)
 unfolding or_else laid lay_by
-joins-laid g none o = refl
-joins-laid g (some t) o = refl
+joins-laid g None o = refl
+joins-laid g (Some t) o = refl
 
 module _ (newer c : Context) (kn : Kept newer) (kc : Kept c) (is : newer.kind ≡ context Append) where
   cleaned-is : cleans_by live_append newer.tombstones ≡ newer.cleaned
@@ -55,26 +55,26 @@ module _ (newer c : Context) (kn : Kept newer) (kc : Kept c) (is : newer.kind �
       ∙ joins-laid g (lookup numbers g newer.groups) (tombed g newer.tombstones (lookup numbers g c.groups)))
 
   abbrev from_groups : Map ℕ Table → Result Context
-  from_groups n = limited none (with_groups n (joined_rest newer c))
+  from_groups n = limited None (with_groups n (joined_rest newer c))
 
   index_is : (m n : Map ℕ Table) → index_of n (replayed_to (cleans_by live_append newer.tombstones) c m) ≡ with_groups n (joined_rest newer c)
   unfolding index_of with_groups joined_rest
   index_is m n = λ i. record { kind = index; groups = n; tombstones = []; cleaned = c.cleaned ++ cleaned-is i; waiting = [] }
 
-  all_laid : (m : Map ℕ Table) → do_all (deeds_of joins newer.groups) m ≡ ok (merge_with numbers join_table m newer.groups)
-  all_laid m = lay_all (λ o t. false) (record { number = 0; place = none }) join_table newer.groups m kn.groups-ascend ∙ rw (never newer.groups)
+  all_laid : (m : Map ℕ Table) → do_all (deeds_of joins newer.groups) m ≡ Ok (merge_with numbers join_table m newer.groups)
+  all_laid m = lay_all (λ o t. false) (record { cause = WrongKind; place = None }) join_table newer.groups m kn.groups-ascend ∙ rw (never newer.groups)
 
   -- the tables are laid over what the tombstones left
-  laid_then : (m : Map ℕ Table) → limited none (index_of (merge_with numbers join_table m newer.groups) (replayed_to (cleans_by live_append newer.tombstones) c m)) ≡ and_then (do_all (deeds_of joins newer.groups) m) from_groups
+  laid_then : (m : Map ℕ Table) → limited None (index_of (merge_with numbers join_table m newer.groups) (replayed_to (cleans_by live_append newer.tombstones) c m)) ≡ and_then (do_all (deeds_of joins newer.groups) m) from_groups
   laid_then m =
-      ap (limited none) (index_is m (merge_with numbers join_table m newer.groups))
+      ap (limited None) (index_is m (merge_with numbers join_table m newer.groups))
       ∙ sym (and_then_of (do_all (deeds_of joins newer.groups) m) from_groups (merge_with numbers join_table m newer.groups) (all_laid m))
 
   pub joined_deeds : join_contexts newer c ≡ and_then (do_all (join_deeds newer) c.groups) from_groups
   unfolding join_contexts
   joined_deeds =
       let tombs = do_all (map tomb_deed newer.tombstones) c.groups in
-      let index-of : Context → Result Context = λ d. limited none (index_of (merge_with numbers join_table d.groups newer.groups) d) in
+      let index-of : Context → Result Context = λ d. limited None (index_of (merge_with numbers join_table d.groups newer.groups) d) in
       let after-tombs = replayed_to (cleans_by live_append newer.tombstones) c in
       ap (λ r. and_then r index-of) (tombs-replayed live_append (unfold is_live_rewrite in refl) newer.tombstones c kc.groups-ascend kn.tombstones-only)
       ∙ and_then-map tombs after-tombs index-of
@@ -82,12 +82,12 @@ module _ (newer c : Context) (kn : Kept newer) (kc : Kept c) (is : newer.kind �
       ∙ sym (and_then-assoc tombs (do_all (deeds_of joins newer.groups)) from_groups)
       ∙ ap (λ r. and_then r from_groups) (sym (do-append (map tomb_deed newer.tombstones) (deeds_of joins newer.groups) c.groups))
 
-  joined-out : (gs : List ℕ) → Covers gs newer c → (g : ℕ) → is_in g gs ≡ false → joined_at newer c g ≡ ok none
+  joined-out : (gs : List ℕ) → Covers gs newer c → (g : ℕ) → is_in g gs ≡ false → joined_at newer c g ≡ Ok None
   unfolding joined_at joined_group laid
   joined-out gs v g n =
-      rw (lookup_uncovered gs g newer.groups v.newer-groups n, lookup_uncovered gs g c.groups v.older-groups n, tombed-other (λ k. is_in k gs) g newer.tombstones none v.newer-tombstones n)
+      rw (lookup_uncovered gs g newer.groups v.newer-groups n, lookup_uncovered gs g c.groups v.older-groups n, tombed-other (λ k. is_in k gs) g newer.tombstones None v.newer-tombstones n)
 
-  never-refused : (g : ℕ) (x : Refusal) → joined_at newer c g ≡ refused x → ⊥
+  never-refused : (g : ℕ) (x : Refusal) → joined_at newer c g ≡ Err x → ⊥
   unfolding joined_at
   never-refused g x e = refused_not_ok (sym e)
 

@@ -2,7 +2,7 @@
 -- Assumes nothing.
 use Rattle.std.specs.Prelude.{◌≡◌, refl, Bool, true, List, []}
 use Rattle.std.proofs.Common.{sym}
-use Rattle.std.proofs.Math.Option.{some}
+use Rattle.std.specs.Prelude.{Some}
 use Prim.Native.Nat.{ℕ}
 use Rattle.maps.specs.Lists.{every, or_else}
 use Rattle.maps.specs.Maps.{Pair, Map, lookup, numbers}
@@ -68,7 +68,7 @@ own-made c k h e g = rw e at (made_all (entry_by c.kind) c.groups g h.own-entrie
 pub queue-made : (q : LogQueue) (c : Context) → Kept c → c.kind ≡ context q → (g : ℕ) → every (λ (e : EntryIndex). same_queue (file_of e).queue q) (made (lookup numbers g c.groups)).entries ≡ true
 queue-made q c k is g = unfold entry_by in own-made c (context q) k is g
 
-pub queue-table : (q : LogQueue) (c : Context) → Kept c → c.kind ≡ context q → (g : ℕ) (t : Table) → lookup numbers g c.groups ≡ some t → every (λ (e : EntryIndex). same_queue (file_of e).queue q) t.entries ≡ true
+pub queue-table : (q : LogQueue) (c : Context) → Kept c → c.kind ≡ context q → (g : ℕ) (t : Table) → lookup numbers g c.groups ≡ Some t → every (λ (e : EntryIndex). same_queue (file_of e).queue q) t.entries ≡ true
 unfolding made or_else
 queue-table q c k is g t e = rw e at (queue-made q c k is g)
 
@@ -76,7 +76,7 @@ pub rewrite-made : (c : Context) → Kept c → c.kind ≡ context Rewrite → (
 unfolding is_rewrite
 rewrite-made c k is g = queue-made Rewrite c k is g
 
-pub rewrite-table : (c : Context) → Kept c → c.kind ≡ context Rewrite → (g : ℕ) (t : Table) → lookup numbers g c.groups ≡ some t → every is_rewrite t.entries ≡ true
+pub rewrite-table : (c : Context) → Kept c → c.kind ≡ context Rewrite → (g : ℕ) (t : Table) → lookup numbers g c.groups ≡ Some t → every is_rewrite t.entries ≡ true
 unfolding is_rewrite
 rewrite-table c k is g t e = queue-table Rewrite c k is g t e
 

@@ -5,12 +5,13 @@ use Rattle.std.proofs.Math.Path.{refl}
 use Rattle.std.proofs.Common.{sym, ap, ◌∙◌, true≢false}
 use Rattle.std.proofs.lemmas.Bool.{false≢true}
 use mathlib.Core.List.{List, [], ◌∷◌, ◌++◌, reverse, reverse-cons}
-use Rattle.std.proofs.Math.Option.{Option, none, some, none-ne-some}
+use Rattle.std.specs.Prelude.{Option, None, Some}
+use Rattle.std.proofs.lemmas.Option.{none-some}
 use Rattle.maps.specs.Lists.{every, or_else}
 use Rattle.maps.specs.BoolLaws.{both, both_left, both_right}
 use Rattle.maps.specs.ListLaws.{every_append, every-head, every-tail, every-cons}
 use Rattle.maps.specs.OrderLaws.{split}
-use Rattle.rules.specs.Causes.{Refusal, ok, refused, refuse, files_go_back}
+use Rattle.rules.specs.Causes.{Refusal, Ok, Err, refuse, FilesGoBack}
 use Rattle.rules.specs.Items.{LogItem, Status, begin, middle, end}
 use Rattle.rules.specs.Context.{Part}
 use Rattle.rules.specs.Waiting.{Accepted, wait, finish, back, joined, accept_by, accept, some_parts}
@@ -190,25 +191,25 @@ pub record PartsKept (g : ℕ) (o : Option (List Part)) : Type 0 where
 kept-some : (g : ℕ) (ps : List Part) → own_parts g ps ≡ true → Shaped ps → PartsKept g (some_parts ps)
 kept-some g ps h s = record { own = ap (own_parts g) (parts-some ps) ∙ h; shape = rw (parts-some ps) s; filled = ap some_parts (parts-some ps) }
 
-pub waits_kept : (g : ℕ) (a : Accepted) (o : Option (List Part)) → OwnAccepted g a → ShapedAccepted a → waits a ≡ ok o → PartsKept g o
+pub waits_kept : (g : ℕ) (a : Accepted) (o : Option (List Part)) → OwnAccepted g a → ShapedAccepted a → waits a ≡ Ok o → PartsKept g o
 unfolding waits OwnAccepted ShapedAccepted
 waits_kept g (wait ps) o h s e = rw (← (ok_inj e)) (kept-some g ps h s)
 waits_kept g (finish old ps) o h s e = rw (← (ok_inj e)) (kept-some g ps h.1 s)
 waits_kept g back o h s e = absurd (refused_not_ok e)
 
-pub accept-kept : (g : ℕ) (new : Part) (o p : Option (List Part)) → own_items g new.items ≡ true → PartsKept g o → accept_part new o ≡ ok p → PartsKept g p
+pub accept-kept : (g : ℕ) (new : Part) (o p : Option (List Part)) → own_items g new.items ≡ true → PartsKept g o → accept_part new o ≡ Ok p → PartsKept g p
 unfolding accept_part
 accept-kept g new o p h k e =
     waits_kept g (accept (parts_of o) new) p (accept-own g (parts_of o) new k.own h) (accept-shaped (parts_of o) new k.shape) e
 
-waits-refused : (a : Accepted) (x : Refusal) → waits a ≡ refused x → x ≡ refusal_of files_go_back
+waits-refused : (a : Accepted) (x : Refusal) → waits a ≡ Err x → x ≡ refusal_of FilesGoBack
 unfolding waits
 waits-refused (wait ps) x e = absurd (refused_not_ok (sym e))
 waits-refused (finish old ps) x e = absurd (refused_not_ok (sym e))
-waits-refused back x e = one-refusal (refuse files_go_back) x (refusal_of files_go_back) e refl
+waits-refused back x e = one-refusal (refuse FilesGoBack) x (refusal_of FilesGoBack) e refl
 
 -- files that go back are 8
-pub accept-refused : (new : Part) (o : Option (List Part)) (x : Refusal) → accept_part new o ≡ refused x → x ≡ refusal_of files_go_back
+pub accept-refused : (new : Part) (o : Option (List Part)) (x : Refusal) → accept_part new o ≡ Err x → x ≡ refusal_of FilesGoBack
 unfolding accept_part
 accept-refused new o x e = waits-refused (accept (parts_of o) new) x e
 
@@ -224,32 +225,32 @@ unfolding Shaped shaped
 shaped-some [] h = tt
 shaped-some (p ∷ ps) h = h
 
-filled-some : (ps : List Part) → shaped ps ≡ true → some_parts (parts_of (some ps)) ≡ some ps
+filled-some : (ps : List Part) → shaped ps ≡ true → some_parts (parts_of (Some ps)) ≡ Some ps
 unfolding shaped some_parts parts_of or_else
 filled-some [] h = absurd (false≢true h)
 filled-some (p ∷ ps) h = refl
 
-kept-none : (g : ℕ) → PartsKept g none
+kept-none : (g : ℕ) → PartsKept g None
 unfolding parts_of or_else Shaped some_parts
 kept-none g = record { own = own-nil g; shape = tt; filled = refl }
 
-kept-parts : (g : ℕ) (ps : List Part) → own_parts g ps ≡ true → shaped ps ≡ true → PartsKept g (some ps)
+kept-parts : (g : ℕ) (ps : List Part) → own_parts g ps ≡ true → shaped ps ≡ true → PartsKept g (Some ps)
 kept-parts g ps h s = record { own = unfold parts_of or_else in h; shape = unfold parts_of or_else in shaped-some ps s; filled = filled-some ps s }
 
 -- the group's own parts, given by their tests
-pub kept_if : (g : ℕ) (o : Option (List Part)) → ((ps : List Part) → o ≡ some ps → own_parts g ps ≡ true) → ((ps : List Part) → o ≡ some ps → shaped ps ≡ true) → PartsKept g o
-kept_if g none h s = kept-none g
-kept_if g (some ps) h s = kept-parts g ps (h ps refl) (s ps refl)
+pub kept_if : (g : ℕ) (o : Option (List Part)) → ((ps : List Part) → o ≡ Some ps → own_parts g ps ≡ true) → ((ps : List Part) → o ≡ Some ps → shaped ps ≡ true) → PartsKept g o
+kept_if g None h s = kept-none g
+kept_if g (Some ps) h s = kept-parts g ps (h ps refl) (s ps refl)
 
-some-shaped : (ps : List Part) → Shaped ps → some_parts ps ≡ some ps → shaped ps ≡ true
+some-shaped : (ps : List Part) → Shaped ps → some_parts ps ≡ Some ps → shaped ps ≡ true
 unfolding Shaped some_parts
-some-shaped [] s e = absurd (none-ne-some [] e)
+some-shaped [] s e = absurd (none-some [] e)
 some-shaped (p ∷ ps) s e = s
 
-pub kept-own : (g : ℕ) (ps : List Part) → PartsKept g (some ps) → own_parts g ps ≡ true
+pub kept-own : (g : ℕ) (ps : List Part) → PartsKept g (Some ps) → own_parts g ps ≡ true
 unfolding parts_of or_else
 kept-own g ps k = k.own
 
-pub kept-shaped : (g : ℕ) (ps : List Part) → PartsKept g (some ps) → shaped ps ≡ true
+pub kept-shaped : (g : ℕ) (ps : List Part) → PartsKept g (Some ps) → shaped ps ≡ true
 unfolding parts_of or_else
 kept-shaped g ps k = some-shaped ps k.shape k.filled

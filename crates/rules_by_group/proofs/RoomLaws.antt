@@ -3,7 +3,8 @@
 use Rattle.std.specs.Prelude.{◌≡◌, refl, true, cond, ◌&&◌, ltb, leb, eqb}
 use Rattle.std.proofs.Math.Path.{ap}
 use mathlib.Core.List.{List, [], ◌∷◌, ◌++◌}
-use Rattle.std.proofs.Math.Option.{Option, none, some, none-ne-some, some-injective}
+use Rattle.std.specs.Prelude.{Option, None, Some}
+use Rattle.std.proofs.lemmas.Option.{none-some, same_Some}
 use Prim.Native.Nat.{ℕ, suc, ◌+◌, ◌≤◌}
 use native.Mathlib.Omega.{arith}
 use Rattle.std.proofs.Math.ListN.{length}
@@ -43,11 +44,11 @@ from-room : (i : ℕ) (es : List EntryIndex) → length (entries_from i es) ≤ 
 unfolding entries_from
 from-room i es = length-select (λ (x : EntryIndex). leb i x.index) es
 
-made_none : (e k : ℕ) → Within e k none
+made_none : (e k : ℕ) → Within e k None
 unfolding made or_else empty_table
 made_none e k = record { few-entries = omega arith; few-keys = omega arith }
 
-within-some : (e k : ℕ) (t : Table) → length t.entries ≤ e → length t.keys ≤ k → Within e k (some t)
+within-some : (e k : ℕ) (t : Table) → length t.entries ≤ e → length t.keys ≤ k → Within e k (Some t)
 unfolding made or_else
 within-some e k t a b = record { few-entries = a; few-keys = b }
 
@@ -55,33 +56,33 @@ pub within_more : (e k e₂ k₂ : ℕ) (o : Option Table) → e ≤ e₂ → k 
 within_more e k e₂ k₂ o a b w = record { few-entries = omega (arith, w.few-entries); few-keys = omega (arith, w.few-keys) }
 
 module _ (e k : ℕ) (o : Option Table) (w : Within e k o) where
-  compact-room : (i : ℕ) → Within e k (some (compacted i (made o)))
+  compact-room : (i : ℕ) → Within e k (Some (compacted i (made o)))
   compact-room i =
       within-some e k (compacted i (made o))
       (unfold compacted with_entries in (let l = from-room i (made o).entries in omega (arith, w.few-entries)))
       (unfold compacted with_entries in w.few-keys)
 
-  delete-room : (j : List ℕ) → Within e k (some (delete_key j (made o)))
+  delete-room : (j : List ℕ) → Within e k (Some (delete_key j (made o)))
   delete-room j =
       within-some e k (delete_key j (made o))
       (unfold delete_key with_keys in w.few-entries)
       (unfold delete_key with_keys in (let l = length-remove-le bytes bytes_lawful j (made o).keys in omega (arith, w.few-keys)))
 
-  replay-room : (es : List EntryIndex) → Within (e + length es) k (some (replayed_rewrite es (made o)))
+  replay-room : (es : List EntryIndex) → Within (e + length es) k (Some (replayed_rewrite es (made o)))
   replay-room es =
       within-some (e + length es) k (replayed_rewrite es (made o))
       (unfold replayed_rewrite with_entries in (let l = gap-room (made o).entries es in omega (arith, w.few-entries)))
       (unfold replayed_rewrite with_entries in w.few-keys)
 
-  held-room : (j : List ℕ) (v : Option (List ℕ)) (f : Option FileId) → Within e (k + 1) (some (put_held j v f (made o)))
+  held-room : (j : List ℕ) (v : Option (List ℕ)) (f : Option FileId) → Within e (k + 1) (Some (put_held j v f (made o)))
   unfolding put_held
-  held-room j (some v) (some f) =
+  held-room j (Some v) (Some f) =
       within-some e (k + 1) (put_key j (record { value = v; file = f }) (made o))
       (unfold put_key with_keys in w.few-entries)
       (unfold put_key with_keys in (let l = length-insert-most bytes bytes_lawful j (record { value = v; file = f }) (made o).keys in omega (arith, w.few-keys)))
-  held-room j (some v) none = within-some e (k + 1) (made o) w.few-entries (omega (arith, w.few-keys))
-  held-room j none (some f) = within-some e (k + 1) (made o) w.few-entries (omega (arith, w.few-keys))
-  held-room j none none = within-some e (k + 1) (made o) w.few-entries (omega (arith, w.few-keys))
+  held-room j (Some v) None = within-some e (k + 1) (made o) w.few-entries (omega (arith, w.few-keys))
+  held-room j None (Some f) = within-some e (k + 1) (made o) w.few-entries (omega (arith, w.few-keys))
+  held-room j None None = within-some e (k + 1) (made o) w.few-entries (omega (arith, w.few-keys))
 
   -- ---- tombstones take away
 
@@ -109,11 +110,11 @@ tombed-room e k g (x ∷ xs) o w =
 module _ (e k : ℕ) (o : Option Table) (w : Within e k o) where
   change-room : (g : ℕ) (x : Content) → Within (e + entries_in (record { group = g; content = x })) (k + 1) (left o (change replay_rewrite x o))
   unfolding entries_in change command_to change_to entries_to put_to and_then left is_live_rewrite
-  change-room g (entries es) = within_more (e + length es) k (e + length es) (k + 1) (some (replayed_rewrite es (made o))) (omega arith) (omega arith) (replay-room e k o w es)
+  change-room g (entries es) = within_more (e + length es) k (e + length es) (k + 1) (Some (replayed_rewrite es (made o))) (omega arith) (omega arith) (replay-room e k o w es)
   change-room g (command clean) = made_none (e + 0) (k + 1)
-  change-room g (command (compact i)) = within_more e k (e + 0) (k + 1) (some (compacted i (made o))) (omega arith) (omega arith) (compact-room e k o w i)
-  change-room g (kv j (put v f)) = within_more e (k + 1) (e + 0) (k + 1) (some (put_held j v f (made o))) (omega arith) (omega arith) (held-room e k o w j v f)
-  change-room g (kv j del) = within_more e k (e + 0) (k + 1) (some (delete_key j (made o))) (omega arith) (omega arith) (delete-room e k o w j)
+  change-room g (command (compact i)) = within_more e k (e + 0) (k + 1) (Some (compacted i (made o))) (omega arith) (omega arith) (compact-room e k o w i)
+  change-room g (kv j (put v f)) = within_more e (k + 1) (e + 0) (k + 1) (Some (put_held j v f (made o))) (omega arith) (omega arith) (held-room e k o w j v f)
+  change-room g (kv j del) = within_more e k (e + 0) (k + 1) (Some (delete_key j (made o))) (omega arith) (omega arith) (delete-room e k o w j)
 
   pub item_room : (x : LogItem) → Within (e + entries_in x) (k + 1) (left o (changed replay_rewrite x.content o))
   unfolding changed
@@ -163,31 +164,31 @@ module _ (h : Part → ℕ) where
   accept-room [] new = unfold FinishRoom in tt
   accept-room (p ∷ ps) new = by-room (sum h (p ∷ ps)) p.status new.status p new ps (head-room p ps)
 
-  last-room : (ps : List Part) (p : Part) → last ps ≡ some p → h p ≤ sum h ps
+  last-room : (ps : List Part) (p : Part) → last ps ≡ Some p → h p ≤ sum h ps
   unfolding last sum
-  last-room [] p e = absurd (none-ne-some p e)
-  last-room (q ∷ []) p e = let f : h q ≡ h p = ap h (some-injective q p e) in omega (arith, f)
+  last-room [] p e = absurd (none-some p e)
+  last-room (q ∷ []) p e = let f : h q ≡ h p = ap h (same_Some q p e) in omega (arith, f)
   last-room (q ∷ (r ∷ rs)) p e = let l = last-room (r ∷ rs) p e in omega arith
 
   -- a count of items that adds up
   module _ (f : List LogItem → ℕ) (adds : (xs ys : List LogItem) → f (xs ++ ys) ≡ f xs + f ys) (is : (p : Part) → h p ≡ f p.items) where
-    by-finished : (n : ℕ) (p : Part) (a : Accepted) (x : Finished) → FinishRoom n a → finished_by p a ≡ some x → f x.items ≤ n + h p
+    by-finished : (n : ℕ) (p : Part) (a : Accepted) (x : Finished) → FinishRoom n a → finished_by p a ≡ Some x → f x.items ≤ n + h p
     unfolding finished_by FinishRoom
-    by-finished n p (wait ps) x l e = absurd (none-ne-some x e)
+    by-finished n p (wait ps) x l e = absurd (none-some x e)
     by-finished n p (finish old ps) x l e =
-        let y = some-injective _ x e in
+        let y = same_Some _ x e in
         let z : f (old.items ++ p.items) ≡ f x.items = ap (λ (u : Finished). f u.items) y in
         let a = adds old.items p.items in
         let b = is old in
         let c = is p in
         omega (arith, z, a, b, c, l)
-    by-finished n p back x l e = absurd (none-ne-some x e)
+    by-finished n p back x l e = absurd (none-some x e)
 
-    finished-sum : (newer older : Option (List Part)) (x : Finished) → finished_of newer older ≡ some x → f x.items ≤ sum h (parts_of older) + sum h (parts_of newer)
+    finished-sum : (newer older : Option (List Part)) (x : Finished) → finished_of newer older ≡ Some x → f x.items ≤ sum h (parts_of older) + sum h (parts_of newer)
     unfolding finished_of or_else
     finished-sum newer older x e =
         by_option (last (parts_of newer))
-        (λ s. absurd (none-ne-some x (rw s at e)))
+        (λ s. absurd (none-some x (rw s at e)))
         (λ p s.
         let l = last-room (parts_of newer) p s in
         let m = by-finished (sum h (parts_of older)) p (accept (parts_of older) p) x (accept-room (parts_of older) p) (rw s at e) in
@@ -217,7 +218,7 @@ few-wait w h =
     (leb-true (items_wait w) max_waiting_items (both_right groups items (both_left (groups && items) entries h)), leb-true (entries_wait w) max_waiting_entries (both_right (groups && items) entries h))
 
 -- what finishes of group g has at most as many items and entries as may wait in two contexts
-pub finished-items : (g : ℕ) (newer older : Map ℕ (List Part)) (x : Finished) → waiting_fits newer ≡ true → waiting_fits older ≡ true → finished_of (lookup numbers g newer) (lookup numbers g older) ≡ some x → length x.items ≤ max_waiting_items + max_waiting_items
+pub finished-items : (g : ℕ) (newer older : Map ℕ (List Part)) (x : Finished) → waiting_fits newer ≡ true → waiting_fits older ≡ true → finished_of (lookup numbers g newer) (lookup numbers g older) ≡ Some x → length x.items ≤ max_waiting_items + max_waiting_items
 finished-items g newer older x n o e =
     let h : Part → ℕ = λ p. length p.items in
     let a = finished-sum h (λ xs. length xs) (λ xs ys. length-append xs ys) (λ p. refl) (lookup numbers g newer) (lookup numbers g older) x e in
@@ -227,7 +228,7 @@ finished-items g newer older x n o e =
     let f = (few-wait older o).0 in
     omega (arith, a, b, c, d, f)
 
-pub finished-entries : (g : ℕ) (newer older : Map ℕ (List Part)) (x : Finished) → waiting_fits newer ≡ true → waiting_fits older ≡ true → finished_of (lookup numbers g newer) (lookup numbers g older) ≡ some x → sum entries_in x.items ≤ max_waiting_entries + max_waiting_entries
+pub finished-entries : (g : ℕ) (newer older : Map ℕ (List Part)) (x : Finished) → waiting_fits newer ≡ true → waiting_fits older ≡ true → finished_of (lookup numbers g newer) (lookup numbers g older) ≡ Some x → sum entries_in x.items ≤ max_waiting_entries + max_waiting_entries
 finished-entries g newer older x n o e =
     let h : Part → ℕ = λ p. sum entries_in p.items in
     let a = finished-sum h (λ xs. sum entries_in xs) (λ xs ys. sum-append entries_in xs ys) (λ p. refl) (lookup numbers g newer) (lookup numbers g older) x e in
@@ -237,13 +238,13 @@ finished-entries g newer older x n o e =
     let f = (few-wait older o).1 in
     omega (arith, a, b, c, d, f)
 
-pub table-room : (t : Table) → table_fits t ≡ true → Within max_entries max_keys (some t)
+pub table-room : (t : Table) → table_fits t ≡ true → Within max_entries max_keys (Some t)
 unfolding table_fits
 table-room t h =
     within-some max_entries max_keys t (leb-true (length t.entries) max_entries (both_left (leb (length t.entries) max_entries) (leb (length t.keys) max_keys) h)) (leb-true (length t.keys) max_keys (both_right (leb (length t.entries) max_entries) (leb (length t.keys) max_keys) h))
 
 -- 320 entries and 144 keys are enough
-pub finished-room : (g : ℕ) (newer older : Map ℕ (List Part)) (x : Finished) (o : Option Table) → waiting_fits newer ≡ true → waiting_fits older ≡ true → finished_of (lookup numbers g newer) (lookup numbers g older) ≡ some x → Within max_entries max_keys o → Within 320 144 (replayed_items x.items o)
+pub finished-room : (g : ℕ) (newer older : Map ℕ (List Part)) (x : Finished) (o : Option Table) → waiting_fits newer ≡ true → waiting_fits older ≡ true → finished_of (lookup numbers g newer) (lookup numbers g older) ≡ Some x → Within max_entries max_keys o → Within 320 144 (replayed_items x.items o)
 finished-room g newer older x o n l e w =
     let a = finished-items g newer older x n l e in
     let b = finished-entries g newer older x n l e in
@@ -265,7 +266,7 @@ entries-room Append t newer = over-room t.entries newer.entries
 entries-room Rewrite t newer = gap-room t.entries newer.entries
 
 -- a table laid over adds no more than it has
-pub laid-room : (q : LogQueue) (e k : ℕ) (o : Option Table) (newer : Table) → Within e k o → Within (e + length newer.entries) (k + length newer.keys) (some (merge_table q o newer))
+pub laid-room : (q : LogQueue) (e k : ℕ) (o : Option Table) (newer : Table) → Within e k o → Within (e + length newer.entries) (k + length newer.keys) (Some (merge_table q o newer))
 laid-room q e k o newer w =
     within-some (e + length newer.entries) (k + length newer.keys) (merge_table q o newer)
     (unfold merge_table with_span with_keys in (let l = entries-room q (made o) newer in omega (arith, l, w.few-entries)))

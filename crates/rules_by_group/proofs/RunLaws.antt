@@ -4,7 +4,8 @@ use Rattle.std.specs.Prelude.{◌≡◌, Bool, true, false, ◌&&◌, ◌||◌, 
 use Rattle.std.proofs.Math.Path.{refl}
 use Rattle.std.proofs.Common.{sym, ap, ◌∙◌, true≢false, append_assoc, append-nil}
 use Rattle.std.proofs.Math.Bool.{not}
-use Rattle.std.proofs.Math.Option.{Option, none, some, some-ne-none}
+use Rattle.std.specs.Prelude.{Option, None, Some}
+use Rattle.maps.specs.ListLaws.{some-none}
 use Prim.Native.Nat.{ℕ, suc}
 use borrow.Author.Tests.{not-false, not-true}
 use Rattle.maps.specs.Lists.{select, any, every, or_else, find_from}
@@ -14,7 +15,7 @@ use Rattle.maps.specs.ListLaws.{every_append, every_and, every-from, every_map, 
 use Rattle.maps.specs.OrderLaws.{split, numbers_lawful}
 use Rattle.maps.specs.MapLaws.{Ascending, ascending-store, ascending-insert, every-insert, every-store}
 use Rattle.rules.specs.Limits.{max_items}
-use Rattle.rules.specs.Causes.{Cause, Refusal, ok}
+use Rattle.rules.specs.Causes.{Cause, Refusal, Ok}
 use Rattle.rules.specs.Items.{LogQueue, Append, Rewrite, EntryIndex, same_queue, has_file, file_of, Content, entries, command, kv, LogItem, Placed, placed_at, placed_from, is_reserved, is_clean, is_tombstone, is_mark, Call, replay_append, replay_rewrite, live_append, live_rewrite, writes}
 use Rattle.rules.specs.Checks.{long, consecutive, is_incomplete, is_out_of_range, is_other_queue, Mark, first_mark, breaks_mark, is_rewrite_replay, meets3, meets7, or_next, unless_reserved, checks}
 use Rattle.rules.specs.Table.{Span, Table, made, spanned}
@@ -120,13 +121,13 @@ module _ (k : Kind) (call : Call) (keep : KindKept k call) where
       }
 
   -- an item of the call, judged by the limits
-  pub step_keeps : (x : Placed) (c d : Context) → each_entry (entry_by k) x.item.content ≡ true → KeptAt k c → step limited call x c ≡ ok d → KeptAt k d
+  pub step_keeps : (x : Placed) (c d : Context) → each_entry (entry_by k) x.item.content ≡ true → KeptAt k c → step limited call x c ≡ Ok d → KeptAt k d
   step_keeps x c d o h e =
       let s = step-taken call x c d h.kept.groups-ascend e in
       rw s.2 (after-keeps x.item s.0 c h (changed-meets (entry_by k) call x.item.content (lookup numbers x.item.group c.groups) s.0 o (own-made c k h.kept h.is-kind x.item.group) s.1))
 
   -- items in order, each judged by the limits
-  pub run-keeps : (xs : List Placed) (c d : Context) → every (λ (x : Placed). each_entry (entry_by k) x.item.content) xs ≡ true → KeptAt k c → run limited call xs c ≡ ok d → KeptAt k d
+  pub run-keeps : (xs : List Placed) (c d : Context) → every (λ (x : Placed). each_entry (entry_by k) x.item.content) xs ≡ true → KeptAt k c → run limited call xs c ≡ Ok d → KeptAt k d
   unfolding run
   run-keeps xs c d o h e =
       in_order-kept (step limited call) (λ (x : Placed). each_entry (entry_by k) x.item.content) (KeptAt k) step_keeps xs c d o h e
@@ -171,7 +172,7 @@ module _ (g : ℕ) (c : Context) (h : KeptAt (context Rewrite) c) where
         };
       }
 
-  span-keeps : (p : Option ℕ) (s : Span) (d : Context) → set_span limited p g s c ≡ ok d → KeptAt (context Rewrite) d
+  span-keeps : (p : Option ℕ) (s : Span) (d : Context) → set_span limited p g s c ≡ Ok d → KeptAt (context Rewrite) d
   unfolding set_span
   span-keeps p s d e =
       let r = and_then_ok (spanned s (made (lookup numbers g c.groups))) (λ t. limited p (with_groups (insert numbers g t c.groups) c)) d e in
@@ -180,7 +181,7 @@ module _ (g : ℕ) (c : Context) (h : KeptAt (context Rewrite) c) where
       (groups-keep (insert numbers g r.0 c.groups) (ascending-insert numbers numbers_lawful g r.0 c.groups h.kept.groups-ascend)
       (every-insert numbers numbers_lawful (λ (x : Pair ℕ Table). every (entry_by c.kind) x.val.entries) g r.0 c.groups h.kept.own-entries o))
 
-finish-keeps : (p : Option ℕ) (g : ℕ) (s : Span) (xs : List Placed) (c d : Context) → every placed_rewrite xs ≡ true → KeptAt (context Rewrite) c → finish_group limited p g s xs c ≡ ok d → KeptAt (context Rewrite) d
+finish-keeps : (p : Option ℕ) (g : ℕ) (s : Span) (xs : List Placed) (c d : Context) → every placed_rewrite xs ≡ true → KeptAt (context Rewrite) c → finish_group limited p g s xs c ≡ Ok d → KeptAt (context Rewrite) d
 unfolding finish_group
 finish-keeps p g s [] c d o h e = rw (← (ok_inj e)) h
 finish-keeps p g s (x ∷ xs) c d o h e =
@@ -194,7 +195,7 @@ both-placed p g items xs h o =
     every_append placed_rewrite (placed_at p items) xs
     ∙ both (every_map placed_rewrite (λ (x : LogItem). record { item = x; place = p }) items ∙ own-each g items h) o
 
-become-keeps : (p : Option ℕ) (g : ℕ) (new : Part) (xs : List Placed) (c d : Context) (a : Accepted) → every placed_rewrite xs ≡ true → OwnAccepted g a → ShapedAccepted a → KeptAt (context Rewrite) c → become limited p g new xs c a ≡ ok d → KeptAt (context Rewrite) d
+become-keeps : (p : Option ℕ) (g : ℕ) (new : Part) (xs : List Placed) (c d : Context) (a : Accepted) → every placed_rewrite xs ≡ true → OwnAccepted g a → ShapedAccepted a → KeptAt (context Rewrite) c → become limited p g new xs c a ≡ Ok d → KeptAt (context Rewrite) d
 unfolding become
 become-keeps p g new xs c d (wait ps) w o s h e =
     rw (← (limited_ok p (set_waiting g ps c) d e).0) (waiting-keeps g c h ps (waits_kept g (wait ps) (some_parts ps) o s (unfold waits in refl)))
@@ -202,7 +203,7 @@ become-keeps p g new xs c d (finish old ps) w o s h e =
     finish-keeps p g (record { start = old.start; end = new.end }) (placed_at p old.items ++ xs) (set_waiting g ps c) d (both-placed p g old.items xs (own_old g old ps o) w) (waiting-keeps g c h ps (waits_kept g (finish old ps) (some_parts ps) o s (unfold waits in refl))) e
 become-keeps p g new xs c d back w o s h e = absurd (refused_not_ok e)
 
-accept-keeps : (p : Option ℕ) (g : ℕ) (new : Part) (xs : List Placed) (c d : Context) → own_items g new.items ≡ true → every placed_rewrite xs ≡ true → KeptAt (context Rewrite) c → accept_new_group limited p g new xs c ≡ ok d → KeptAt (context Rewrite) d
+accept-keeps : (p : Option ℕ) (g : ℕ) (new : Part) (xs : List Placed) (c d : Context) → own_items g new.items ≡ true → every placed_rewrite xs ≡ true → KeptAt (context Rewrite) c → accept_new_group limited p g new xs c ≡ Ok d → KeptAt (context Rewrite) d
 unfolding accept_new_group parts_of
 accept-keeps p g new xs c d hn w h e =
     let k = kept_of c.waiting g (all-kept c.waiting h.kept.own-items h.kept.shapes) in
@@ -210,34 +211,34 @@ accept-keeps p g new xs c d hn w h e =
 
 -- ---- the items of a batch that passed the checks
 
-found_none : {A : Type 0} (p : ℕ → A → Bool) (q : A → Bool) → ((i : ℕ) (x : A) → p i x ≡ false → q x ≡ true) → (i : ℕ) (xs : List A) → find_from p i xs ≡ none → every q xs ≡ true
+found_none : {A : Type 0} (p : ℕ → A → Bool) (q : A → Bool) → ((i : ℕ) (x : A) → p i x ≡ false → q x ≡ true) → (i : ℕ) (xs : List A) → find_from p i xs ≡ None → every q xs ≡ true
 unfolding find_from every
 found_none p q f i [] e = refl
 found_none p q f i (x ∷ xs) e =
     split (p i x)
-    (λ s. absurd (some-ne-none i (rw s at e)))
+    (λ s. absurd (some-none i (rw s at e)))
     (λ s. both (f i x s) (found_none p q f (suc i) xs (rw s at e)))
 
-mark-own : (m : Mark) (i : ℕ) (it : LogItem) → meets7 replay_rewrite (some m) i it ≡ false → eqb it.group m.group ≡ true
+mark-own : (m : Mark) (i : ℕ) (it : LogItem) → meets7 replay_rewrite (Some m) i it ≡ false → eqb it.group m.group ≡ true
 unfolding meets7 is_rewrite_replay or_else breaks_mark
 mark-own m i it e =
     not-false (eqb it.group m.group)
     (neither_left (not (eqb it.group m.group)) _ (neither_left _ _ e))
 
-next-none : (n : Cause) (o : Option ℕ) (next : Option Refusal) → or_next n o next ≡ none → (o ≡ none) × (next ≡ none)
+next-none : (n : Cause) (o : Option ℕ) (next : Option Refusal) → or_next n o next ≡ None → (o ≡ None) × (next ≡ None)
 unfolding or_next
-next-none n none next e = (refl, e)
-next-none n (some i) next e = absurd (some-ne-none _ e)
+next-none n None next e = (refl, e)
+next-none n (Some i) next e = absurd (some-none _ e)
 
 -- what the checks found none of
 pub record Passed (call : Call) (items : List LogItem) : Type 0 where
-  pub no-2 : find_from (λ i it. eqb i max_items || long it.content) 0 items ≡ none
-  pub no-3 : find_from (λ i it. meets3 call it.content) 0 items ≡ none
-  pub no-4 : find_from (unless_reserved is_out_of_range) 0 items ≡ none
-  pub no-5 : find_from (unless_reserved (is_other_queue call)) 0 items ≡ none
-  pub no-7 : find_from (meets7 call (first_mark 0 items)) 0 items ≡ none
+  pub no-2 : find_from (λ i it. eqb i max_items || long it.content) 0 items ≡ None
+  pub no-3 : find_from (λ i it. meets3 call it.content) 0 items ≡ None
+  pub no-4 : find_from (unless_reserved is_out_of_range) 0 items ≡ None
+  pub no-5 : find_from (unless_reserved (is_other_queue call)) 0 items ≡ None
+  pub no-7 : find_from (meets7 call (first_mark 0 items)) 0 items ≡ None
 
-passed : (call : Call) (items : List LogItem) → checks call items ≡ none → Passed call items
+passed : (call : Call) (items : List LogItem) → checks call items ≡ None → Passed call items
 unfolding checks
 passed call items e =
     let a = next-none _ _ _ e in
@@ -265,7 +266,7 @@ queue-content call (command c) h k = refl
 queue-content call (kv y c) h k = refl
 
 -- the entries of a batch that passed the checks are of the queue that the call writes
-pub batch-queue : (call : Call) (items : List LogItem) → checks call items ≡ none → every (λ (it : LogItem). each_entry (entry_by (context (writes call))) it.content) items ≡ true
+pub batch-queue : (call : Call) (items : List LogItem) → checks call items ≡ None → every (λ (it : LogItem). each_entry (entry_by (context (writes call))) it.content) items ≡ true
 batch-queue call items e =
     let p = passed call items e in
     let three = found_none (λ i it. meets3 call it.content) (λ (it : LogItem). not (meets3 call it.content)) (λ i it h. rw h) 0 items p.no-3 in
@@ -275,7 +276,7 @@ batch-queue call items e =
     (every_and (λ (it : LogItem). not (meets3 call it.content)) (λ (it : LogItem). not (unless_reserved (is_other_queue call) 0 it)) items three five)
 
 -- each item of a batch that passed the checks meets none of 2 to 5
-batch-passed : (items : List LogItem) → checks replay_rewrite items ≡ none → every is_passed items ≡ true
+batch-passed : (items : List LogItem) → checks replay_rewrite items ≡ None → every is_passed items ≡ true
 unfolding is_passed
 batch-passed items e =
     let p = passed replay_rewrite items e in
@@ -286,12 +287,12 @@ batch-passed items e =
     every_and _ _ items (every_and _ _ items (every_and _ _ items two three) four) five
 
 -- in a marked batch they are of the mark's group
-batch-own : (items : List LogItem) (m : Mark) → checks replay_rewrite items ≡ none → first_mark 0 items ≡ some m → own_items m.group items ≡ true
+batch-own : (items : List LogItem) (m : Mark) → checks replay_rewrite items ≡ None → first_mark 0 items ≡ Some m → own_items m.group items ≡ true
 unfolding own_items is_own
 batch-own items m e f =
     every_and (λ (it : LogItem). eqb it.group m.group && each_entry (entry_by (context Rewrite)) it.content) is_passed items
     (every_and (λ (it : LogItem). eqb it.group m.group) (λ (it : LogItem). each_entry (entry_by (context Rewrite)) it.content) items
-    (found_none (meets7 replay_rewrite (some m)) (λ (it : LogItem). eqb it.group m.group) (mark-own m) 0 items (ap (λ o. find_from (meets7 replay_rewrite o) 0 items) (sym f) ∙ (passed replay_rewrite items e).no-7))
+    (found_none (meets7 replay_rewrite (Some m)) (λ (it : LogItem). eqb it.group m.group) (mark-own m) 0 items (ap (λ o. find_from (meets7 replay_rewrite o) 0 items) (sym f) ∙ (passed replay_rewrite items e).no-7))
     (unfold writes in batch-queue replay_rewrite items e))
     (batch-passed items e)
 
@@ -299,7 +300,7 @@ pub every-placed : (p : LogItem → Bool) (i : ℕ) (xs : List LogItem) → ever
 unfolding placed_from
 every-placed p i [] h = unfold every in refl
 every-placed p i (x ∷ xs) h =
-    every-cons (λ (y : Placed). p y.item) (record { item = x; place = some i }) (placed_from (suc i) xs) (every-head p x xs h) (every-placed p (suc i) xs (every-tail p x xs h))
+    every-cons (λ (y : Placed). p y.item) (record { item = x; place = Some i }) (placed_from (suc i) xs) (every-head p x xs h) (every-placed p (suc i) xs (every-tail p x xs h))
 
 part-own : (g byte seq : ℕ) (p : Placed → Bool) (items : List LogItem) → own_items g items ≡ true → own_items g (part_of byte seq (select p (placed_from 0 items))).items ≡ true
 unfolding own_items part_of
@@ -308,8 +309,8 @@ part-own g byte seq p items h =
     ∙ every-selected (λ (x : Placed). is_own g x.item) p (placed_from 0 items) (every-placed (is_own g) 0 items h)
 
 -- a marked batch that passed the checks
-pub marked-keeps : (items : List LogItem) (m : Mark) (seq : ℕ) (c d : Context) → checks replay_rewrite items ≡ none → first_mark 0 items ≡ some m → KeptAt (context Rewrite) c → replay_marked m seq (placed_from 0 items) c ≡ ok d → KeptAt (context Rewrite) d
+pub marked-keeps : (items : List LogItem) (m : Mark) (seq : ℕ) (c d : Context) → checks replay_rewrite items ≡ None → first_mark 0 items ≡ Some m → KeptAt (context Rewrite) c → replay_marked m seq (placed_from 0 items) c ≡ Ok d → KeptAt (context Rewrite) d
 unfolding replay_marked
 marked-keeps items m seq c d e f h k =
-    accept-keeps (some m.at) m.group (part_of m.byte seq (select (λ x. not (is_mark x.item)) (placed_from 0 items))) (select (λ x. not (is_mark x.item)) (placed_from 0 items)) c d (part-own m.group m.byte seq (λ x. not (is_mark x.item)) items (batch-own items m e f))
+    accept-keeps (Some m.at) m.group (part_of m.byte seq (select (λ x. not (is_mark x.item)) (placed_from 0 items))) (select (λ x. not (is_mark x.item)) (placed_from 0 items)) c d (part-own m.group m.byte seq (λ x. not (is_mark x.item)) items (batch-own items m e f))
     (every-selected placed_rewrite (λ x. not (is_mark x.item)) (placed_from 0 items) (every-placed (λ (it : LogItem). each_entry (entry_by (context Rewrite)) it.content) 0 items (unfold writes in batch-queue replay_rewrite items e))) h k

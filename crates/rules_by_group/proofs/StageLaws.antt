@@ -6,7 +6,9 @@ use Rattle.std.proofs.Common.{◌∙◌, true≢false, arith, leb-true, le-leb, 
 use Rattle.std.proofs.Math.Bool.{true, or-true}
 use Rattle.std.proofs.lemmas.Bool.{false≢true}
 use mathlib.Core.List.{List, [], ◌∷◌, ◌++◌}
-use Rattle.std.proofs.Math.Option.{Option, none, some, none-ne-some, some-ne-none}
+use Rattle.std.specs.Prelude.{Option, None, Some}
+use Rattle.std.proofs.lemmas.Option.{none-some}
+use Rattle.maps.specs.ListLaws.{some-none}
 use Rattle.maps.specs.Lists.{any, every, or_else}
 use Rattle.maps.specs.Maps.{Pair, Map, lookup, insert, numbers}
 use Rattle.maps.specs.BoolLaws.{both, both_left, both_right}
@@ -14,7 +16,7 @@ use Rattle.maps.specs.ListLaws.{any_append, every-from}
 use Rattle.maps.specs.OrderLaws.{split, numbers_lawful}
 use Rattle.maps.specs.MapLaws.{Ascending, ascending-nil, ascending-insert, lookup-insert_same, lookup-insert-other, ext, length-insert-none, every-insert, every-lookup, length-sub}
 use Rattle.rules.specs.Limits.{max_groups}
-use Rattle.rules.specs.Causes.{Cause, Refusal, Result, ok, refused, refuse, and_then, limit_passed}
+use Rattle.rules.specs.Causes.{Cause, Refusal, Result, Ok, Err, refuse, and_then, LimitPassed}
 use Rattle.rules.specs.Items.{LogItem}
 use Rattle.rules.specs.Table.{Table}
 use Rattle.rules.specs.Context.{Context, with_groups, table_fits, waiting_fits, fits, limited}
@@ -48,23 +50,23 @@ cond-not false x y = refl
 
 -- ---- one group's result
 
-pub stage-fits : (g : ℕ) (s : Staged) (t : Table) → (table_fits t && ltb (length s.groups) max_groups) ≡ true → stage_result g (ok (some t)) s ≡ record { groups = insert numbers g t s.groups; clashed = s.clashed; passed = s.passed }
+pub stage-fits : (g : ℕ) (s : Staged) (t : Table) → (table_fits t && ltb (length s.groups) max_groups) ≡ true → stage_result g (Ok (Some t)) s ≡ record { groups = insert numbers g t s.groups; clashed = s.clashed; passed = s.passed }
 unfolding stage_result
 stage-fits g s t e = rw e
 
-pub stage-passes : (g : ℕ) (s : Staged) (t : Table) → (table_fits t && ltb (length s.groups) max_groups) ≡ false → stage_result g (ok (some t)) s ≡ record { groups = s.groups; clashed = s.clashed; passed = true }
+pub stage-passes : (g : ℕ) (s : Staged) (t : Table) → (table_fits t && ltb (length s.groups) max_groups) ≡ false → stage_result g (Ok (Some t)) s ≡ record { groups = s.groups; clashed = s.clashed; passed = true }
 unfolding stage_result
 stage-passes g s t e = rw e
 
-pub stage-none : (g : ℕ) (s : Staged) → stage_result g (ok none) s ≡ s
+pub stage-none : (g : ℕ) (s : Staged) → stage_result g (Ok None) s ≡ s
 unfolding stage_result
 stage-none g s = refl
 
-pub stage-refused : (g : ℕ) (s : Staged) (x : Refusal) → stage_result g (refused x) s ≡ record { groups = s.groups; clashed = true; passed = s.passed }
+pub stage-refused : (g : ℕ) (s : Staged) (x : Refusal) → stage_result g (Err x) s ≡ record { groups = s.groups; clashed = true; passed = s.passed }
 unfolding stage_result
 stage-refused g s x = refl
 
-fits-insert : (g : ℕ) (t : Table) (s : Staged) → lookup numbers g s.groups ≡ none → groups_fit s.groups ≡ true → (table_fits t && ltb (length s.groups) max_groups) ≡ true → groups_fit (insert numbers g t s.groups) ≡ true
+fits-insert : (g : ℕ) (t : Table) (s : Staged) → lookup numbers g s.groups ≡ None → groups_fit s.groups ≡ true → (table_fits t && ltb (length s.groups) max_groups) ≡ true → groups_fit (insert numbers g t s.groups) ≡ true
 unfolding groups_fit
 fits-insert g t s n w f =
     let l = ltb-true (length s.groups) max_groups (both_right (table_fits t) (ltb (length s.groups) max_groups) f) in
@@ -75,48 +77,48 @@ fits-insert g t s n w f =
 module _ (at : ℕ → Result (Option Table)) where
   -- ---- one number
 
-  pub stage-again : (g : ℕ) (s : Staged) (t : Table) → lookup numbers g s.groups ≡ some t → stage_one at g s ≡ s
+  pub stage-again : (g : ℕ) (s : Staged) (t : Table) → lookup numbers g s.groups ≡ Some t → stage_one at g s ≡ s
   unfolding stage_one or_else
   stage-again g s t e = rw e
 
-  pub stage-new : (g : ℕ) (s : Staged) (r : Result (Option Table)) → lookup numbers g s.groups ≡ none → at g ≡ r → stage_one at g s ≡ stage_result g r s
+  pub stage-new : (g : ℕ) (s : Staged) (r : Result (Option Table)) → lookup numbers g s.groups ≡ None → at g ≡ r → stage_one at g s ≡ stage_result g r s
   unfolding stage_one or_else
   stage-new g s r e h = rw (e, h)
 
   -- the four ways of a number: nothing changes, a refusal, a table that fits, a limit passed
   stage_cases :
       {P : Type 0} (g : ℕ) (s : Staged)
-      → (stage_one at g s ≡ s → ((t : Table) → at g ≡ ok (some t) → lookup numbers g s.groups ≡ none → ⊥) → P)
-      → ((x : Refusal) → at g ≡ refused x → stage_one at g s ≡ record { groups = s.groups; clashed = true; passed = s.passed } → P)
-      → ((t : Table) → at g ≡ ok (some t) → lookup numbers g s.groups ≡ none → (table_fits t && ltb (length s.groups) max_groups) ≡ true → stage_one at g s ≡ record { groups = insert numbers g t s.groups; clashed = s.clashed; passed = s.passed } → P)
-      → ((t : Table) → at g ≡ ok (some t) → lookup numbers g s.groups ≡ none → (table_fits t && ltb (length s.groups) max_groups) ≡ false → stage_one at g s ≡ record { groups = s.groups; clashed = s.clashed; passed = true } → P)
+      → (stage_one at g s ≡ s → ((t : Table) → at g ≡ Ok (Some t) → lookup numbers g s.groups ≡ None → ⊥) → P)
+      → ((x : Refusal) → at g ≡ Err x → stage_one at g s ≡ record { groups = s.groups; clashed = true; passed = s.passed } → P)
+      → ((t : Table) → at g ≡ Ok (Some t) → lookup numbers g s.groups ≡ None → (table_fits t && ltb (length s.groups) max_groups) ≡ true → stage_one at g s ≡ record { groups = insert numbers g t s.groups; clashed = s.clashed; passed = s.passed } → P)
+      → ((t : Table) → at g ≡ Ok (Some t) → lookup numbers g s.groups ≡ None → (table_fits t && ltb (length s.groups) max_groups) ≡ false → stage_one at g s ≡ record { groups = s.groups; clashed = s.clashed; passed = true } → P)
       → P
   stage_cases g s same refuses stages passes =
       by_option (lookup numbers g s.groups)
       (λ e. by_result (at g)
       (λ o h. by_option o
-      (λ z. same (stage-new g s (ok none) e (h ∙ ap ok z) ∙ stage-none g s) (λ t k n. none-ne-some t (ok_inj (sym (h ∙ ap ok z) ∙ k))))
+      (λ z. same (stage-new g s (Ok None) e (h ∙ ap Ok z) ∙ stage-none g s) (λ t k n. none-some t (ok_inj (sym (h ∙ ap Ok z) ∙ k))))
       (λ t z. split (table_fits t && ltb (length s.groups) max_groups)
-      (λ f. stages t (h ∙ ap ok z) e f (stage-new g s (ok (some t)) e (h ∙ ap ok z) ∙ stage-fits g s t f))
-      (λ f. passes t (h ∙ ap ok z) e f (stage-new g s (ok (some t)) e (h ∙ ap ok z) ∙ stage-passes g s t f))))
-      (λ x h. refuses x h (stage-new g s (refused x) e h ∙ stage-refused g s x)))
-      (λ t e. same (stage-again g s t e) (λ u k n. some-ne-none t (sym e ∙ n)))
+      (λ f. stages t (h ∙ ap Ok z) e f (stage-new g s (Ok (Some t)) e (h ∙ ap Ok z) ∙ stage-fits g s t f))
+      (λ f. passes t (h ∙ ap Ok z) e f (stage-new g s (Ok (Some t)) e (h ∙ ap Ok z) ∙ stage-passes g s t f))))
+      (λ x h. refuses x h (stage-new g s (Err x) e h ∙ stage-refused g s x)))
+      (λ t e. same (stage-again g s t e) (λ u k n. some-none t (sym e ∙ n)))
 
   -- ---- what is staged is each group's own result, and fits
 
   pub record Own (s : Staged) : Type 0 where
     pub ascend : Ascending numbers s.groups
     pub within : groups_fit s.groups ≡ true
-    pub results : (g : ℕ) (t : Table) → lookup numbers g s.groups ≡ some t → at g ≡ ok (some t)
+    pub results : (g : ℕ) (t : Table) → lookup numbers g s.groups ≡ Some t → at g ≡ Ok (Some t)
 
   pub own-none : Own none_staged
   unfolding none_staged lookup groups_fit every
-  own-none = record { ascend = ascending-nil Table numbers; within = refl; results = λ g t e. absurd (none-ne-some t e) }
+  own-none = record { ascend = ascending-nil Table numbers; within = refl; results = λ g t e. absurd (none-some t e) }
 
-  own-insert : (g : ℕ) (t : Table) (m : Map ℕ Table) → at g ≡ ok (some t) → ((k : ℕ) (u : Table) → lookup numbers k m ≡ some u → at k ≡ ok (some u)) → (k : ℕ) (u : Table) → lookup numbers k (insert numbers g t m) ≡ some u → at k ≡ ok (some u)
+  own-insert : (g : ℕ) (t : Table) (m : Map ℕ Table) → at g ≡ Ok (Some t) → ((k : ℕ) (u : Table) → lookup numbers k m ≡ Some u → at k ≡ Ok (Some u)) → (k : ℕ) (u : Table) → lookup numbers k (insert numbers g t m) ≡ Some u → at k ≡ Ok (Some u)
   own-insert g t m e h k u l =
       split (eqb k g)
-      (λ s. rw (eqb-true k g s) (e ∙ ap ok (sym (lookup-insert_same numbers numbers_lawful g t m) ∙ rw (eqb-true k g s) at l)))
+      (λ s. rw (eqb-true k g s) (e ∙ ap Ok (sym (lookup-insert_same numbers numbers_lawful g t m) ∙ rw (eqb-true k g s) at l)))
       (λ s. h k u (sym (lookup-insert-other numbers numbers_lawful k g t m s) ∙ l))
 
   own_step : (g : ℕ) (s : Staged) → Own s → Own (stage_one at g s)
@@ -148,17 +150,17 @@ module _ (at : ℕ → Result (Option Table)) where
   clashed_all [] s h = h
   clashed_all (g ∷ gs) s h = clashed_all gs (stage_one at g s) (clashed_step g s h)
 
-  clashes_here : (g : ℕ) (s : Staged) (x : Refusal) → Own s → at g ≡ refused x → (stage_one at g s).clashed ≡ true
+  clashes_here : (g : ℕ) (s : Staged) (x : Refusal) → Own s → at g ≡ Err x → (stage_one at g s).clashed ≡ true
   clashes_here g s x w h =
       by_option (lookup numbers g s.groups)
-      (λ e. rw (stage-new g s (refused x) e h ∙ stage-refused g s x))
+      (λ e. rw (stage-new g s (Err x) e h ∙ stage-refused g s x))
       (λ t e. absurd (refused_not_ok (sym h ∙ w.results g t e)))
 
   in-cons : {P : Type 0} (g k : ℕ) (ks : List ℕ) → is_in g (k ∷ ks) ≡ true → (eqb g k ≡ true → P) → (is_in g ks ≡ true → P) → P
   unfolding is_in any
   in-cons g k ks e f h = split (eqb g k) (λ s. f s) (λ s. h (rw s at e))
 
-  clashes_all : (g : ℕ) (x : Refusal) → at g ≡ refused x → (gs : List ℕ) (s : Staged) → is_in g gs ≡ true → Own s → (stage_all at gs s).clashed ≡ true
+  clashes_all : (g : ℕ) (x : Refusal) → at g ≡ Err x → (gs : List ℕ) (s : Staged) → is_in g gs ≡ true → Own s → (stage_all at gs s).clashed ≡ true
   unfolding stage_all
   clashes_all g x h [] s i w = absurd (false≢true (unfold is_in any in i))
   clashes_all g x h (k ∷ ks) s i w =
@@ -168,17 +170,17 @@ module _ (at : ℕ → Result (Option Table)) where
 
   -- ---- no refusal: the groups make the map m
 
-  module _ (m : Map ℕ Table) (asc : Ascending numbers m) (is : (g : ℕ) → at g ≡ ok (lookup numbers g m)) where
+  module _ (m : Map ℕ Table) (asc : Ascending numbers m) (is : (g : ℕ) → at g ≡ Ok (lookup numbers g m)) where
     pub record SoFar (s : Staged) : Type 0 where
       pub own-results : Own s
       pub unclashed : s.clashed ≡ false
       pub over : s.passed ≡ true → groups_fit m ≡ false
 
-    at_map : (g : ℕ) (t : Table) → at g ≡ ok (some t) → lookup numbers g m ≡ some t
+    at_map : (g : ℕ) (t : Table) → at g ≡ Ok (Some t) → lookup numbers g m ≡ Some t
     at_map g t e = ok_inj (sym (is g) ∙ e)
 
     -- a table that does not fit, or a ninth group, is one of the map's
-    passes-map : (g : ℕ) (t : Table) (s : Staged) → Own s → lookup numbers g s.groups ≡ none → at g ≡ ok (some t) → (table_fits t && ltb (length s.groups) max_groups) ≡ false → groups_fit m ≡ false
+    passes-map : (g : ℕ) (t : Table) (s : Staged) → Own s → lookup numbers g s.groups ≡ None → at g ≡ Ok (Some t) → (table_fits t && ltb (length s.groups) max_groups) ≡ false → groups_fit m ≡ false
     passes-map g t s w n h f =
         split (groups_fit m)
         (λ e.
@@ -189,11 +191,11 @@ module _ (at : ℕ → Result (Option Table)) where
         absurd (true≢false (sym (both small (lt-ltb (length s.groups) max_groups (omega (arith, few, more, sub)))) ∙ f)))
         (λ e. e)
       where
-        none-there : (k : ℕ) → lookup numbers k m ≡ none → lookup numbers k (insert numbers g t s.groups) ≡ none
+        none-there : (k : ℕ) → lookup numbers k m ≡ None → lookup numbers k (insert numbers g t s.groups) ≡ None
         none-there k z =
             by_option (lookup numbers k (insert numbers g t s.groups))
             (λ e. e)
-            (λ u e. absurd (some-ne-none u (sym (at_map k u (own-insert g t s.groups h w.results k u e)) ∙ z)))
+            (λ u e. absurd (some-none u (sym (at_map k u (own-insert g t s.groups h w.results k u e)) ∙ z)))
 
     so_far-none : SoFar none_staged
     so_far-none = record { own-results = own-none; unclashed = unfold none_staged in refl; over = unfold none_staged in (λ e. absurd (false≢true e)) }
@@ -227,7 +229,7 @@ module _ (at : ℕ → Result (Option Table)) where
     unfolding Done
     done-is k s d = d
 
-    done-insert : (k g : ℕ) (t : Table) (s : Staged) → at g ≡ ok (some t) → lookup numbers k s.groups ≡ lookup numbers k m → lookup numbers k (insert numbers g t s.groups) ≡ lookup numbers k m
+    done-insert : (k g : ℕ) (t : Table) (s : Staged) → at g ≡ Ok (Some t) → lookup numbers k s.groups ≡ lookup numbers k m → lookup numbers k (insert numbers g t s.groups) ≡ lookup numbers k m
     done-insert k g t s h l =
         split (eqb k g)
         (λ e. rw (eqb-true k g e) (lookup-insert_same numbers numbers_lawful g t s.groups ∙ sym (at_map g t h)))
@@ -256,10 +258,10 @@ module _ (at : ℕ → Result (Option Table)) where
         (λ t h n f e. rw e (λ z. lookup-insert_same numbers numbers_lawful g t s.groups ∙ sym (at_map g t h)))
         (λ t h n f e. rw e (λ z. absurd (true≢false z)))
       where
-        same : ((t : Table) → at g ≡ ok (some t) → lookup numbers g s.groups ≡ none → ⊥) → lookup numbers g s.groups ≡ lookup numbers g m
+        same : ((t : Table) → at g ≡ Ok (Some t) → lookup numbers g s.groups ≡ None → ⊥) → lookup numbers g s.groups ≡ lookup numbers g m
         same n =
             by_option (lookup numbers g s.groups)
-            (λ e. by_option (lookup numbers g m) (λ z. e ∙ sym z) (λ t z. absurd (n t (is g ∙ ap ok z) e)))
+            (λ e. by_option (lookup numbers g m) (λ z. e ∙ sym z) (λ t z. absurd (n t (is g ∙ ap Ok z) e)))
             (λ t e. e ∙ sym (at_map g t (w.results g t e)))
 
     done_all : (k : ℕ) (gs : List ℕ) (s : Staged) → is_in k gs ≡ true → Own s → Done k (stage_all at gs s)
@@ -270,7 +272,7 @@ module _ (at : ℕ → Result (Option Table)) where
         (λ e. done-keep k gs (stage_one at g s) (rw (eqb-true k g e) (done_here g s w)))
         (λ j. done_all k gs (stage_one at g s) j (own_step g s w))
 
-    module _ (gs : List ℕ) (covers : (g : ℕ) → is_in g gs ≡ false → at g ≡ ok none) where
+    module _ (gs : List ℕ) (covers : (g : ℕ) → is_in g gs ≡ false → at g ≡ Ok None) where
       abbrev last : Staged
       last = stage_all at gs none_staged
 
@@ -289,24 +291,24 @@ module _ (at : ℕ → Result (Option Table)) where
           each : (g : ℕ) → lookup numbers g last.groups ≡ lookup numbers g m
           each g = split (is_in g gs) (λ i. done-is g last (done_all g gs none_staged i own-none) p) (λ i. out g i)
 
-      answered : (n : Cause) (rest : Context) → limited none (with_groups m rest) ≡ answer n rest last
+      answered : (n : Cause) (rest : Context) → limited None (with_groups m rest) ≡ answer n rest last
       unfolding limited answer
       answered n rest =
           split last.passed
           (λ p. rw (fits_split m rest, last-so_far.over p, last-so_far.unclashed, p))
-          (λ p. rw (fits_split m rest, last-so_far.unclashed, p, last-groups p, rw (last-groups p) at last-so_far.own-results.within) (cond-not (rest_fits rest) (ok (with_groups m rest)) (refuse limit_passed)))
+          (λ p. rw (fits_split m rest, last-so_far.unclashed, p, last-groups p, rw (last-groups p) at last-so_far.own-results.within) (cond-not (rest_fits rest) (Ok (with_groups m rest)) (refuse LimitPassed)))
 
 -- the answer of a map by group is that of its groups, staged over any list that covers, if every refusal of a group is n
 pub staged :
     (at : ℕ → Result (Option Table)) (r : Result (Map ℕ Table)) (gs : List ℕ) (n : Cause) (rest : Context)
     → ByGroup at r
-    → ((g : ℕ) (x : Refusal) → at g ≡ refused x → x ≡ refusal_of n)
-    → ((g : ℕ) → is_in g gs ≡ false → at g ≡ ok none)
-    → and_then r (λ m. limited none (with_groups m rest)) ≡ answer n rest (stage_all at gs none_staged)
+    → ((g : ℕ) (x : Refusal) → at g ≡ Err x → x ≡ refusal_of n)
+    → ((g : ℕ) → is_in g gs ≡ false → at g ≡ Ok None)
+    → and_then r (λ m. limited None (with_groups m rest)) ≡ answer n rest (stage_all at gs none_staged)
 unfolding ByGroup and_then
-staged at (ok m) gs n rest by only covers = answered at m by.0 by.1 gs covers n rest
-staged at (refused x) gs n rest by only covers =
-    ap (λ y. refused y) (only by.0 x by.1) ∙ (unfold answer in rw (clashes_all at by.0 x by.1 gs none_staged in_list_lem (own-none at)))
+staged at (Ok m) gs n rest by only covers = answered at m by.0 by.1 gs covers n rest
+staged at (Err x) gs n rest by only covers =
+    ap (λ y. Err y) (only by.0 x by.1) ∙ (unfold answer in rw (clashes_all at by.0 x by.1 gs none_staged in_list_lem (own-none at)))
   where
     in_list_lem : is_in by.0 gs ≡ true
     in_list_lem = split (is_in by.0 gs) (λ e. e) (λ e. absurd (refused_not_ok (sym by.1 ∙ covers by.0 e)))
@@ -318,11 +320,11 @@ pub answer-clashed : (n : Cause) (rest : Context) (s : Staged) → s.clashed ≡
 unfolding answer
 answer-clashed n rest s e = rw e
 
-pub answer-passed : (n : Cause) (rest : Context) (s : Staged) → s.clashed ≡ false → (s.passed || not (rest_fits rest)) ≡ true → answer n rest s ≡ refuse limit_passed
+pub answer-passed : (n : Cause) (rest : Context) (s : Staged) → s.clashed ≡ false → (s.passed || not (rest_fits rest)) ≡ true → answer n rest s ≡ refuse LimitPassed
 unfolding answer
 answer-passed n rest s e p = rw (e, p)
 
-pub answer_ok : (n : Cause) (rest : Context) (s : Staged) → s.clashed ≡ false → (s.passed || not (rest_fits rest)) ≡ false → answer n rest s ≡ ok (with_groups s.groups rest)
+pub answer_ok : (n : Cause) (rest : Context) (s : Staged) → s.clashed ≡ false → (s.passed || not (rest_fits rest)) ≡ false → answer n rest s ≡ Ok (with_groups s.groups rest)
 unfolding answer
 answer_ok n rest s e p = rw (e, p)
 

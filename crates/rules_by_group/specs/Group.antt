@@ -1,8 +1,8 @@
 -- What a merge and a join make of one group, from what the two contexts have of it alone. The older table, or none, is taken; a waiting
 -- part that finishes is replayed on it and its span set; the newer tombstones of the group follow in order; the newer table is laid over.
 use Rattle.std.specs.Prelude.{cond, List, [], ◌∷◌, ◌++◌, ℕ, eqb}
-use Rattle.std.proofs.Math.Option.{Option, none, some}
-use Rattle.rules.specs.Causes.{Result, ok, refuse, and_then, left, files_go_back}
+use Rattle.std.specs.Prelude.{Option, None, Some}
+use Rattle.rules.specs.Causes.{Result, Ok, refuse, and_then, left, FilesGoBack}
 use Rattle.maps.specs.Lists.{last, or_else}
 use Rattle.maps.specs.MapLaws.{laid}
 use Rattle.rules.specs.Items.{LogQueue, clean, compact, put, del, Content, entries, command, kv, LogItem, is_reserved, is_clean, is_tombstone, Call, replay_rewrite}
@@ -15,17 +15,17 @@ use Rattle.rules.specs.Calls.{clashes, clash, merge_table, join_table}
 
 -- what an item does to its own group; a reserved one is skipped
 unfoldable pub changed : Call → Content → Option Table → Result (Option Table)
-changed call x o = cond (is_reserved x) (ok o) (change call x o)
+changed call x o = cond (is_reserved x) (Ok o) (change call x o)
 
 -- ---- tombstones
 
 -- what a tombstone does to its own group in every call but a live rewrite; it is never refused. No other item does anything here.
 unfoldable pub effect : Content → Option Table → Option Table
 effect (entries es) o = o
-effect (command clean) o = none
-effect (command (compact i)) o = some (compacted i (made o))
+effect (command clean) o = None
+effect (command (compact i)) o = Some (compacted i (made o))
 effect (kv k (put v f)) o = o
-effect (kv k del) o = some (delete_key k (made o))
+effect (kv k del) o = Some (delete_key k (made o))
 
 unfoldable pub effected : Content → Option Table → Option Table
 effected x o = cond (is_reserved x) o (effect x o)
@@ -54,9 +54,9 @@ parts_of o = or_else [] (λ ps. ps) o
 
 -- a new part accepted by a group's parts: those that wait afterwards
 unfoldable pub waits : Accepted → Result (Option (List Part))
-waits (wait ps) = ok (some_parts ps)
-waits (finish old ps) = ok (some_parts ps)
-waits back = refuse files_go_back
+waits (wait ps) = Ok (some_parts ps)
+waits (finish old ps) = Ok (some_parts ps)
+waits back = refuse FilesGoBack
 
 unfoldable pub accept_part : Part → Option (List Part) → Result (Option (List Part))
 accept_part new o = waits (accept (parts_of o) new)
@@ -67,13 +67,13 @@ pub record Finished : Type 0 where
   pub span : Span
 
 unfoldable pub finished_by : Part → Accepted → Option Finished
-finished_by new (wait ps) = none
-finished_by new (finish old ps) = some (record { items = old.items ++ new.items; span = record { start = old.start; end = new.end } })
-finished_by new back = none
+finished_by new (wait ps) = None
+finished_by new (finish old ps) = Some (record { items = old.items ++ new.items; span = record { start = old.start; end = new.end } })
+finished_by new back = None
 
 -- what a merge finishes of a group: the oldest newer part may finish the newest older one, and no other can
 unfoldable pub finished_of : Option (List Part) → Option (List Part) → Option Finished
-finished_of newer older = or_else none (λ p. finished_by p (accept (parts_of older) p)) (last (parts_of newer))
+finished_of newer older = or_else None (λ p. finished_by p (accept (parts_of older) p)) (last (parts_of newer))
 
 -- Rewrite replay refuses no item
 unfoldable pub replayed_items : List LogItem → Option Table → Option Table
@@ -82,19 +82,19 @@ replayed_items (x ∷ xs) o = replayed_items xs (left o (changed replay_rewrite 
 
 -- the span is set if there is an item; it makes the group
 unfoldable pub finish_with : Span → List LogItem → Option Table → Result (Option Table)
-finish_with s [] o = ok o
-finish_with s (x ∷ xs) o = and_then (spanned s (made (replayed_items (x ∷ xs) o))) (λ t. ok (some t))
+finish_with s [] o = Ok o
+finish_with s (x ∷ xs) o = and_then (spanned s (made (replayed_items (x ∷ xs) o))) (λ t. Ok (Some t))
 
 unfoldable pub finish_table : Option Finished → Option Table → Result (Option Table)
-finish_table none o = ok o
-finish_table (some f) o = finish_with f.span f.items o
+finish_table None o = Ok o
+finish_table (Some f) o = finish_with f.span f.items o
 
 -- ---- the group
 
 -- the newer table, if there is one, laid over
 unfoldable pub lay_over : LogQueue → Option Table → Option Table → Result (Option Table)
-lay_over q none o = ok o
-lay_over q (some newer) o = cond (clashes q o newer) (refuse (clash q)) (ok (some (merge_table q o newer)))
+lay_over q None o = Ok o
+lay_over q (Some newer) o = cond (clashes q o newer) (refuse (clash q)) (Ok (Some (merge_table q o newer)))
 
 -- group g of a merge: what finishes, the newer tombstones, the newer and the older table
 unfoldable pub merged_group : LogQueue → ℕ → Option Finished → List LogItem → Option Table → Option Table → Result (Option Table)
@@ -110,10 +110,10 @@ keys_over newer t = with_keys (over_keys t.keys newer.keys) t
 
 -- a newer table's span, if it has one, replaces t's
 unfoldable pub span_over : Option Span → Table → Table
-span_over none t = t
-span_over (some s) t = with_span (some s) t
+span_over None t = t
+span_over (Some s) t = with_span (Some s) t
 
 -- or is refused, if files go back
 unfoldable pub spanned_by : Option Span → Table → Result Table
-spanned_by none t = ok t
-spanned_by (some s) t = spanned s t
+spanned_by None t = Ok t
+spanned_by (Some s) t = spanned s t

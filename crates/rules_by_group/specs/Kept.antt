@@ -1,6 +1,6 @@
 -- What every context keeps through every call, and the merge and the join rest on.
 use Rattle.std.specs.Prelude.{◌≤◌, length, Bool, true, false, not, ◌&&◌, List, [], ◌∷◌, ◌≡◌, ℕ, eqb}
-use Rattle.std.proofs.Math.Option.{Option}
+use Rattle.std.specs.Prelude.{Option}
 use Rattle.maps.specs.Lists.{every}
 use Rattle.maps.specs.Maps.{Pair, numbers}
 use Rattle.maps.specs.MapLaws.{Ascending}

@@ -1,9 +1,9 @@
 -- A merge and a join worked group by group: the groups are staged one after the other, and the answer is read off at the end. 18 is for the
 -- end state alone, so a limit that is passed does not end the work: a refusal may still come.
 use Rattle.std.specs.Prelude.{Bool, true, false, cond, not, ◌&&◌, ◌||◌, List, [], ◌∷◌, ◌++◌, reverse, ◌≡◌, ℕ, leb, ltb, eqb, length}
-use Rattle.std.proofs.Math.Option.{Option, none, some}
+use Rattle.std.specs.Prelude.{Option, None, Some}
 use Rattle.rules.specs.Limits.{max_groups, max_tombstones, max_cleaned}
-use Rattle.rules.specs.Causes.{Cause, Result, ok, refused, refuse, and_then, in_order, limit_passed}
+use Rattle.rules.specs.Causes.{Cause, Result, Ok, Err, refuse, and_then, in_order, LimitPassed}
 use Rattle.maps.specs.Lists.{select, any, every, or_else}
 use Rattle.maps.specs.Maps.{Pair, Map, lookup, insert, store, numbers}
 use Rattle.rules.specs.Items.{LogQueue, LogItem, is_tombstone}
@@ -25,9 +25,9 @@ none_staged = record { groups = []; clashed = false; passed = false }
 
 -- group g's result taken into the staged groups
 unfoldable pub stage_result : ℕ → Result (Option Table) → Staged → Staged
-stage_result g (refused r) s = record { groups = s.groups; clashed = true; passed = s.passed }
-stage_result g (ok none) s = s
-stage_result g (ok (some t)) s =
+stage_result g (Err r) s = record { groups = s.groups; clashed = true; passed = s.passed }
+stage_result g (Ok None) s = s
+stage_result g (Ok (Some t)) s =
     cond (table_fits t && ltb (length s.groups) max_groups)
     (record { groups = insert numbers g t s.groups; clashed = s.clashed; passed = s.passed })
     (record { groups = s.groups; clashed = s.clashed; passed = true })
@@ -51,13 +51,13 @@ unfoldable pub answer : Cause → Context → Staged → Result Context
 answer n rest s =
     cond s.clashed
     (refuse n)
-    (cond (s.passed || not (rest_fits rest)) (refuse limit_passed) (ok (with_groups s.groups rest)))
+    (cond (s.passed || not (rest_fits rest)) (refuse LimitPassed) (Ok (with_groups s.groups rest)))
 
 -- ---- a merge
 
 -- what waits after one group's newer parts, the oldest first
 unfoldable pub accept_parts_of : Pair ℕ (List Part) → Map ℕ (List Part) → Result (Map ℕ (List Part))
-accept_parts_of x w = and_then (in_order accept_part (reverse x.val) (lookup numbers x.key w)) (λ o. ok (store numbers x.key o w))
+accept_parts_of x w = and_then (in_order accept_part (reverse x.val) (lookup numbers x.key w)) (λ o. Ok (store numbers x.key o w))
 
 -- what waits after all newer parts, groups ascending; refused if files go back
 unfoldable pub waiting_after : Map ℕ (List Part) → Map ℕ (List Part) → Result (Map ℕ (List Part))
@@ -69,7 +69,7 @@ tombs_in f = or_else [] (λ (x : Finished). select (λ it. is_tombstone it.conte
 
 unfoldable pub finished_tombs : Map ℕ (List Part) → Map ℕ (List Part) → List LogItem
 finished_tombs [] older = []
-finished_tombs (x ∷ xs) older = tombs_in (finished_of (some x.val) (lookup numbers x.key older)) ++ finished_tombs xs older
+finished_tombs (x ∷ xs) older = tombs_in (finished_of (Some x.val) (lookup numbers x.key older)) ++ finished_tombs xs older
 
 -- all but the groups: the lists grow, and w waits
 unfoldable pub merged_rest : Context → Map ℕ (List Part) → Context → Context
@@ -98,7 +98,7 @@ unfoldable pub joined_rest : Context → Context → Context
 joined_rest newer c = record { kind = index; groups = []; tombstones = []; cleaned = c.cleaned ++ newer.cleaned; waiting = [] }
 
 unfoldable pub joined_at : Context → Context → ℕ → Result (Option Table)
-joined_at newer c g = ok (joined_group g newer.tombstones (lookup numbers g newer.groups) (lookup numbers g c.groups))
+joined_at newer c g = Ok (joined_group g newer.tombstones (lookup numbers g newer.groups) (lookup numbers g c.groups))
 
 -- the join of the Append context `newer` to the Rewrite context c; no group is refused, so that n is never given
 unfoldable pub joined_by : Cause → Context → Context → List ℕ → Result Context

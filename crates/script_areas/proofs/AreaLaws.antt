@@ -1,19 +1,14 @@
 -- An area among eight: it is lent, comes back, and the others are as they were. Assumes nothing.
 use mathlib.Core.List.{List}
-use mathlib.Core.Path.{◌≡◌, sym, ◌∙◌}
-use Prim.Native.Nat.{ℕ, ◌+◌, ◌-◌, ◌*◌, ◌≤◌, ◌<◌}
+use mathlib.Core.Path.{◌≡◌, ◌∙◌}
+use Prim.Native.Nat.{ℕ, ◌+◌, ◌-◌, ◌*◌, ◌<◌}
 use native.Mathlib.Decide.{dec_lt}
 use native.Mathlib.Omega.{arith}
-use lib.ListN.{length, get_or, take, drop}
-use lib.Seq.{get_or-drop}
+use lib.ListN.{length, take, drop}
 use borrow.Rule.Slice.PartMut.{put_mid}
 use Rattle.cells.specs.Part.{part, put}
-use Rattle.cells.specs.PartLaws.{length_part, length-put, part-put_same, part-put-before, part-put-after, put_all, loan-put}
-use Rattle.rules.specs.Items.{Append}
-use Rattle.rules.specs.Context.{context, with_groups, with_waiting}
-use Rattle.lists.specs.Rest.{kind_of}
-use Rattle.lists.specs.Laws.{rest-kind}
-use Rattle.contexts.specs.Contexts.{area_numbers, area_bytes, rest_at, context_of, Wf}
+use Rattle.cells.specs.PartLaws.{length_part, length-put, part-put_same, part-put-before, part-put-after, loan-put}
+use Rattle.contexts.specs.Contexts.{area_numbers, area_bytes, Wf}
 use Rattle.contexts.specs.AreaLaws.{formed_of, area-length, area-bytes}
 use Rattle.script_areas.specs.Areas.{Areas}
 
@@ -21,11 +16,6 @@ use Rattle.script_areas.specs.Areas.{Areas}
 
 pub lengths-are : (xs bs : List ℕ) → Wf xs bs → (length xs ≡ area_numbers) × (length bs ≡ area_bytes)
 lengths-are xs bs w = (area-length xs bs (formed_of xs bs w), area-bytes xs bs (formed_of xs bs w))
-
--- the kind 0 is that of an Append context
-pub append-kind : (xs bs : List ℕ) → get_or xs 9376 0 ≡ 0 → (context_of xs bs).kind ≡ context Append
-unfolding context_of rest_at with_groups with_waiting kind_of
-append-kind xs bs e = rest-kind (drop 9376 xs) (drop 16384 bs) ∙ rw (get_or-drop 9376 xs 0 0, e)
 
 -- ---- an area among eight
 
@@ -44,12 +34,6 @@ lent-lengths n k xs bs a l =
 
 pub lent_wf : (k : ℕ) (xs bs : List ℕ) → Areas 8 xs bs → k < 8 → Wf (take (k * area_numbers + area_numbers - k * area_numbers) (drop (k * area_numbers) xs)) (take (k * area_bytes + area_bytes - k * area_bytes) (drop (k * area_bytes) bs))
 lent_wf k xs bs a l = rw (lent k area_numbers xs, lent k area_bytes bs) (a.each k l)
-
--- a copy of it
-pub copied_wf : (k : ℕ) (xs bs ys cs ys' cs' : List ℕ) → Areas 8 xs bs → k < 8 → length ys ≡ area_numbers → length cs ≡ area_bytes → ys' ≡ put ys 0 (take (k * area_numbers + area_numbers - k * area_numbers) (drop (k * area_numbers) xs)) → cs' ≡ put cs 0 (take (k * area_bytes + area_bytes - k * area_bytes) (drop (k * area_bytes) bs)) → Wf ys' cs'
-copied_wf k xs bs ys cs ys' cs' a l p q e f =
-    let m = lent-lengths 8 k xs bs a l in
-    rw (e, f, put_all ys _ (m.0 ∙ sym p), put_all cs _ (m.1 ∙ sym q)) (lent_wf k xs bs a l)
 
 module _ (k : ℕ) (xs bs s t : List ℕ) (l : k < 8) (x : length xs ≡ 8 * area_numbers) (b : length bs ≡ 8 * area_bytes) (w : Wf s t) where
   s-are : length s ≡ area_numbers
@@ -107,10 +91,6 @@ module _ (k : ℕ) (xs bs s t : List ℕ) (l : k < 8) (x : length xs ≡ 8 * are
         each = λ j h. each n j a (behind j h) (front j h);
       })
 
--- no area is made yet
-pub none_made : (xs bs : List ℕ) → length xs ≡ 8 * area_numbers → length bs ≡ 8 * area_bytes → Areas 0 xs bs
-none_made xs bs x b = record { numbers-are = x; bytes-are = b; each = λ k h. absurd (let z : ⊥ = omega arith in z) }
-
 -- one more area is made
 pub one_more_lem : (k : ℕ) (xs bs s t : List ℕ) → k < 8 → Areas k xs bs → Wf s t → Areas (k + 1) (put_mid (k * area_numbers) (k * area_numbers + area_numbers - k * area_numbers) xs s) (put_mid (k * area_bytes) (k * area_bytes + area_bytes - k * area_bytes) bs t)
 one_more_lem k xs bs s t l a w =
@@ -120,7 +100,3 @@ one_more_lem k xs bs s t l a w =
 pub one-changed : (k : ℕ) (xs bs s t : List ℕ) → k < 8 → Areas 8 xs bs → Wf s t → Areas 8 (put_mid (k * area_numbers) (k * area_numbers + area_numbers - k * area_numbers) xs s) (put_mid (k * area_bytes) (k * area_bytes + area_bytes - k * area_bytes) bs t)
 one-changed k xs bs s t l a w =
     laid k xs bs s t l a.numbers-are a.bytes-are w 8 8 a (λ j h g. h) (λ j h g. h)
-
--- the last area is made
-pub all_made : (k : ℕ) (xs bs : List ℕ) → Areas k xs bs → 8 ≤ k → Areas 8 xs bs
-all_made k xs bs a g = record { numbers-are = a.numbers-are; bytes-are = a.bytes-are; each = λ j l. a.each j (omega arith) }

@@ -3,46 +3,34 @@ ghost use Rattle.std.specs.Prelude.{◌≤◌, length};
 ghost use Rattle.contexts.specs.Contexts.{Wf};
 
 use crate::writing::write;
-use scripts::{HEAD, LISTED, Row, ask, is_listed, is_told, told_answer, told_taken};
+use scripts::{HEAD, LISTED, Row, ask, is_listed, is_told, told_answer, told_count};
 
 // `take_cleaned_region_logs`, with room for so many numbers.
 fn cleaned(row: Row, xs: &mut [u64], bs: &[u8], want: &[u64]) -> bool
     requires { Wf xs.old bs.now }
     ensures { Wf xs.new bs.now }
 {
-    let room = row.room as usize;
-    if LISTED < room {
+    let mut list = [0; LISTED];
+    let Some(lent) = list.get_mut(..row.room as usize) else {
         return false;
-    }
-    let mut list = [0u64; LISTED];
-    let answer = index::take_cleaned_region_logs(xs, bs, &mut list[..room]);
-    is_listed(told_taken(answer), list, want)
+    };
+    let answer = index::take_cleaned_region_logs(xs, bs, lent);
+    is_listed(told_count(answer), list, want)
 }
 
 // The numbers from place a to place b, or none where there are no such places.
 fn between(numbers: &[u64], a: usize, b: usize) -> &[u64] {
-    if numbers.len() < b {
-        return &numbers[..0];
-    }
-    if b < a {
-        return &numbers[..0];
-    }
-    &numbers[a..b]
+    numbers.get(a..b).unwrap_or(&[])
 }
 
 // The numbers of a list as bytes, as many as there is room for; of a higher number the last eight bits.
 fn narrow(list: &[u64], out: &mut [u8]) -> usize
     ensures { result ≤ length out.old }
 {
-    let mut i = 0;
-    while i < list.len() {
-        if out.len() <= i {
-            return i;
-        }
-        out[i] = (list[i] % 256) as u8;
-        i += 1;
+    for (byte, number) in out.iter_mut().zip(list) {
+        *byte = (*number % 256) as u8;
     }
-    i
+    list.len().min(out.len())
 }
 
 // Makes a call with its bytes: below 6 those that write, 9 the cleaned numbers, and above it the queries.
@@ -57,10 +45,10 @@ fn make(row: Row, xs: &mut [u64], bs: &mut [u8], numbers: &[u64], bytes: &[u8]) 
         return is_told(told_answer(answer), numbers, row.bytes as usize);
     }
     let want = between(numbers, row.bytes as usize, numbers.len());
-    if row.what == 9 {
-        return cleaned(row, xs, bs, want);
+    match row.what {
+        9 => cleaned(row, xs, bs, want),
+        _ => ask(row, xs, bs, bytes, want),
     }
-    ask(row, xs, bs, bytes, want)
 }
 
 // Makes the call that stands in some numbers, and says whether it is answered as stored.
@@ -68,7 +56,7 @@ pub fn call(row: Row, xs: &mut [u64], bs: &mut [u8], numbers: &[u64]) -> bool
     requires { Wf xs.old bs.old }
     ensures { Wf xs.new bs.new }
 {
-    let mut buffer = [0u8; 512];
+    let mut buffer = [0; 512];
     let lent = between(numbers, row.entries as usize, row.bytes as usize);
     let n = narrow(lent, &mut buffer);
     make(row, xs, bs, numbers, &buffer[..n])

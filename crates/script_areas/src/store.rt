@@ -5,8 +5,8 @@ ghost use Rattle.script_areas.specs.Areas.{Areas};
 
 use crate::calls::call;
 use crate::writing::unite;
-use index::{Answer, BYTES, NUMBERS};
-use pipe_log::LogQueue;
+use index::{BYTES, NUMBERS};
+use pipe_log::{LogQueue, Refusal};
 use scripts::{Row, is_told, row_of, told_answer};
 
 // How many areas there are, and how many numbers and bytes they have in all.
@@ -22,11 +22,13 @@ fn fresh_at(xs: &mut [u64], bs: &mut [u8], k: usize)
     requires areas { Areas k xs.old bs.old }
     ensures { Areas (k + 1) xs.new bs.new }
 {
-    let a = k * NUMBERS;
-    let e = a + NUMBERS;
-    let c = k * BYTES;
-    let d = c + BYTES;
-    index::fresh(&mut xs[a..e], &mut bs[c..d], LogQueue::Append);
+    let number = k * NUMBERS;
+    let byte = k * BYTES;
+    index::fresh(
+        &mut xs[number..number + NUMBERS],
+        &mut bs[byte..byte + BYTES],
+        LogQueue::Append,
+    );
 }
 
 // Makes every area a fresh context.
@@ -34,10 +36,8 @@ pub fn fresh_all(xs: &mut [u64], bs: &mut [u8])
     requires { (length xs.old ≡ 8 * area_numbers) × (length bs.old ≡ 8 * area_bytes) }
     ensures { Areas 8 xs.new bs.new }
 {
-    let mut k = 0;
-    while k < AREAS {
+    for k in 0..AREAS {
         fresh_at(xs, bs, k);
-        k += 1;
     }
 }
 
@@ -48,35 +48,50 @@ fn copy_area(xs: &[u64], bs: &[u8], k: usize, ys: &mut [u64], cs: &mut [u8])
     requires ys_len { (length ys.old ≡ area_numbers) × (length cs.old ≡ area_bytes) }
     ensures { Wf ys.new cs.new }
 {
-    let a = k * NUMBERS;
-    let e = a + NUMBERS;
-    let c = k * BYTES;
-    let d = c + BYTES;
-    cells::copy_in_u64(ys, 0, &xs[a..e]);
-    cells::copy_in_u8(cs, 0, &bs[c..d]);
+    let number = k * NUMBERS;
+    let byte = k * BYTES;
+    ys.copy_from_slice(&xs[number..number + NUMBERS]);
+    cs.copy_from_slice(&bs[byte..byte + BYTES]);
 }
 
 // Merges another context into that of area k, or joins it.
-fn unite_at(k: usize, what: u64, xs: &mut [u64], bs: &mut [u8], ys: &[u64], cs: &[u8]) -> Answer
+fn unite_at(
+    k: usize,
+    what: u64,
+    xs: &mut [u64],
+    bs: &mut [u8],
+    ys: &[u64],
+    cs: &[u8],
+) -> Result<(), Refusal>
     requires k_bound { k < 8 }
     requires areas { Areas 8 xs.old bs.old × Wf ys.now cs.now }
     ensures { Areas 8 xs.new bs.new }
 {
-    let a = k * NUMBERS;
-    let e = a + NUMBERS;
-    let c = k * BYTES;
-    let d = c + BYTES;
-    unite(what, &mut xs[a..e], &mut bs[c..d], ys, cs)
+    let number = k * NUMBERS;
+    let byte = k * BYTES;
+    unite(
+        what,
+        &mut xs[number..number + NUMBERS],
+        &mut bs[byte..byte + BYTES],
+        ys,
+        cs,
+    )
 }
 
 // Merges a copy of the context of another area into that of area k, or joins it.
-fn unite_areas(k: usize, other: usize, what: u64, xs: &mut [u64], bs: &mut [u8]) -> Answer
+fn unite_areas(
+    k: usize,
+    other: usize,
+    what: u64,
+    xs: &mut [u64],
+    bs: &mut [u8],
+) -> Result<(), Refusal>
     requires k_bound { (k < 8) × (other < 8) }
     requires areas { Areas 8 xs.old bs.old }
     ensures { Areas 8 xs.new bs.new }
 {
-    let mut ys = [0u64; NUMBERS];
-    let mut cs = [0u8; BYTES];
+    let mut ys = [0; NUMBERS];
+    let mut cs = [0; BYTES];
     copy_area(xs, bs, other, &mut ys, &mut cs);
     unite_at(k, what, xs, bs, &ys, &cs)
 }
@@ -87,11 +102,14 @@ fn call_at(k: usize, row: Row, xs: &mut [u64], bs: &mut [u8], numbers: &[u64]) -
     requires areas { Areas 8 xs.old bs.old }
     ensures { Areas 8 xs.new bs.new }
 {
-    let a = k * NUMBERS;
-    let e = a + NUMBERS;
-    let c = k * BYTES;
-    let d = c + BYTES;
-    call(row, &mut xs[a..e], &mut bs[c..d], numbers)
+    let number = k * NUMBERS;
+    let byte = k * BYTES;
+    call(
+        row,
+        &mut xs[number..number + NUMBERS],
+        &mut bs[byte..byte + BYTES],
+        numbers,
+    )
 }
 
 // Makes the call that stands in some numbers on the area that it names, and says whether the answer is as stored. The calls 2 and 3
@@ -104,10 +122,7 @@ pub fn run(numbers: &[u64], xs: &mut [u64], bs: &mut [u8]) -> bool
     let row = row_of(numbers);
     let k = row.area as usize;
     let other = row.other as usize;
-    if AREAS <= k {
-        return false;
-    }
-    if AREAS <= other {
+    if AREAS <= k || AREAS <= other {
         return false;
     }
     if row.what / 2 == 1 {

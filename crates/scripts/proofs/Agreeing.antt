@@ -1,31 +1,26 @@
 -- Lists that agree number by number. Assumes nothing.
-use mathlib.Core.Bool.{Bool, true, false, false≢true}
+use mathlib.Core.Bool.{Bool, true}
 use mathlib.Core.List.{List}
 use mathlib.Core.Path.{◌≡◌}
-use Prim.Native.Nat.{ℕ, ◌+◌, ◌≤◌}
-use native.Mathlib.Decide.{dec_lt}
+use Prim.Native.Nat.{ℕ, ◌≤◌}
+use lib.ListN.{length, get_or, drop}
+use lib.Seq.{take_all}
 use native.Mathlib.Omega.{arith}
-use lib.ListN.{get_or}
-use Rattle.scripts.specs.Agreement.{Agree, SameNumbers, Stored}
+use Rattle.std.proofs.Common.{sym, ap, ◌∙◌, ◌++◌, length-append}
+use Rattle.std.proofs.Math.ListN.{get_or-append}
+use Rattle.std.proofs.lemmas.List.{get_or-drop, length-drop}
+use Rattle.std.specs.List.{slice_range, starts_with}
+use Rattle.std.proofs.lemmas.Slice.Eq.{starts_is}
+use Rattle.std.proofs.lemmas.Bool.Decides.{Decides-eqb}
+use Rattle.std.proofs.Math.Dec.{eqb}
+use Rattle.scripts.specs.Agreement.{SameNumbers}
 
--- nothing is said where a comparison comes out false
-pub not_same : (got : List ℕ) (n : ℕ) (want : List ℕ) (at : ℕ) → SameNumbers got n want at false
-not_same got n want at = record { same = λ e. absurd (false≢true e); there = λ e. absurd (false≢true e) }
-
-pub not-stored : (want : List ℕ) → Stored want false
-not-stored want = record { there = λ e. absurd (false≢true e) }
-
--- an answer was told as stored before
-pub was_told : (told want : List ℕ) (q r : Bool) → SameNumbers told 3 want 0 q → q ≡ true → Stored want r
-was_told told want q r s e = record { there = λ f. s.there e }
-
-module _ (got want : List ℕ) (at : ℕ) where
-  pub none_yet : Agree got 0 want at
-  none_yet = record { same = λ i h. absurd (let z : ⊥ = omega arith in z) }
-
-  pub one_more_lem : (n : ℕ) → Agree got n want at → get_or want (at + n) 0 ≡ get_or got n 0 → Agree got (n + 1) want at
-  one_more_lem n a e =
-      record { same = λ i h. elim (dec_lt i n) [ yes l ↦ a.same i l | no l ↦ let q : i ≡ n = omega arith in rw q e ] }
-
-  pub fewer : (n m : ℕ) → Agree got n want at → m ≤ n → Agree got m want at
-  fewer n m a h = record { same = λ i l. a.same i (omega arith) }
+-- a list that stands at the front of what is stored from a place on
+pub prefix_agrees : (got want s : List ℕ) (at : ℕ) (r : Bool) → at ≤ length want → s ≡ slice_range want at (length want) → r ≡ starts_with eqb s got → SameNumbers got (length got) want at r
+prefix_agrees got want s at r l q e =
+    let d : s ≡ drop at want = q ∙ take_all _ _ (let n = length-drop at want in omega arith) in
+    let p : r ≡ true → s ≡ got ++ drop (length got) s = (starts_is Decides-eqb s got r e).0 in
+    record {
+      same = λ t. record { same = λ i h. sym (get_or-drop at want i 0) ∙ ap (λ xs. get_or xs i 0) (sym d ∙ p t) ∙ get_or-append got _ 0 i h };
+      there = λ t. let n = ap length d ∙ length-drop at want in let m = ap length (p t) ∙ length-append got _ in omega arith;
+    }

@@ -1,7 +1,7 @@
 -- What holds where a comparison comes out true.
-use Rattle.std.specs.Prelude.{Bool, true, List, [], ◌∷◌, ◌≡◌, ℕ, ◌+◌, ◌≤◌, ◌<◌, length, get_or}
+use Rattle.std.specs.Prelude.{None, Some, Option, Bool, true, List, [], ◌∷◌, ◌≡◌, ℕ, ◌+◌, ◌≤◌, ◌<◌, length, get_or}
 use Rattle.pipe_log.specs.Numbers.{queue_number, compression_number}
-use Rattle.pipe_log.specs.declared.EntryBlock as block
+use Rattle.pipe_log.specs.declared.FileBlockHandle.{FileBlockHandle}
 use Rattle.pipe_log.specs.declared.EntryIndex.{EntryIndex}
 
 -- the first n of a list are stored from a place on
@@ -17,9 +17,9 @@ pub record Stored (want : List ℕ) (r : Bool) : Type 0 where
   pub there : r ≡ true → 3 ≤ length want
 
 -- the row of a record; one without a block has the queue 2
-abbrev row_from : ℕ → block.EntryBlock → ℕ → ℕ → ℕ → List ℕ
-row_from i block.TheVariants.Absent c o l = i ∷ 2 ∷ 0 ∷ 0 ∷ 0 ∷ c ∷ o ∷ l ∷ []
-row_from i (block.TheVariants.At b) c o l =
+abbrev row_from : ℕ → Option FileBlockHandle → ℕ → ℕ → ℕ → List ℕ
+row_from i None c o l = i ∷ 2 ∷ 0 ∷ 0 ∷ 0 ∷ c ∷ o ∷ l ∷ []
+row_from i (Some b) c o l =
     i ∷ queue_number b.id.queue ∷ b.id.seq ∷ b.offset ∷ b.len ∷ c ∷ o ∷ l ∷ []
 
 abbrev pub row_of : EntryIndex → List ℕ

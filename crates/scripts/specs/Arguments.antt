@@ -1,22 +1,17 @@
 -- The numbers of a row read as arguments.
-use Rattle.std.specs.Prelude.{cond, ℕ, List, eqb, length, get_or}
-use Rattle.std.proofs.Math.Option.{Option}
-use Rattle.rules.specs.Causes.{Result, ok}
+use Rattle.std.specs.Prelude.{Option, None, Some, cond, ℕ, List, eqb, length, get_or}
+use Rattle.rules.specs.Causes.{Result, Ok}
 use Rattle.rules.specs.Table.{first_index_of, last_index}
 use Rattle.rules.specs.TableQueries.{rewrite_count, min_file_seq}
 use Rattle.rules.specs.Queries.{in_group}
 use Rattle.rules.specs.Context.{Context}
-use Rattle.pipe_log.specs.declared.Gate as gate
-use Rattle.pipe_log.specs.declared.Bound as bound
 use Rattle.pipe_log.specs.Rows.{queue_at}
 use Rattle.records.specs.declared.Fetch as fetch
 use Rattle.scripts.specs.declared.row.Row.{Row}
 
-abbrev pub gate_as : ℕ → ℕ → gate.Gate
-gate_as gated seq = cond (eqb gated 0) gate.TheVariants.None (gate.TheVariants.Seq seq)
-
-abbrev pub bound_as : ℕ → ℕ → bound.Bound
-bound_as bounded size = cond (eqb bounded 0) bound.TheVariants.None (bound.TheVariants.At size)
+-- a number that is there where the number before it is not 0
+abbrev pub option_as : ℕ → ℕ → Option ℕ
+option_as given number = cond (eqb given 0) None (Some number)
 
 -- the numbers of a call's first line by their names
 abbrev pub row_as : List ℕ → Row
@@ -40,17 +35,17 @@ row_as call =
 -- 10 first_index, 11 last_index, otherwise min_file_seq
 abbrev pub number_asked : Row → Context → Result (Option ℕ)
 number_asked row m =
-    cond (eqb row.what 10) (in_group row.group (λ t. ok (first_index_of t.entries)) m)
-    (cond (eqb row.what 11) (in_group row.group (λ t. ok (last_index t.entries)) m) (in_group row.group (λ t. ok (min_file_seq (queue_at row.a) t)) m))
+    cond (eqb row.what 10) (in_group row.group (λ t. Ok (first_index_of t.entries)) m)
+    (cond (eqb row.what 11) (in_group row.group (λ t. Ok (last_index t.entries)) m) (in_group row.group (λ t. Ok (min_file_seq (queue_at row.a) t)) m))
 
 -- 20 entry_count, 21 rewrite_count, otherwise key_count
 abbrev pub count_asked : Row → Context → Result ℕ
 count_asked row m =
-    cond (eqb row.what 20) (in_group row.group (λ t. ok (length t.entries)) m)
-    (cond (eqb row.what 21) (in_group row.group (λ t. ok (rewrite_count t)) m) (in_group row.group (λ t. ok (length t.keys)) m))
+    cond (eqb row.what 20) (in_group row.group (λ t. Ok (length t.entries)) m)
+    (cond (eqb row.what 21) (in_group row.group (λ t. Ok (rewrite_count t)) m) (in_group row.group (λ t. Ok (length t.keys)) m))
 
 -- 50 fetch_entries_to, 51 fetch_entry_indexes_before, otherwise fetch_rewritten_entry_indexes
 abbrev pub fetch_as : Row → fetch.Fetch
 fetch_as row =
-    cond (eqb row.what 50) (fetch.TheVariants.EntriesTo row.a row.b (bound_as row.c row.d))
+    cond (eqb row.what 50) (fetch.TheVariants.EntriesTo row.a row.b (option_as row.c row.d))
     (cond (eqb row.what 51) (fetch.TheVariants.EntryIndexesBefore row.a) fetch.TheVariants.RewrittenEntryIndexes)

@@ -1,61 +1,43 @@
--- Every answer as three numbers: 01's number of the refusal, 0 for none, and what else is told.
-use Rattle.std.specs.Prelude.{Bool, true, false, List, [], ◌∷◌, ℕ}
-use Rattle.contexts.specs.declared.Answer as answer
-use Rattle.contexts.specs.declared.Position as position
-use Rattle.queries.specs.declared.FoundNumber as number
-use Rattle.queries.specs.declared.Counted as count
-use Rattle.queries.specs.declared.FoundEntry as entry
-use Rattle.queries.specs.declared.SomeBefore as before
-use Rattle.queries.specs.declared.Fetched as fetch
-use Rattle.queries.specs.declared.Taken as take
+-- Every answer as three numbers: the number of the refusal, 0 for none, and what else is told.
+use Rattle.rules.specs.Items.{EntryIndex}
+use Rattle.rules.specs.Causes.{Cause, number_of, ByCause, Result, Ok, Err}
+use Rattle.std.specs.Prelude.{Option, Some, None, Bool, true, false, List, [], ◌∷◌, ℕ}
 
 abbrev pub three : ℕ → ℕ → ℕ → List ℕ
 three n c v = n ∷ c ∷ v ∷ []
 
--- a refusal with its position: 1 and the position, or 0 0
-abbrev pub told_place : ℕ → position.Position → List ℕ
-told_place n position.TheVariants.None = three n 0 0
-told_place n (position.TheVariants.At i) = three n 1 i
+abbrev pub told_refused : Cause → List ℕ
+told_refused e = three (number_of e) 0 0
 
-abbrev pub told_answer : answer.Answer → List ℕ
-told_answer answer.TheVariants.Accepted = three 0 0 0
-told_answer (answer.TheVariants.Refused n p) = told_place n p
+-- a value that may be absent: 1 and the value, or 0 0
+abbrev pub told_option : ℕ → Option ℕ → List ℕ
+told_option n None = three n 0 0
+told_option n (Some i) = three n 1 i
 
--- a number that may be absent: 1 and the number, or 0 0
-abbrev pub told_number : number.FoundNumber → List ℕ
-told_number number.TheVariants.GroupAbsent = three 9 0 0
-told_number number.TheVariants.Absent = three 0 0 0
-told_number (number.TheVariants.At n) = three 0 1 n
+-- a refusal with its position
+abbrev pub told_answer : Result (Unit {0}) → List ℕ
+told_answer (Ok _) = three 0 0 0
+told_answer (Err r) = told_option (number_of r.cause) r.place
 
-abbrev pub told_count : count.Counted → List ℕ
-told_count count.TheVariants.GroupAbsent = three 9 0 0
-told_count (count.TheVariants.Is n) = three 0 n 0
+abbrev pub told_number : ByCause (Option ℕ) → List ℕ
+told_number (Ok found) = told_option 0 found
+told_number (Err e) = told_refused e
 
-abbrev pub told_entry : entry.FoundEntry → List ℕ
-told_entry entry.TheVariants.GroupAbsent = three 9 0 0
-told_entry entry.TheVariants.Absent = three 0 0 0
-told_entry (entry.TheVariants.At e) = three 0 1 0
+-- the number of rows of a list that was lent
+abbrev pub told_count : ByCause ℕ → List ℕ
+told_count (Ok n) = three 0 n 0
+told_count (Err e) = told_refused e
 
 -- 1 for true, and 0 for false
 abbrev pub told_flag : Bool → List ℕ
 told_flag true = three 0 1 0
 told_flag false = three 0 0 0
 
-abbrev pub told_before : before.SomeBefore → List ℕ
-told_before before.TheVariants.GroupAbsent = three 9 0 0
-told_before before.TheVariants.BadRange = three 10 0 0
-told_before (before.TheVariants.Is b) = told_flag b
+abbrev pub told_entry : ByCause (Option EntryIndex) → List ℕ
+told_entry (Ok None) = three 0 0 0
+told_entry (Ok (Some e)) = three 0 1 0
+told_entry (Err e) = told_refused e
 
--- the number of rows
-abbrev pub told_fetched : fetch.Fetched → List ℕ
-told_fetched (fetch.TheVariants.Done n) = three 0 n 0
-told_fetched fetch.TheVariants.GroupAbsent = three 9 0 0
-told_fetched fetch.TheVariants.BadRange = three 10 0 0
-told_fetched fetch.TheVariants.EntryCompacted = three 11 0 0
-told_fetched fetch.TheVariants.EntryNotFound = three 12 0 0
-told_fetched fetch.TheVariants.ListTooShort = three 19 0 0
-
-abbrev pub told_taken : take.Taken → List ℕ
-told_taken (take.TheVariants.Done n) = three 0 n 0
-told_taken take.TheVariants.WrongKind = three 1 0 0
-told_taken take.TheVariants.ListTooShort = three 19 0 0
+abbrev pub told_before : ByCause Bool → List ℕ
+told_before (Ok b) = told_flag b
+told_before (Err e) = told_refused e

@@ -6,10 +6,8 @@ use crate::compare::{LISTED, ROWS, bytes_are, is_listed, is_told, numbers_are, r
 use crate::fetches::entries;
 use crate::keys::keys;
 use crate::row::Row;
-use crate::told::{told_before, told_count, told_entry, told_fetched, told_flag, told_number};
-use groups::SLOTS;
-use index::{Counted, FoundEntry};
-use queries::Place;
+use crate::told::{told_before, told_count, told_entry, told_flag, told_number};
+use pipe_log::LogQueue;
 use stretch::STRETCH;
 
 // The record of an entry: whether there is one, and its row.
@@ -20,119 +18,96 @@ fn entry(row: Row, xs: &[u64], bs: &[u8], want: &[u64]) -> bool
     if !is_told(told_entry(found), want, 0) {
         return false;
     }
-    let FoundEntry::At(e) = found else {
+    let Ok(Some(record)) = found else {
         return true;
     };
-    record_is(e, want, ROWS)
+    record_is(record, want, ROWS)
 }
 
-// The value of a key: what is told, the number of bytes, and the bytes.
+// The value of a key: the refusal, or 0 for an absent key and 1 for one that is there; the number of bytes, and the bytes.
 fn value(row: Row, xs: &[u64], bs: &[u8], key: &[u8], want: &[u64]) -> bool
     requires { Wf xs.now bs.now }
 {
-    let mut told = 0;
-    let got = index::get(xs, bs, row.group, key, &mut told);
-    let n = got.len();
-    if !is_told([told, n as u64, 0], want, 0) {
-        return false;
-    }
-    bytes_are(got, n, want, ROWS)
+    let (told, value): (u64, &[u8]) = match index::get(xs, bs, row.group, key) {
+        Ok(Some(value)) => (1, value),
+        Ok(None) => (0, &[]),
+        Err(cause) => (cause.number(), &[]),
+    };
+    is_told([told, value.len() as u64, 0], want, 0) && bytes_are(value, want, ROWS)
 }
 
 // 30 get_entry, 31 has_at_least_some_entries_before, otherwise get.
 fn one(row: Row, xs: &[u64], bs: &[u8], bytes: &[u8], want: &[u64]) -> bool
     requires { Wf xs.now bs.now }
 {
-    if row.what == 30 {
-        return entry(row, xs, bs, want);
+    match row.what {
+        30 => entry(row, xs, bs, want),
+        31 => {
+            let count = row.b as usize;
+            let before = index::has_at_least_some_entries_before(xs, bs, row.group, row.a, count);
+            is_told(told_before(before), want, 0)
+        }
+        _ => value(row, xs, bs, bytes, want),
     }
-    if row.what == 31 {
-        let before = index::has_at_least_some_entries_before(
-            xs,
-            bs,
-            row.group,
-            row.a,
-            row.b as usize,
-        );
-        return is_told(told_before(before), want, 0);
-    }
-    value(row, xs, bs, bytes, want)
 }
 
 // `group_numbers`, with room for so many numbers.
 fn groups(row: Row, xs: &[u64], bs: &[u8], want: &[u64]) -> bool
     requires { Wf xs.now bs.now }
 {
-    let room = row.room as usize;
-    if LISTED < room {
+    let mut list = [0; LISTED];
+    let Some(lent) = list.get_mut(..row.room as usize) else {
         return false;
-    }
-    let mut list = [0u64; LISTED];
-    let answer = index::group_numbers(xs, bs, &mut list[..room]);
-    is_listed(told_fetched(answer), list, want)
+    };
+    let answer = index::group_numbers(xs, bs, lent);
+    is_listed(told_count(answer), list, want)
 }
 
 // 60 group_numbers, 61 is_empty, otherwise the live count of a queue.
 fn all(row: Row, xs: &[u64], bs: &[u8], want: &[u64]) -> bool
     requires { Wf xs.now bs.now }
 {
-    if row.what == 60 {
-        return groups(row, xs, bs, want);
+    match row.what {
+        60 => groups(row, xs, bs, want),
+        61 => is_told(told_flag(index::is_empty(xs, bs)), want, 0),
+        _ => {
+            let live = index::live_entries(xs, bs, LogQueue::from(row.a));
+            is_told(told_count(Ok(live)), want, 0)
+        }
     }
-    if row.what == 61 {
-        return is_told(told_flag(index::is_empty(xs, bs)), want, 0);
-    }
-    let live = index::live_entries(xs, bs, pipe_log::queue_at(row.a));
-    is_told(told_count(Counted::Is(live)), want, 0)
 }
 
-// Whether the stored numbers stand in an area from a place on.
-fn numbers_from(xs: &[u64], from: usize, want: &[u64]) -> bool {
-    if xs.len() < from {
-        return false;
-    }
-    numbers_are(&xs[from..], want.len(), want, 0)
-}
-
-// The same of bytes.
+// Whether the stored numbers stand as bytes in an area from a place on.
 fn bytes_from(bs: &[u8], from: usize, want: &[u64]) -> bool {
-    if bs.len() < from {
+    let Some(rest) = bs.get(from..) else {
         return false;
-    }
-    bytes_are(&bs[from..], want.len(), want, 0)
+    };
+    want.len() <= rest.len() && bytes_are(&rest[..want.len()], want, 0)
 }
 
 // Whether the stored numbers stand in the stretch of a group.
 fn stretch_is(row: Row, xs: &[u64], bs: &[u8], want: &[u64]) -> bool
     requires { Wf xs.now bs.now }
 {
-    let Place::At(k) = queries::place_of(xs, row.group) else {
+    let Ok(k) = queries::place_of(xs, row.group) else {
         return false;
     };
     let at = row.a as usize;
-    if SLOTS <= k {
-        return false;
-    }
-    if STRETCH < at {
-        return false;
-    }
-    numbers_from(xs, k * STRETCH + at, want)
+    at <= STRETCH && numbers_are(want, xs, k * STRETCH + at)
 }
 
 // 70 the numbers of an area, 71 its bytes, otherwise the numbers of a group's stretch.
 fn area_is(row: Row, xs: &[u64], bs: &[u8], want: &[u64]) -> bool
     requires { Wf xs.now bs.now }
 {
-    if want.len() == 0 {
+    if want.is_empty() {
         return false;
     }
-    if row.what == 70 {
-        return numbers_from(xs, row.a as usize, want);
+    match row.what {
+        70 => numbers_are(want, xs, row.a as usize),
+        71 => bytes_from(bs, row.a as usize, want),
+        _ => stretch_is(row, xs, bs, want),
     }
-    if row.what == 71 {
-        return bytes_from(bs, row.a as usize, want);
-    }
-    stretch_is(row, xs, bs, want)
 }
 
 // Makes the query that a row names, by the tens of its number, and says whether it is answered as stored.

@@ -4,9 +4,9 @@ ghost use Rattle.scripts.specs.Agreement.{Stored};
 
 use crate::compare::{ROWS, bytes_are, is_told, numbers_are};
 use crate::row::Row;
-use crate::told::told_fetched;
-use index::Fetched;
+use crate::told::told_count;
 use kvs::rows::{LENS_WIDTH, ROW_BYTES};
+use pipe_log::Cause;
 use stretch::MAX_KEYS;
 
 // The numbers and the bytes of lists with a row for each key of a group.
@@ -15,21 +15,25 @@ const ALL_LENS: usize = MAX_KEYS * LENS_WIDTH;
 const ALL_BYTES: usize = MAX_KEYS * ROW_BYTES;
 
 // A scan whose start is the first bytes of a list, and whose end the rest.
-fn scan(row: Row, xs: &[u64], bs: &[u8], bytes: &[u8], lens: &mut [u64], out: &mut [u8]) -> Fetched
+fn scan(
+    row: Row,
+    xs: &[u64],
+    bs: &[u8],
+    bytes: &[u8],
+    lens: &mut [u64],
+    out: &mut [u8],
+) -> Result<usize, Cause>
     requires { Wf xs.now bs.now }
 {
-    let m = row.b as usize;
-    if bytes.len() < m {
-        return Fetched::BadRange;
-    }
+    let Some((start, end)) = bytes.split_at_checked(row.b as usize) else {
+        return Err(Cause::BadRange);
+    };
     index::scan(
         xs,
         bs,
         row.group,
-        row.a == 1,
-        &bytes[..m],
-        row.c == 1,
-        &bytes[m..],
+        (row.a == 1).then_some(start),
+        (row.c == 1).then_some(end),
         row.d == 1,
         row.e as usize,
         lens,
@@ -38,33 +42,34 @@ fn scan(row: Row, xs: &[u64], bs: &[u8], bytes: &[u8], lens: &mut [u64], out: &m
 }
 
 // 40 scan, 41 fetch_kvs_before, otherwise fetch_rewritten_kvs.
-fn fetch(row: Row, xs: &[u64], bs: &[u8], bytes: &[u8], lens: &mut [u64], out: &mut [u8]) -> Fetched
+fn fetch(
+    row: Row,
+    xs: &[u64],
+    bs: &[u8],
+    bytes: &[u8],
+    lens: &mut [u64],
+    out: &mut [u8],
+) -> Result<usize, Cause>
     requires { Wf xs.now bs.now }
 {
-    if row.what == 40 {
-        return scan(row, xs, bs, bytes, lens, out);
+    match row.what {
+        40 => scan(row, xs, bs, bytes, lens, out),
+        41 => index::fetch_kvs_before(xs, bs, row.group, row.a, lens, out),
+        _ => index::fetch_rewritten_kvs(xs, bs, row.group, lens, out),
     }
-    if row.what == 41 {
-        return index::fetch_kvs_before(xs, bs, row.group, row.a, lens, out);
-    }
-    index::fetch_rewritten_kvs(xs, bs, row.group, lens, out)
 }
 
 // Whether as many rows of keys as an answer tells are the stored ones: their lengths, and then their bytes.
-fn keys_are(told: [u64; 3], lens: [u64; ALL_LENS], out: [u8; ALL_BYTES], want: &[u64]) -> bool
+fn keys_are(told: [u64; 3], lens: &[u64; ALL_LENS], out: &[u8; ALL_BYTES], want: &[u64]) -> bool
     ensures { Stored want.now result }
 {
     if !is_told(told, want, 0) {
         return false;
     }
     let n = told[1] as usize;
-    if MAX_KEYS < n {
-        return false;
-    }
-    if !numbers_are(&lens, n * LENS_WIDTH, want, ROWS) {
-        return false;
-    }
-    bytes_are(&out, n * ROW_BYTES, want, ROWS + n * LENS_WIDTH)
+    n <= MAX_KEYS
+        && numbers_are(&lens[..n * LENS_WIDTH], want, ROWS)
+        && bytes_are(&out[..n * ROW_BYTES], want, ROWS + n * LENS_WIDTH)
 }
 
 // Whether a query of keys is answered as stored, with room for so many rows.
@@ -76,10 +81,15 @@ pub fn keys(row: Row, xs: &[u64], bs: &[u8], bytes: &[u8], want: &[u64]) -> bool
     if MAX_KEYS < room {
         return false;
     }
-    let l = room * LENS_WIDTH;
-    let o = room * ROW_BYTES;
-    let mut lens = [0u64; ALL_LENS];
-    let mut out = [0u8; ALL_BYTES];
-    let answer = fetch(row, xs, bs, bytes, &mut lens[..l], &mut out[..o]);
-    keys_are(told_fetched(answer), lens, out, want)
+    let mut lens = [0; ALL_LENS];
+    let mut out = [0; ALL_BYTES];
+    let answer = fetch(
+        row,
+        xs,
+        bs,
+        bytes,
+        &mut lens[..room * LENS_WIDTH],
+        &mut out[..room * ROW_BYTES],
+    );
+    keys_are(told_count(answer), &lens, &out, want)
 }

@@ -11,7 +11,7 @@ mod row;
 mod told;
 
 pub use asked::ask;
-pub use asks::gate_of;
+pub use asks::option_of;
 pub use compare::{LISTED, is_listed, is_told};
 pub use row::{HEAD, Row, row_of};
-pub use told::{told_answer, told_taken};
+pub use told::{told_answer, told_count};

@@ -7,7 +7,8 @@ pub const HEAD: usize = 14;
 
 // Which call, of which context, with which other context, of which group; five arguments, which each call reads in its own way;
 // how many rows a lent list has; and where the items, the entries and the bytes end, which stand one behind another from HEAD on. The
-// stored answer is what stands behind them.
+// stored answer is what stands behind them. A call is a number, as it is stored: an enum of the calls would be one more match with the same
+// arms.
 #[derive(Clone, Copy)]
 pub struct Row {
     pub what: u64,

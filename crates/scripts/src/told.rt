@@ -1,61 +1,63 @@
-// Every answer as three numbers: document 01's number of the refusal, 0 for none, and what else is told.
+// Every answer as three numbers: the number of the refusal, 0 for none, and what else is told.
 ghost use Rattle.std.specs.Prelude.{◌≡◌};
-ghost use Rattle.scripts.specs.Told.{told_place, told_answer, told_number, told_count, told_entry, told_flag, told_before, told_fetched, told_taken};
+ghost use Rattle.scripts.specs.Told.{told_refused, told_option, told_answer, told_number, told_count, told_entry, told_flag, told_before};
 
-use index::{Answer, Counted, Fetched, FoundEntry, FoundNumber, Position, SomeBefore, Taken};
-use pipe_log::causes::{
-    BAD_RANGE, ENTRY_COMPACTED, ENTRY_NOT_FOUND, GROUP_ABSENT, LIST_TOO_SHORT, WRONG_KIND,
-};
+use pipe_log::{Cause, EntryIndex, Refusal};
 
-// A refusal with its position.
-fn told_place(number: u64, place: Position) -> [u64; 3]
-    ensures { result ≡ told_place number place }
+// A refusal of a call that tells no position.
+fn told_refused(cause: Cause) -> [u64; 3]
+    ensures { result ≡ told_refused cause }
 {
-    match place {
-        Position::None => [number, 0, 0],
-        Position::At(i) => [number, 1, i as u64],
+    [cause.number(), 0, 0]
+}
+
+// A value that may be absent.
+fn told_option(number: u64, value: Option<u64>) -> [u64; 3]
+    ensures { result ≡ told_option number value }
+{
+    match value {
+        None => [number, 0, 0],
+        Some(n) => [number, 1, n],
     }
 }
 
-// What a call that writes tells.
-pub fn told_answer(answer: Answer) -> [u64; 3]
+// What a call that writes tells: of a refusal also its position.
+pub fn told_answer(answer: Result<(), Refusal>) -> [u64; 3]
     ensures { result ≡ told_answer answer }
 {
     match answer {
-        Answer::Accepted => [0, 0, 0],
-        Answer::Refused { number, place } => told_place(number, place),
+        Ok(()) => [0, 0, 0],
+        Err(Refusal { cause, place }) => told_option(cause.number(), place.map(|i| i as u64)),
     }
 }
 
 // A number that may be absent.
-pub fn told_number(found: FoundNumber) -> [u64; 3]
+pub fn told_number(found: Result<Option<u64>, Cause>) -> [u64; 3]
     ensures { result ≡ told_number found }
 {
     match found {
-        FoundNumber::GroupAbsent => [GROUP_ABSENT, 0, 0],
-        FoundNumber::Absent => [0, 0, 0],
-        FoundNumber::At(n) => [0, 1, n],
+        Ok(number) => told_option(0, number),
+        Err(cause) => told_refused(cause),
     }
 }
 
-// A count of a group.
-pub fn told_count(counted: Counted) -> [u64; 3]
+// A count: of what a group has, of rows that were filled, or of numbers that were handed out.
+pub fn told_count(counted: Result<usize, Cause>) -> [u64; 3]
     ensures { result ≡ told_count counted }
 {
     match counted {
-        Counted::GroupAbsent => [GROUP_ABSENT, 0, 0],
-        Counted::Is(n) => [0, n as u64, 0],
+        Ok(n) => [0, n as u64, 0],
+        Err(cause) => told_refused(cause),
     }
 }
 
 // Whether there is an entry record.
-pub fn told_entry(found: FoundEntry) -> [u64; 3]
+pub fn told_entry(found: Result<Option<EntryIndex>, Cause>) -> [u64; 3]
     ensures { result ≡ told_entry found }
 {
     match found {
-        FoundEntry::GroupAbsent => [GROUP_ABSENT, 0, 0],
-        FoundEntry::Absent => [0, 0, 0],
-        FoundEntry::At(_) => [0, 1, 0],
+        Ok(entry) => told_flag(entry.is_some()),
+        Err(cause) => told_refused(cause),
     }
 }
 
@@ -63,44 +65,15 @@ pub fn told_entry(found: FoundEntry) -> [u64; 3]
 pub fn told_flag(answer: bool) -> [u64; 3]
     ensures { result ≡ told_flag answer }
 {
-    if answer {
-        return [0, 1, 0];
-    }
-    [0, 0, 0]
+    [0, u64::from(answer), 0]
 }
 
 // What `has_at_least_some_entries_before` tells.
-pub fn told_before(answer: SomeBefore) -> [u64; 3]
+pub fn told_before(answer: Result<bool, Cause>) -> [u64; 3]
     ensures { result ≡ told_before answer }
 {
     match answer {
-        SomeBefore::GroupAbsent => [GROUP_ABSENT, 0, 0],
-        SomeBefore::BadRange => [BAD_RANGE, 0, 0],
-        SomeBefore::Is(b) => told_flag(b),
-    }
-}
-
-// How many rows of a lent list were filled.
-pub fn told_fetched(answer: Fetched) -> [u64; 3]
-    ensures { result ≡ told_fetched answer }
-{
-    match answer {
-        Fetched::Done(n) => [0, n as u64, 0],
-        Fetched::GroupAbsent => [GROUP_ABSENT, 0, 0],
-        Fetched::BadRange => [BAD_RANGE, 0, 0],
-        Fetched::EntryCompacted => [ENTRY_COMPACTED, 0, 0],
-        Fetched::EntryNotFound => [ENTRY_NOT_FOUND, 0, 0],
-        Fetched::ListTooShort => [LIST_TOO_SHORT, 0, 0],
-    }
-}
-
-// How many cleaned numbers were handed out.
-pub fn told_taken(answer: Taken) -> [u64; 3]
-    ensures { result ≡ told_taken answer }
-{
-    match answer {
-        Taken::Done(n) => [0, n as u64, 0],
-        Taken::WrongKind => [WRONG_KIND, 0, 0],
-        Taken::ListTooShort => [LIST_TOO_SHORT, 0, 0],
+        Ok(before) => told_flag(before),
+        Err(cause) => told_refused(cause),
     }
 }

@@ -7,7 +7,7 @@ use native.Mathlib.Omega.{arith}
 use lib.Dec.{eqb}
 use lib.ListN.{length, get_or, set, length-set}
 use lib.Seq.{get_or-set_same, get_or-set_other, take-set-le, drop-set-lt}
-use borrow.Author.Tests.{ne_eqb, eqb-true, eqb-false}
+use borrow.Author.Tests.{eqb-true, eqb-false}
 use Rattle.cells.specs.PartLaws.{part-set-in, part-set-after, part-set-before}
 use Rattle.maps.specs.OrderLaws.{split}
 use Rattle.stretch.specs.Layout.{stretch_width}
@@ -35,14 +35,6 @@ begun_more n xs xs' p l b =
     }
 
 -- ---- the marks of what is staged
-
-pub mark-whole : (m : ℕ) → m ≡ 1 → 3 ≡ sealed_mark m
-unfolding sealed_mark
-mark-whole m e = rw e
-
-pub mark-free : (m : ℕ) → (m ≡ 1 → ⊥) → 1 ≡ sealed_mark m
-unfolding sealed_mark
-mark-free m d = rw (ne_eqb m 1 d)
 
 pub sealed-none : (xs : List ℕ) → Sealed 0 xs xs
 sealed-none xs =

@@ -2,21 +2,22 @@
 -- Assumes nothing.
 use mathlib.Core.Bool.{Bool, true, false}
 use mathlib.Core.List.{List, [], ◌∷◌, ◌++◌}
-use mathlib.Core.Option.{Option, none, some, none-ne-some, some-injective}
+use Rattle.std.specs.Prelude.{Option, None, Some}
+use Rattle.std.proofs.lemmas.Option.{none-some, same_Some}
 use mathlib.Core.Path.{◌≡◌, refl, sym, ap, ◌∙◌}
 use Prim.Native.Nat.{ℕ, ◌+◌, ◌-◌, ◌≤◌}
 use native.Mathlib.Omega.{arith}
 use lib.ListN.{length, get_or, take, drop, length-append}
 use borrow.Author.Rules.{part_to_end}
 use borrow.Rule.Slice.PartMut.{put_mid}
-use Rattle.cells.specs.Part.{part, put}
-use Rattle.cells.specs.PartLaws.{part-is, length_part, put_all}
+use Rattle.cells.specs.Part.{part}
+use Rattle.cells.specs.PartLaws.{part-is, length_part}
 use Rattle.maps.specs.BoolLaws.{clash, both_left}
 use Rattle.maps.specs.Lists.{every, sum, last, or_else}
 use Rattle.maps.specs.ListLaws.{every_append, every-head, every-tail, sum-append}
 use Rattle.maps.specs.Maps.{lookup, numbers}
 use Rattle.maps.specs.OrderLaws.{split}
-use Rattle.rules.specs.Causes.{ok, and_then}
+use Rattle.rules.specs.Causes.{ByCause, Result, Ok, and_then}
 use Rattle.rules.specs.Items as rules
 use Rattle.rules.specs.Table.{Span, Table, made, spanned, with_span, span_goes_back}
 use Rattle.rules.specs.Context.{context, Part, Context, entries_in, waiting_fits, with_groups, with_waiting}
@@ -31,8 +32,6 @@ use Rattle.rules_by_group.proofs.RoomLaws.{within_more, finished-items, finished
 use Rattle.rules_by_group.specs.Kept.{Within}
 use Rattle.rules_by_group.proofs.WaitingLaws.{all-kept, kept_of}
 use Rattle.stores.specs.Tags.{items_with}
-use Rattle.stretch.specs.declared.Outcome.{Outcome}
-use Rattle.stretch.specs.declared.Outcome.TheVariants.{Done}
 use Rattle.groups.specs.Area.{groups_of}
 use Rattle.groups.specs.Laws.{groups-fit}
 use Rattle.room.specs.Layout.{waiting_of, tagged, RoomWf}
@@ -42,8 +41,6 @@ use Rattle.worktable.specs.Work.{work_in}
 use Rattle.worktable.specs.Work as work
 use Rattle.worktable.specs.Calls.{Becomes, Ends}
 use Rattle.parts.specs.declared.Ending.{Ending}
-use Rattle.parts.specs.declared.Finishing.{Finishing}
-use Rattle.parts.specs.declared.Finishing.TheVariants as finishing
 use Rattle.parts.specs.Finishings.{finished_as, has_items}
 use Rattle.staging.specs.Staging.{long_numbers, long_bytes}
 use Rattle.staging.specs.StagingLaws.{working-none, working-then}
@@ -95,26 +92,15 @@ unfolding has_items
 has_back [] ys e = refl
 has_back (x ∷ xs) ys e = absurd (clash (sym e))
 
-finish-none : (s : Span) (l : List rules.LogItem) (o : Option Table) → has_items l ≡ false → finish_with s l o ≡ ok o
+finish-none : (s : Span) (l : List rules.LogItem) (o : Option Table) → has_items l ≡ false → finish_with s l o ≡ Ok o
 unfolding finish_with has_items
 finish-none s [] o e = refl
 finish-none s (x ∷ l) o e = absurd (clash (sym e))
 
-finish-some : (s : Span) (l : List rules.LogItem) (o : Option Table) → has_items l ≡ true → finish_with s l o ≡ and_then (spanned s (made (replayed_items l o))) (λ t. ok (some t))
+finish-some : (s : Span) (l : List rules.LogItem) (o : Option Table) → has_items l ≡ true → finish_with s l o ≡ and_then (spanned s (made (replayed_items l o))) (λ t. Ok (Some t))
 unfolding finish_with has_items
 finish-some s [] o e = absurd (clash e)
 finish-some s (x ∷ l) o e = refl
-
--- a copy of a part
-copied : (a n : ℕ) (d xs : List ℕ) → length d ≡ n → a + n ≤ length xs → put d 0 (take n (drop a xs)) ≡ part a n xs
-copied a n d xs e h = ap (put d 0) (part-is a n xs) ∙ put_all d (part a n xs) (length_part a n xs h ∙ sym e)
-
--- a room's numbers and its bytes, copied
-pub numbers-copied : (d xs l : List ℕ) → length d ≡ 3490 → length xs ≡ 17231 → l ≡ put d 0 (take 3490 (drop 10019 xs)) → l ≡ part 10019 3490 xs
-numbers-copied d xs l e n h = h ∙ copied 10019 3490 d xs e (omega arith)
-
-pub bytes-copied : (d bs l : List ℕ) → length d ≡ 8192 → length bs ≡ 38912 → l ≡ put d 0 (take 8192 (drop 20480 bs)) → l ≡ part 20480 8192 bs
-bytes-copied d bs l e n h = h ∙ copied 20480 8192 d bs e (omega arith)
 
 -- a room's numbers, as they are lent
 pub room-length : (xs : List ℕ) → length xs ≡ 17231 → length (take 3490 (drop 10019 xs)) ≡ 3490
@@ -135,7 +121,7 @@ lent-loaded xs bs p b o n m k =
 pub lent-replayed : (tag : ℕ) (xs bs ws vs p b : List ℕ) → length xs ≡ 17231 → length bs ≡ 38912 → ws ≡ part 10019 3490 xs → vs ≡ part 20480 8192 bs → Becomes (replayed_items (items_with tag (tagged ws vs)) (work_in (take (length xs - 13509) (drop 13509 xs)) (take (length bs - 28672) (drop 28672 bs)))) p b → Loaded (replayed_items (items_with tag (tagged (part 10019 3490 xs) (part 20480 8192 bs))) (work_in (drop 13509 xs) (drop 28672 bs))) xs bs (put_mid 13509 (length xs - 13509) xs p) (put_mid 28672 (length bs - 28672) bs b)
 lent-replayed tag xs bs ws vs p b n m e f k = lent-loaded xs bs p b _ n m (rw (part_to_end xs 13509, part_to_end bs 28672, e, f) at k)
 
-closed : (s : Span) (o : Option Table) (p b : List ℕ) (r : Outcome) (p' b' : List ℕ) → Becomes o p b → Ends (and_then (spanned s (made (work_in p b))) (λ t. ok (some t))) r p' b' → Ends (and_then (spanned s (made o)) (λ t. ok (some t))) r p' b'
+closed : (s : Span) (o : Option Table) (p b : List ℕ) (r : ByCause (Unit {0})) (p' b' : List ℕ) → Becomes o p b → Ends (and_then (spanned s (made (work_in p b))) (λ t. Ok (Some t))) r p' b' → Ends (and_then (spanned s (made o)) (λ t. Ok (Some t))) r p' b'
 closed s o p b r p' b' k d = rw k.is at d
 
 -- the same of a room that is lent
@@ -152,7 +138,7 @@ module _ (tag : ℕ) (ys cs p b : List ℕ) where
   pub lent-ready : RoomReady tag (part 10019 3490 ys) (part 20480 8192 cs) p b → RoomReady tag (take 3490 (drop 10019 ys)) (take 8192 (drop 20480 cs)) p b
   lent-ready r = rw (part-is 10019 3490 ys, part-is 20480 8192 cs) r
 
-  pub lent-closed : (s : Span) (p' b' : List ℕ) (r : Outcome) (p'' b'' : List ℕ) → Becomes (replayed_items lent-items (work_in p b)) p' b' → Ends (and_then (spanned s (made (work_in p' b'))) (λ t. ok (some t))) r p'' b'' → Ends (and_then (spanned s (made (replayed_items room-items (work_in p b)))) (λ t. ok (some t))) r p'' b''
+  pub lent-closed : (s : Span) (p' b' : List ℕ) (r : ByCause (Unit {0})) (p'' b'' : List ℕ) → Becomes (replayed_items lent-items (work_in p b)) p' b' → Ends (and_then (spanned s (made (work_in p' b'))) (λ t. Ok (Some t))) r p'' b'' → Ends (and_then (spanned s (made (replayed_items room-items (work_in p b)))) (λ t. Ok (Some t))) r p'' b''
   lent-closed s p' b' r p'' b'' k d = rw (part-is 10019 3490 ys, part-is 20480 8192 cs) at (closed s (replayed_items lent-items (work_in p b)) p' b' r p'' b'' k d)
 
 module _ (e : Ending) (xs ys : List ℕ) (r : Bool) where
@@ -163,9 +149,9 @@ module _ (e : Ending) (xs ys : List ℕ) (r : Bool) where
   newer-items cs = items_with e.newer (tagged (waiting_numbers ys) (waiting_bytes cs))
 
   -- what is lent of the rooms' numbers is their part
-  pub any-front : (h : Bool) → h ≡ true → ((vs : List ℕ) → RoomWf 16 (take 3490 (drop 10019 xs)) vs → h ≡ has_items (items_with e.older (tagged (take 3490 (drop 10019 xs)) vs))) → (bs cs : List ℕ) → RoomWf 16 (waiting_numbers xs) (waiting_bytes bs) → RoomWf 16 (waiting_numbers ys) (waiting_bytes cs) → true ≡ has_items (ending_items e xs bs ys cs)
+  pub any-front : (h : Bool) → h ≡ true → ((vs : List ℕ) → RoomWf 16 (take 3490 (drop 10019 xs)) vs → h ≡ has_items (items_with e.older (tagged (take 3490 (drop 10019 xs)) vs))) → (bs cs : List ℕ) → RoomWf 16 (waiting_numbers xs) (waiting_bytes bs) → RoomWf 16 (waiting_numbers ys) (waiting_bytes cs) → h ≡ has_items (ending_items e xs bs ys cs)
   unfolding ending_items
-  any-front h e f bs cs w v = sym (has-front (older-items bs) (newer-items cs) (sym ((rw (part-is 10019 3490 xs) at f) (waiting_bytes bs) w) ∙ e))
+  any-front h e f bs cs w v = e ∙ sym (has-front (older-items bs) (newer-items cs) (sym ((rw (part-is 10019 3490 xs) at f) (waiting_bytes bs) w) ∙ e))
 
   pub any_back : (h : Bool) → h ≡ false → ((vs : List ℕ) → RoomWf 16 (take 3490 (drop 10019 xs)) vs → h ≡ has_items (items_with e.older (tagged (take 3490 (drop 10019 xs)) vs))) → ((vs : List ℕ) → RoomWf 16 (take 3490 (drop 10019 ys)) vs → r ≡ has_items (items_with e.newer (tagged (take 3490 (drop 10019 ys)) vs))) → (bs cs : List ℕ) → RoomWf 16 (waiting_numbers xs) (waiting_bytes bs) → RoomWf 16 (waiting_numbers ys) (waiting_bytes cs) → r ≡ has_items (ending_items e xs bs ys cs)
   unfolding ending_items
@@ -179,7 +165,7 @@ module _ (e : Ending) (xs bs ys cs : List ℕ) (g : EndingGiven e xs bs ys cs) w
   abbrev was : Option Table
   was = work_in (drop long_numbers xs) (drop long_bytes bs)
 
-  pub ended-none : has_items (ending_items e xs bs ys cs) ≡ false → WorkedAs (finish_with (ending_span e) (ending_items e xs bs ys cs) was) xs bs Done xs bs
+  pub ended-none : has_items (ending_items e xs bs ys cs) ≡ false → WorkedAs (finish_with (ending_span e) (ending_items e xs bs ys cs) was) xs bs (Ok tt) xs bs
   ended-none n =
       record {
         ends = record { rule = sym (finish-none (ending_span e) (ending_items e xs bs ys cs) was n); wf = g.table };
@@ -193,47 +179,47 @@ module _ (e : Ending) (xs bs ys cs : List ℕ) (g : EndingGiven e xs bs ys cs) w
     pub newer-ready : Replayable (newer-items e xs ys true cs) (work_in (drop long_numbers xs') (drop long_bytes bs'))
     newer-ready = rw l.becomes.is (back_replayable (older-items e xs ys true bs) (newer-items e xs ys true cs) was (unfold ending_items in g.ready))
 
-    ended_some : (r : Outcome) (p b : List ℕ) → has_items (ending_items e xs bs ys cs) ≡ true → Ends (and_then (spanned (ending_span e) (made (replayed_items (newer-items e xs ys true cs) (work_in (drop long_numbers xs') (drop long_bytes bs'))))) (λ t. ok (some t))) r p b → WorkedAs (finish_with (ending_span e) (ending_items e xs bs ys cs) was) xs bs r (put_mid 13509 (length xs' - 13509) xs' p) (put_mid 28672 (length bs' - 28672) bs' b)
+    ended_some : (r : ByCause (Unit {0})) (p b : List ℕ) → has_items (ending_items e xs bs ys cs) ≡ true → Ends (and_then (spanned (ending_span e) (made (replayed_items (newer-items e xs ys true cs) (work_in (drop long_numbers xs') (drop long_bytes bs'))))) (λ t. Ok (Some t))) r p b → WorkedAs (finish_with (ending_span e) (ending_items e xs bs ys cs) was) xs bs r (put_mid 13509 (length xs' - 13509) xs' p) (put_mid 28672 (length bs' - 28672) bs' b)
     ended_some r p b h d =
         let n : length xs' ≡ 17231 = l.working.numbers-length ∙ g.numbers-are in
         let k : length bs' ≡ 38912 = l.working.bytes-length ∙ g.bytes-are in
-        let q : finish_with (ending_span e) (ending_items e xs bs ys cs) was ≡ and_then (spanned (ending_span e) (made (replayed_items (newer-items e xs ys true cs) (replayed_items (older-items e xs ys true bs) was)))) (λ t. ok (some t)) =
-        finish-some (ending_span e) (ending_items e xs bs ys cs) was h ∙ ap (λ (o : Option Table). and_then (spanned (ending_span e) (made o)) (λ t. ok (some t))) (unfold ending_items in items-append (older-items e xs ys true bs) (newer-items e xs ys true cs) was) in
+        let q : finish_with (ending_span e) (ending_items e xs bs ys cs) was ≡ and_then (spanned (ending_span e) (made (replayed_items (newer-items e xs ys true cs) (replayed_items (older-items e xs ys true bs) was)))) (λ t. Ok (Some t)) =
+        finish-some (ending_span e) (ending_items e xs bs ys cs) was h ∙ ap (λ (o : Option Table). and_then (spanned (ending_span e) (made o)) (λ t. Ok (Some t))) (unfold ending_items in items-append (older-items e xs ys true bs) (newer-items e xs ys true cs) was) in
         record {
           ends = rw (long_back xs' p n d.wf.numbers-are, lent_back xs' p n d.wf.numbers-are bs' b k d.wf.bytes-are, q) (rw l.becomes.is at d);
           working = working-then l.working (lent-working xs' p n d.wf.numbers-are bs' b k d.wf.bytes-are);
         }
 
     -- the same, with the work table as it is lent
-    pub ended_lent : (r : Outcome) (p b : List ℕ) → has_items (ending_items e xs bs ys cs) ≡ true → Ends (and_then (spanned (ending_span e) (made (replayed_items (newer-items e xs ys true cs) (work_in (take (length xs' - 13509) (drop 13509 xs')) (take (length bs' - 28672) (drop 28672 bs')))))) (λ t. ok (some t))) r p b → WorkedAs (finish_with (ending_span e) (ending_items e xs bs ys cs) was) xs bs r (put_mid 13509 (length xs' - 13509) xs' p) (put_mid 28672 (length bs' - 28672) bs' b)
+    pub ended_lent : (r : ByCause (Unit {0})) (p b : List ℕ) → has_items (ending_items e xs bs ys cs) ≡ true → Ends (and_then (spanned (ending_span e) (made (replayed_items (newer-items e xs ys true cs) (work_in (take (length xs' - 13509) (drop 13509 xs')) (take (length bs' - 28672) (drop 28672 bs')))))) (λ t. Ok (Some t))) r p b → WorkedAs (finish_with (ending_span e) (ending_items e xs bs ys cs) was) xs bs r (put_mid 13509 (length xs' - 13509) xs' p) (put_mid 28672 (length bs' - 28672) bs' b)
     ended_lent r p b h d = ended_some r p b h (rw (part_to_end xs' 13509, part_to_end bs' 28672) at d)
 
 -- ---- what finishes of a group
 
 -- what the search for it tells of the rooms, as they are lent
-abbrev pub FinishingOf : ℕ → List ℕ → List ℕ → Finishing → Type 0
+abbrev pub FinishingOf : ℕ → List ℕ → List ℕ → Option Ending → Type 0
 FinishingOf g ws us r =
     (vs ds : List ℕ) → RoomWf 16 ws vs → RoomWf 16 us ds → finished_of (lookup numbers g (waiting_of us ds)) (lookup numbers g (waiting_of ws vs)) ≡ finished_as r (tagged ws vs) (tagged us ds)
 
-every-last : {A : Type 0} (p : A → Bool) (xs : List A) (x : A) → every p xs ≡ true → last xs ≡ some x → p x ≡ true
+every-last : {A : Type 0} (p : A → Bool) (xs : List A) (x : A) → every p xs ≡ true → last xs ≡ Some x → p x ≡ true
 unfolding last
-every-last p [] x h e = absurd (none-ne-some x e)
-every-last p (y ∷ []) x h e = rw (some-injective y x e) at (every-head p y [] h)
+every-last p [] x h e = absurd (none-some x e)
+every-last p (y ∷ []) x h e = rw (same_Some y x e) at (every-head p y [] h)
 every-last p (y ∷ (z ∷ zs)) x h e = every-last p (z ∷ zs) x (every-tail p y (z ∷ zs) h) e
 
-accepted-own : (g : ℕ) (new : Part) (a : Accepted) (f : Finished) → own_items g new.items ≡ true → OwnAccepted g a → finished_by new a ≡ some f → own_items g f.items ≡ true
+accepted-own : (g : ℕ) (new : Part) (a : Accepted) (f : Finished) → own_items g new.items ≡ true → OwnAccepted g a → finished_by new a ≡ Some f → own_items g f.items ≡ true
 unfolding finished_by
-accepted-own g new (wait ps) f hn h e = absurd (none-ne-some f e)
+accepted-own g new (wait ps) f hn h e = absurd (none-some f e)
 accepted-own g new (finish old ps) f hn h e =
-    rw (ap (λ (x : Finished). x.items) (some-injective _ f e)) at (own-items-append g old.items new.items (own_old g old ps h) hn)
-accepted-own g new back f hn h e = absurd (none-ne-some f e)
+    rw (ap (λ (x : Finished). x.items) (same_Some _ f e)) at (own-items-append g old.items new.items (own_old g old ps h) hn)
+accepted-own g new back f hn h e = absurd (none-some f e)
 
 -- the items that finish are the group's own
-finished-own : (g : ℕ) (newer older : Option (List Part)) (f : Finished) → own_parts g (parts_of newer) ≡ true → own_parts g (parts_of older) ≡ true → finished_of newer older ≡ some f → own_items g f.items ≡ true
+finished-own : (g : ℕ) (newer older : Option (List Part)) (f : Finished) → own_parts g (parts_of newer) ≡ true → own_parts g (parts_of older) ≡ true → finished_of newer older ≡ Some f → own_items g f.items ≡ true
 unfolding finished_of or_else
 finished-own g newer older f hn ho e =
     by_option (last (parts_of newer))
-    (λ s. absurd (none-ne-some f (rw s at e)))
+    (λ s. absurd (none-some f (rw s at e)))
     (λ p s.
     let own : own_items g p.items ≡ true = every-last (λ (x : Part). own_items g x.items) (parts_of newer) p (unfold own_parts in hn) s in
     accepted-own g p (accept (parts_of older) p) f own (accept-own g (parts_of older) p ho own) (rw s at e))
@@ -255,7 +241,7 @@ module _ (g : ℕ) (xs bs ys cs : List ℕ) (k : PartsGiven g xs bs ys cs) where
   at_room : Within 64 16 at
   at_room = group-room g (groups_of xs bs) (groups-fit xs bs k.wf.groups).1
 
-  module _ (f : Finished) (e : finished_at g (context_of ys cs) (context_of xs bs) ≡ some f) where
+  module _ (f : Finished) (e : finished_at g (context_of ys cs) (context_of xs bs) ≡ Some f) where
     own : own_items g f.items ≡ true
     own = finished-own g _ _ f (parts-own (context_of ys cs) g k.newer-wf.kept) (parts-own (context_of xs bs) g k.wf.kept) (unfold finished_at in e)
 
@@ -283,22 +269,22 @@ module _ (g : ℕ) (xs bs ys cs : List ℕ) (k : PartsGiven g xs bs ys cs) where
           keys = omega (arith, b, n);
         }
 
-  module _ (r : Finishing) (is : FinishingOf g (take 3490 (drop 10019 xs)) (take 3490 (drop 10019 ys)) r) where
+  module _ (r : Option Ending) (is : FinishingOf g (take 3490 (drop 10019 xs)) (take 3490 (drop 10019 ys)) r) where
     found : finished_at g (context_of ys cs) (context_of xs bs) ≡ finished_as r (tagged (waiting_numbers xs) (waiting_bytes bs)) (tagged (waiting_numbers ys) (waiting_bytes cs))
     unfolding finished_at
     found =
         rw (context-waits ys cs, context-waits xs bs)
         ((rw (part-is 10019 3490 xs, part-is 10019 3490 ys) at is) (waiting_bytes bs) (waiting_bytes cs) k.wf.waiting.room k.newer-wf.waiting.room)
 
-    pub finished-none : r ≡ finishing.None → WorkedAs (finish_table (finished_at g (context_of ys cs) (context_of xs bs)) at) xs bs Done xs bs
+    pub finished-none : r ≡ None → WorkedAs (finish_table (finished_at g (context_of ys cs) (context_of xs bs)) at) xs bs (Ok tt) xs bs
     finished-none e =
         record {
-          ends = record { rule = rw (found, e) (unfold finished_as finish_table in ap ok k.loaded.is); wf = k.loaded.wf };
+          ends = record { rule = rw (found, e) (unfold finished_as finish_table in ap Ok k.loaded.is); wf = k.loaded.wf };
           working = working-none xs bs;
         }
 
-    module _ (d : Ending) (e : r ≡ finishing.Of d) where
-      found_some : finished_at g (context_of ys cs) (context_of xs bs) ≡ some (record { items = ending_items d xs bs ys cs; span = ending_span d })
+    module _ (d : Ending) (e : r ≡ Some d) where
+      found_some : finished_at g (context_of ys cs) (context_of xs bs) ≡ Some (record { items = ending_items d xs bs ys cs; span = ending_span d })
       found_some = found ∙ rw e (unfold finished_as ending_items in refl)
 
       pub ending-given : EndingGiven d xs bs ys cs
@@ -314,50 +300,50 @@ module _ (g : ℕ) (xs bs ys cs : List ℕ) (k : PartsGiven g xs bs ys cs) where
             ready = rw k.loaded.is (finished-ready _ found_some);
           }
 
-      pub finished-some : (o : Outcome) (xs' bs' : List ℕ) → WorkedAs (finish_with (ending_span d) (ending_items d xs bs ys cs) (work_in (drop long_numbers xs) (drop long_bytes bs))) xs bs o xs' bs' → WorkedAs (finish_table (finished_at g (context_of ys cs) (context_of xs bs)) at) xs bs o xs' bs'
+      pub finished-some : (o : ByCause (Unit {0})) (xs' bs' : List ℕ) → WorkedAs (finish_with (ending_span d) (ending_items d xs bs ys cs) (work_in (drop long_numbers xs) (drop long_bytes bs))) xs bs o xs' bs' → WorkedAs (finish_table (finished_at g (context_of ys cs) (context_of xs bs)) at) xs bs o xs' bs'
       finished-some o xs' bs' w = rw found_some (unfold finish_table in (rw k.loaded.is at w))
 
 -- ---- the table afterwards
 
-spanned-room : (s : Span) (t u : Table) (e n : ℕ) → length t.entries ≤ e → length t.keys ≤ n → spanned s t ≡ ok u → (length u.entries ≤ e) × (length u.keys ≤ n)
+spanned-room : (s : Span) (t u : Table) (e n : ℕ) → length t.entries ≤ e → length t.keys ≤ n → spanned s t ≡ Ok u → (length u.entries ≤ e) × (length u.keys ≤ n)
 unfolding spanned
 spanned-room s t u e n a b q =
     split (span_goes_back t.span s)
     (λ z. absurd (refused_not_ok (rw z at q)))
     (λ z. rw (← (ok_inj (rw z at q))) (unfold with_span in (a, b)))
 
-some-room : (t : Table) (o : Option Table) (e n : ℕ) → ok (some t) ≡ ok o → (length t.entries ≤ e) × (length t.keys ≤ n) → Within e n o
+some-room : (t : Table) (o : Option Table) (e n : ℕ) → ◌≡◌ {A = Result (Option Table)} (Ok (Some t)) (Ok o) → (length t.entries ≤ e) × (length t.keys ≤ n) → Within e n o
 unfolding made or_else
 some-room t o e n q r = rw (← (ok_inj q)) (record { few-entries = r.0; few-keys = r.1 })
 
-with-room : (s : Span) (l : List rules.LogItem) (o t : Option Table) → Within 64 16 o → sum entries_in l ≤ 256 → length l ≤ 128 → finish_with s l o ≡ ok t → Within 320 144 t
+with-room : (s : Span) (l : List rules.LogItem) (o t : Option Table) → Within 64 16 o → sum entries_in l ≤ 256 → length l ≤ 128 → finish_with s l o ≡ Ok t → Within 320 144 t
 unfolding finish_with
 with-room s [] o t w a b e = rw (ok_inj e) at (within_more 64 16 320 144 o (omega arith) (omega arith) w)
 with-room s (x ∷ l) o t w a b e =
-    let r = and_then_ok (spanned s (made (replayed_items (x ∷ l) o))) (λ u. ok (some u)) t e in
+    let r = and_then_ok (spanned s (made (replayed_items (x ∷ l) o))) (λ u. Ok (Some u)) t e in
     let k = within_more (64 + sum entries_in (x ∷ l)) (16 + length (x ∷ l)) 320 144 (replayed_items (x ∷ l) o) (omega (arith, a)) (omega (arith, b)) (items-room 64 16 (x ∷ l) o w) in
     some-room r.0 t 320 144 r.2 (spanned-room s (made (replayed_items (x ∷ l) o)) r.0 320 144 k.few-entries k.few-keys r.1)
 
-some-meets : (p : rules.EntryIndex → Bool) (t : Table) (o : Option Table) → ok (some t) ≡ ok o → every p t.entries ≡ true → every p (made o).entries ≡ true
+some-meets : (p : rules.EntryIndex → Bool) (t : Table) (o : Option Table) → ◌≡◌ {A = Result (Option Table)} (Ok (Some t)) (Ok o) → every p t.entries ≡ true → every p (made o).entries ≡ true
 unfolding made or_else
 some-meets p t o e h = rw (← (ok_inj e)) h
 
-with-meets : (p : rules.EntryIndex → Bool) (s : Span) (l : List rules.LogItem) (o t : Option Table) → every (λ (it : rules.LogItem). each_entry p it.content) l ≡ true → every p (made o).entries ≡ true → finish_with s l o ≡ ok t → every p (made t).entries ≡ true
+with-meets : (p : rules.EntryIndex → Bool) (s : Span) (l : List rules.LogItem) (o t : Option Table) → every (λ (it : rules.LogItem). each_entry p it.content) l ≡ true → every p (made o).entries ≡ true → finish_with s l o ≡ Ok t → every p (made t).entries ≡ true
 unfolding finish_with
 with-meets p s [] o t k h e = rw (ok_inj e) at h
 with-meets p s (x ∷ l) o t k h e =
-    let r = and_then_ok (spanned s (made (replayed_items (x ∷ l) o))) (λ u. ok (some u)) t e in
+    let r = and_then_ok (spanned s (made (replayed_items (x ∷ l) o))) (λ u. Ok (Some u)) t e in
     some-meets p r.0 t r.2 (spanned-meets p s (made (replayed_items (x ∷ l) o)) r.0 (items-meet p (x ∷ l) o k h) r.1)
 
-after_none : (o t : Option Table) → finish_table none o ≡ ok t → o ≡ t
+after_none : (o t : Option Table) → finish_table None o ≡ Ok t → o ≡ t
 unfolding finish_table
 after_none o t e = ok_inj e
 
-after-some : (f : Finished) (o t : Option Table) → finish_table (some f) o ≡ ok t → finish_with f.span f.items o ≡ ok t
+after-some : (f : Finished) (o t : Option Table) → finish_table (Some f) o ≡ Ok t → finish_with f.span f.items o ≡ Ok t
 unfolding finish_table
 after-some f o t e = e
 
-module _ (g : ℕ) (xs bs ys cs : List ℕ) (k : PartsGiven g xs bs ys cs) (t : Option Table) (e : finish_table (finished_at g (context_of ys cs) (context_of xs bs)) (lookup numbers g (groups_of xs bs)) ≡ ok t) where
+module _ (g : ℕ) (xs bs ys cs : List ℕ) (k : PartsGiven g xs bs ys cs) (t : Option Table) (e : finish_table (finished_at g (context_of ys cs) (context_of xs bs)) (lookup numbers g (groups_of xs bs)) ≡ Ok t) where
   pub after-room : Within 320 144 t
   after-room =
       by_option (finished_at g (context_of ys cs) (context_of xs bs))

@@ -1,20 +1,18 @@
 -- The work on one group as a whole: loaded, the part that finishes, and what is laid over. Assumes nothing.
 use mathlib.Core.List.{List}
-use mathlib.Core.Option.{Option, none}
+use Rattle.std.specs.Prelude.{Option, None}
 use mathlib.Core.Path.{◌≡◌, sym, ap, ◌∙◌}
 use Prim.Native.Nat.{ℕ, ◌-◌}
 use lib.ListN.{length, take, drop}
 use borrow.Author.Rules.{part_to_end}
 use borrow.Rule.Slice.PartMut.{put_mid}
 use Rattle.maps.specs.Maps.{lookup, numbers}
-use Rattle.rules.specs.Causes.{Result, ok, refused, and_then}
+use Rattle.rules.specs.Causes.{Cause, ByCause, Result, Ok, Err, and_then}
 use Rattle.rules.specs.Table.{Table}
 use Rattle.rules.specs.Context.{Context}
 use Rattle.rules_by_group.specs.Group.{finish_table, tombed}
 use Rattle.rules_by_group.proofs.ResultLaws.{and_then_of, and_then-refused}
 use Rattle.rules_by_group.specs.Kept.{Within}
-use Rattle.stretch.specs.declared.Outcome.{Outcome}
-use Rattle.stretch.specs.declared.Outcome.TheVariants.{Done, Refused}
 use Rattle.groups.specs.Area.{groups_of}
 use Rattle.contexts.specs.Contexts.{context_of}
 use Rattle.contexts.specs.AreaLaws.{formed_of, area-length, area-bytes}
@@ -48,7 +46,7 @@ module _ (m : Mode) (g : ℕ) (xs bs ys cs : List ℕ) (given : Given m xs bs ys
         kind = λ f e. rw context-stays (finishes-in g (context_of ys cs) (context_of xs bs) given.newer-wf.kept m given.newer-kind given.kind f (rw context-stays at e));
       }
 
-  module _ (o : Outcome) (xs₂ bs₂ : List ℕ) (w : WorkedAs (finish_table (finished_at g (context_of ys cs) (context_of xs₁ bs₁)) (lookup numbers g (groups_of xs₁ bs₁))) xs₁ bs₁ o xs₂ bs₂) where
+  module _ (o : ByCause (Unit {0})) (xs₂ bs₂ : List ℕ) (w : WorkedAs (finish_table (finished_at g (context_of ys cs) (context_of xs₁ bs₁)) (lookup numbers g (groups_of xs₁ bs₁))) xs₁ bs₁ o xs₂ bs₂) where
     abbrev finished : Result (Option Table)
     finished = finish_table (finished_at g (context_of ys cs) (context_of xs bs)) (lookup numbers g (groups_of xs bs))
 
@@ -70,22 +68,22 @@ module _ (m : Mode) (g : ℕ) (xs bs ys cs : List ℕ) (given : Given m xs bs ys
     pub bytes_stay : length bs₂ ≡ 38912
     bytes_stay = moved.bytes-length ∙ area-bytes xs bs (formed_of xs bs given.wf)
 
-    refused-is : (n : ℕ) → o ≡ Refused n → finished ≡ refused (record { number = n; place = none })
+    refused-is : (n : Cause) → o ≡ Err n → finished ≡ Err (record { cause = n; place = None })
     refused-is n e = sym (rw e at ended.rule)
 
     -- files go back
-    pub part-refused : (n : ℕ) → o ≡ Refused n → WorkedAs (group_by m (context_of ys cs) (context_of xs bs) g) xs bs o xs₂ bs₂
+    pub part-refused : (n : Cause) → o ≡ Err n → WorkedAs (group_by m (context_of ys cs) (context_of xs bs) g) xs bs (Err n) xs₂ bs₂
     part-refused n e =
         record {
-          ends = record { rule = rw (e, group-whole) (sym (and_then-refused finished rest _ (refused-is n e))); wf = ended.wf };
+          ends = record { rule = rw group-whole (sym (and_then-refused finished rest _ (refused-is n e))); wf = ended.wf };
           working = moved;
         }
 
-    module _ (e : o ≡ Done) where
-      done-is : finished ≡ ok (work_in (drop long_numbers xs₂) (drop long_bytes bs₂))
+    module _ (e : o ≡ (Ok tt)) where
+      done-is : finished ≡ Ok (work_in (drop long_numbers xs₂) (drop long_bytes bs₂))
       done-is = sym (rw e at ended.rule)
 
-      done_here : finish_table (finished_at g (context_of ys cs) (context_of xs₁ bs₁)) (lookup numbers g (groups_of xs₁ bs₁)) ≡ ok (work_in (drop long_numbers xs₂) (drop long_bytes bs₂))
+      done_here : finish_table (finished_at g (context_of ys cs) (context_of xs₁ bs₁)) (lookup numbers g (groups_of xs₁ bs₁)) ≡ Ok (work_in (drop long_numbers xs₂) (drop long_bytes bs₂))
       done_here = sym (rw e at w.ends.rule)
 
       pub part_room : Within 320 144 (work_in (drop long_numbers xs₂) (drop long_bytes bs₂))
@@ -96,7 +94,7 @@ module _ (m : Mode) (g : ℕ) (xs bs ys cs : List ℕ) (given : Given m xs bs ys
           older-of m (context_of xs bs) g (context_of ys cs).tombstones _ given.wf.kept given.kind
           (λ h. after-rewrite g xs₁ bs₁ ys cs parts-given _ done_here (rw groups_stay (rw (context-groups xs bs) at h)))
 
-      group_worked : (r : Outcome) (p b : List ℕ) → Ends (rest (work_in (drop long_numbers xs₂) (drop long_bytes bs₂))) r p b → WorkedAs (group_by m (context_of ys cs) (context_of xs bs) g) xs bs r (put_mid 13509 (length xs₂ - 13509) xs₂ p) (put_mid 28672 (length bs₂ - 28672) bs₂ b)
+      group_worked : (r : ByCause (Unit {0})) (p b : List ℕ) → Ends (rest (work_in (drop long_numbers xs₂) (drop long_bytes bs₂))) r p b → WorkedAs (group_by m (context_of ys cs) (context_of xs bs) g) xs bs r (put_mid 13509 (length xs₂ - 13509) xs₂ p) (put_mid 28672 (length bs₂ - 28672) bs₂ b)
       group_worked r p b d =
           record {
             ends = rw (long_back xs₂ p numbers_stay d.wf.numbers-are, lent_back xs₂ p numbers_stay d.wf.numbers-are bs₂ b bytes_stay d.wf.bytes-are, group-whole, and_then_of finished rest _ done-is) d;
@@ -104,5 +102,5 @@ module _ (m : Mode) (g : ℕ) (xs bs ys cs : List ℕ) (given : Given m xs bs ys
           }
 
       -- the same, with the work table as it is lent
-      pub group_lent : (r : Outcome) (p b : List ℕ) → Ends (rest (work_in (take (length xs₂ - 13509) (drop 13509 xs₂)) (take (length bs₂ - 28672) (drop 28672 bs₂)))) r p b → WorkedAs (group_by m (context_of ys cs) (context_of xs bs) g) xs bs r (put_mid 13509 (length xs₂ - 13509) xs₂ p) (put_mid 28672 (length bs₂ - 28672) bs₂ b)
+      pub group_lent : (r : ByCause (Unit {0})) (p b : List ℕ) → Ends (rest (work_in (take (length xs₂ - 13509) (drop 13509 xs₂)) (take (length bs₂ - 28672) (drop 28672 bs₂)))) r p b → WorkedAs (group_by m (context_of ys cs) (context_of xs bs) g) xs bs r (put_mid 13509 (length xs₂ - 13509) xs₂ p) (put_mid 28672 (length bs₂ - 28672) bs₂ b)
       group_lent r p b d = group_worked r p b (rw (part_to_end xs₂ 13509, part_to_end bs₂ 28672) at d)

@@ -1,18 +1,16 @@
 -- The ways through the functions that find a number. Assumes nothing.
+use Rattle.std.specs.Prelude.{Option}
 use mathlib.Core.List.{List}
 use mathlib.Core.Path.{◌≡◌}
 use Prim.Native.Nat.{ℕ, ◌+◌, ◌-◌, ◌*◌, ◌≤◌, ◌<◌}
 use native.Mathlib.Nat.{add-zero}
 use native.Mathlib.Omega.{arith}
 use lib.ListN.{length, get_or, take, drop}
-use borrow.Author.Tests.{lt-ltb, ne_eqb, le-ltb}
+use borrow.Author.Tests.{lt-ltb, le-ltb}
 use borrow.Author.Rules.{part_to_end}
 use Rattle.cells.specs.PartLaws.{part-is, get_or-part}
 use Rattle.stretch.specs.Layout.{stretch_width}
-use Rattle.stretch.specs.Stretch.{is_used, group_in}
 use Rattle.groups.specs.Area.{stretch_at}
-use Rattle.staging.specs.declared.Number.{Number}
-use Rattle.staging.specs.declared.Number.TheVariants as number
 use Rattle.staging.specs.Modes.{stretch_number, tombstone_number, waiting_number, number_at, numbers_of}
 
 -- a number of stretch k
@@ -20,37 +18,13 @@ pub in-stretch : (k i : ℕ) (xs : List ℕ) → i < stretch_width → get_or (s
 unfolding stretch_at
 in-stretch k i xs l = get_or-part (k * stretch_width) stretch_width xs i 0 l
 
-first-is : (k : ℕ) (xs : List ℕ) → get_or (stretch_at k xs) 0 0 ≡ get_or xs (k * stretch_width) 0
-first-is k xs = rw (add-zero (k * stretch_width)) at (in-stretch k 0 xs (omega arith))
+pub first_is : (k : ℕ) (xs : List ℕ) → get_or (stretch_at k xs) 0 0 ≡ get_or xs (k * stretch_width) 0
+first_is k xs = rw (add-zero (k * stretch_width)) at (in-stretch k 0 xs (omega arith))
 
-module _ (k : ℕ) (xs : List ℕ) where
-  pub stretch-used : get_or xs (k * stretch_width) 0 ≡ 1 → numbers_of (number.Of (get_or xs (k * stretch_width + 1) 0)) ≡ stretch_number k xs
-  unfolding stretch_number numbers_of is_used group_in
-  stretch-used e = rw (first-is k xs, e, in-stretch k 1 xs (omega arith))
+pub second_is : (k : ℕ) (xs : List ℕ) → get_or (stretch_at k xs) 1 0 ≡ get_or xs (k * stretch_width + 1) 0
+second_is k xs = in-stretch k 1 xs (omega arith)
 
-  pub stretch-free : (get_or xs (k * stretch_width) 0 ≡ 1 → ⊥) → numbers_of number.None ≡ stretch_number k xs
-  unfolding stretch_number numbers_of is_used
-  stretch-free n = rw (first-is k xs, ne_eqb (get_or xs (k * stretch_width) 0) 1 n)
-
-module _ (j : ℕ) (ys : List ℕ) where
-  pub tombstone-there : j < get_or ys 1 0 → numbers_of (number.Of (get_or ys (67 + j * 9) 0)) ≡ tombstone_number j ys
-  unfolding tombstone_number numbers_of
-  tombstone-there l = rw (lt-ltb j (get_or ys 1 0) l)
-
-  pub tombstone-not : get_or ys 1 0 ≤ j → numbers_of number.None ≡ tombstone_number j ys
-  unfolding tombstone_number numbers_of
-  tombstone-not l = rw (le-ltb j (get_or ys 1 0) l)
-
-module _ (k : ℕ) (ws : List ℕ) where
-  pub waiting_none : get_or ws (2 + k * 10) 0 ≡ 0 → numbers_of number.None ≡ waiting_number k ws
-  unfolding waiting_number numbers_of
-  waiting_none e = rw e
-
-  pub waiting-there : (get_or ws (2 + k * 10) 0 ≡ 0 → ⊥) → numbers_of (number.Of (get_or ws (2 + k * 10 + 1) 0)) ≡ waiting_number k ws
-  unfolding waiting_number numbers_of
-  waiting-there n = rw (ne_eqb (get_or ws (2 + k * 10) 0) 0 n)
-
-module _ (xs ys : List ℕ) (i : ℕ) (r : Number) where
+module _ (xs ys : List ℕ) (i : ℕ) (r : Option ℕ) where
   pub older_number : i < 8 → numbers_of r ≡ stretch_number i xs → numbers_of r ≡ number_at xs ys i
   unfolding number_at
   older_number l e = rw (lt-ltb i 8 l) e

@@ -1,7 +1,7 @@
 -- The ways of an item of a finished part on the work table, and the items one after the other. Assumes nothing.
 use mathlib.Core.Bool.{Bool, true, false, not, ◌&&◌}
 use mathlib.Core.List.{List, [], ◌∷◌}
-use mathlib.Core.Option.{Option}
+use Rattle.std.specs.Prelude.{Option}
 use mathlib.Core.Path.{◌≡◌, refl, sym, ap, ◌∙◌}
 use Prim.Native.Nat.{ℕ, ◌+◌, ◌*◌, ◌/◌, ◌≤◌, ◌<◌}
 use native.Mathlib.Omega.{arith}
@@ -10,7 +10,7 @@ use borrow.Author.Tests.{not-true}
 use Rattle.maps.specs.Lists.{every, sum}
 use Rattle.maps.specs.BoolLaws.{both_left, both_right}
 use Rattle.maps.specs.ListLaws.{every-head, every-tail}
-use Rattle.rules.specs.Causes.{ok, left}
+use Rattle.rules.specs.Causes.{Ok, left}
 use Rattle.rules.specs.Items as rules
 use Rattle.rules.specs.Checks.{long, is_out_of_range, is_other_queue, is_not_rewritable, is_incomplete, meets3, unless_reserved}
 use Rattle.rules.specs.Table.{Table, made, change, command_to}
@@ -96,7 +96,7 @@ module _ (it : LogItem) (es bs : List ℕ) (o : Option Table) (l : Lent it (leng
   unfolding call_of
   says = says-replays its (content_of it.content es bs) _ _ _ o (deed-says call.TheVariants.ReplayRewrite it.content es bs l.within d clear) only
 
-  gives : deed_to its (rows_in it.content es) (key_in it.content bs) (value_in it.content bs) o ≡ ok (replayed what o)
+  gives : deed_to its (rows_in it.content es) (key_in it.content bs) (value_in it.content bs) o ≡ Ok (replayed what o)
   unfolding replayed item_of
   gives = says.rule ∙ replay-changed (content_of it.content es bs) o
 
@@ -113,7 +113,7 @@ module _ (it : LogItem) (es bs : List ℕ) (o : Option Table) (l : Lent it (leng
 
   -- what the work table asks
   pub replayed-taken : Taken its (rows_in it.content es) (key_in it.content bs) (value_in it.content bs) o
-  replayed-taken = record { ready = says.ready; taken = gives ∙ ap ok (sym gives_left); room = rw gives_left room }
+  replayed-taken = record { ready = says.ready; taken = gives ∙ ap Ok (sym gives_left); room = rw gives_left room }
 
   pub replayed-becomes : (p b : List ℕ) → Becomes (left o (deed_to its (rows_in it.content es) (key_in it.content bs) (value_in it.content bs) o)) p b → Becomes (replayed what o) p b
   replayed-becomes p b k = record { is = k.is ∙ gives_left; wf = k.wf }

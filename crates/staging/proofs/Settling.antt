@@ -2,7 +2,7 @@
 -- stretch, or it passes a limit. Assumes nothing.
 use mathlib.Core.Bool.{true, false, ◌&&◌, and-false}
 use mathlib.Core.List.{List, [], ◌∷◌}
-use mathlib.Core.Option.{Option, none, some}
+use Rattle.std.specs.Prelude.{Option, None, Some}
 use mathlib.Core.Path.{◌≡◌, refl, sym, ◌∙◌}
 use Prim.Native.Nat.{ℕ, ◌+◌, ◌*◌, ◌≤◌, ◌<◌}
 use native.Mathlib.Omega.{arith}
@@ -18,7 +18,7 @@ use Rattle.maps.specs.MapLaws.{pair}
 use Rattle.maps.specs.Cells.{map_of}
 use Rattle.maps.proofs.CellLaws.{map-store-free, distinct-store-free, length-free}
 use Rattle.rules.specs.Limits.{max_groups}
-use Rattle.rules.specs.Causes.{Result, ok, refused, Refusal}
+use Rattle.rules.specs.Causes.{Result, Ok, Err, Refusal}
 use Rattle.rules.specs.Table.{Table}
 use Rattle.rules.specs.Context.{table_fits}
 use Rattle.rules_by_group.specs.Stage.{stage_one, stage_all}
@@ -84,23 +84,23 @@ module _ (at : ℕ → Result (Option Table)) (g : ℕ) (f : Flags) (xs bs : Lis
       settled f (sym (stage-again at g (staged_in f xs bs) (table_in (stretch_at k (drop live_numbers xs)) (bytes_at k (drop live_bytes bs))) (lookup-found g k (drop live_numbers xs) (drop live_bytes bs) r.staged a)))
 
   module _ (absent : Absent g (drop live_numbers xs)) where
-    not-staged : lookup numbers g (staged_in f xs bs).groups ≡ none
+    not-staged : lookup numbers g (staged_in f xs bs).groups ≡ None
     unfolding staged_in
     not-staged = lookup-none g (drop live_numbers xs) (drop live_bytes bs) absent
 
-    pub settled-none : at g ≡ ok none → Staging at (g ∷ []) f xs bs f xs bs
-    settled-none e = settled f (sym (stage-new at g (staged_in f xs bs) (ok none) not-staged e ∙ stage-none g (staged_in f xs bs)))
+    pub settled-none : at g ≡ Ok None → Staging at (g ∷ []) f xs bs f xs bs
+    settled-none e = settled f (sym (stage-new at g (staged_in f xs bs) (Ok None) not-staged e ∙ stage-none g (staged_in f xs bs)))
 
-    pub settled-clashed : (x : Refusal) → at g ≡ refused x → Staging at (g ∷ []) f xs bs (record { clashed = true; passed = f.passed }) xs bs
+    pub settled-clashed : (x : Refusal) → at g ≡ Err x → Staging at (g ∷ []) f xs bs (record { clashed = true; passed = f.passed }) xs bs
     settled-clashed x e =
         settled (record { clashed = true; passed = f.passed })
-        (sym (stage-new at g (staged_in f xs bs) (refused x) not-staged e ∙ stage-refused g (staged_in f xs bs) x ∙ (unfold staged_in in refl)))
+        (sym (stage-new at g (staged_in f xs bs) (Err x) not-staged e ∙ stage-refused g (staged_in f xs bs) x ∙ (unfold staged_in in refl)))
 
-    module _ (t : Table) (e : at g ≡ ok (some t)) where
+    module _ (t : Table) (e : at g ≡ Ok (Some t)) where
       passes : (table_fits t && ltb (length (staged_in f xs bs).groups) max_groups) ≡ false → Staging at (g ∷ []) f xs bs (record { clashed = f.clashed; passed = true }) xs bs
       passes n =
           settled (record { clashed = f.clashed; passed = true })
-          (sym (stage-new at g (staged_in f xs bs) (ok (some t)) not-staged e ∙ stage-passes g (staged_in f xs bs) t n ∙ (unfold staged_in in refl)))
+          (sym (stage-new at g (staged_in f xs bs) (Ok (Some t)) not-staged e ∙ stage-passes g (staged_in f xs bs) t n ∙ (unfold staged_in in refl)))
 
       -- a table that does not fit
       pub settled-large : table_fits t ≡ false → Staging at (g ∷ []) f xs bs (record { clashed = f.clashed; passed = true }) xs bs
@@ -112,7 +112,7 @@ module _ (at : ℕ → Result (Option Table)) (g : ℕ) (f : Flags) (xs bs : Lis
 
       -- a table that fits is put into a free spare stretch
       module _ (k : ℕ) (xs' bs' : List ℕ) (free : FreeSlot g (drop live_numbers xs) k) (fits : table_fits t ≡ true)
-          (cell : cell_at (slots + k) xs' bs' ≡ some (pair g t)) (wf : stretch.Wf (stretch_at (slots + k) xs') (bytes_at (slots + k) bs')) (o : Only (slots + k) xs bs xs' bs') where
+          (cell : cell_at (slots + k) xs' bs' ≡ Some (pair g t)) (wf : stretch.Wf (stretch_at (slots + k) xs') (bytes_at (slots + k) bs')) (o : Only (slots + k) xs bs xs' bs') where
         inside : k < slots
         inside = free.inside
 
@@ -125,7 +125,7 @@ module _ (at : ℕ → Result (Option Table)) (g : ℕ) (f : Flags) (xs bs : Lis
         only : Only k (drop live_numbers xs) (drop live_bytes bs) (drop live_numbers xs') (drop live_bytes bs')
         only = spare-only k xs bs xs' bs' inside long long-bytes o
 
-        cells_are : cells (drop live_numbers xs') (drop live_bytes bs') ≡ set (cells (drop live_numbers xs) (drop live_bytes bs)) k (some (pair g t))
+        cells_are : cells (drop live_numbers xs') (drop live_bytes bs') ≡ set (cells (drop live_numbers xs) (drop live_bytes bs)) k (Some (pair g t))
         cells_are =
             only-cells (omega (arith, inside)) r.staged.numbers_fit r.staged.bytes_fit only inside
             ∙ rw (spare-cell k xs' bs' ∙ cell)
@@ -133,10 +133,10 @@ module _ (at : ℕ → Result (Option Table)) (g : ℕ) (f : Flags) (xs bs : Lis
         place : k < length (cells (drop live_numbers xs) (drop live_bytes bs))
         place = rw (length-cells (drop live_numbers xs) (drop live_bytes bs)) inside
 
-        was_free : get_or (cells (drop live_numbers xs) (drop live_bytes bs)) k none ≡ none
+        was_free : get_or (cells (drop live_numbers xs) (drop live_bytes bs)) k None ≡ None
         was_free = get_or-cells k (drop live_numbers xs) (drop live_bytes bs) inside ∙ free-cell k (drop live_numbers xs) (drop live_bytes bs) free.free
 
-        absent-map : lookup numbers g (map_of (cells (drop live_numbers xs) (drop live_bytes bs))) ≡ none
+        absent-map : lookup numbers g (map_of (cells (drop live_numbers xs) (drop live_bytes bs))) ≡ None
         absent-map = unfold groups_of in lookup-none g (drop live_numbers xs) (drop live_bytes bs) absent
 
         groups-are : groups_of (drop live_numbers xs') (drop live_bytes bs') ≡ insert numbers g t (groups_of (drop live_numbers xs) (drop live_bytes bs))
@@ -164,7 +164,7 @@ module _ (at : ℕ → Result (Option Table)) (g : ℕ) (f : Flags) (xs bs : Lis
         unfolding stage_all
         settled-put =
             record {
-              staged = staged-more ∙ sym (stage-new at g (staged_in f xs bs) (ok (some t)) not-staged e ∙ stage-fits g (staged_in f xs bs) t (both fits few));
+              staged = staged-more ∙ sym (stage-new at g (staged_in f xs bs) (Ok (Some t)) not-staged e ∙ stage-fits g (staged_in f xs bs) t (both fits few));
               ready = ready-still;
               beside = spare-beside k xs bs xs' bs' inside long long-bytes o;
             }

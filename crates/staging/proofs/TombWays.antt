@@ -1,7 +1,7 @@
 -- The ways of a tombstone on the work table, and the tombstones one after the other. Assumes nothing.
 use mathlib.Core.Bool.{Bool, true}
 use mathlib.Core.List.{List, [], ◌∷◌, ◌++◌}
-use mathlib.Core.Option.{Option}
+use Rattle.std.specs.Prelude.{Option}
 use mathlib.Core.Path.{◌≡◌, refl, sym, ap, ◌∙◌}
 use Prim.Native.Nat.{ℕ, zero, suc, ◌+◌, ◌*◌, ◌<◌}
 use native.Mathlib.Omega.{arith}
@@ -9,7 +9,7 @@ use lib.ListN.{length, get_or, drop}
 use borrow.Author.Tests.{eq-eqb, ne_eqb}
 use Rattle.maps.specs.Lists.{every}
 use Rattle.maps.specs.BoolLaws.{both_left, both_right}
-use Rattle.rules.specs.Causes.{ok, left}
+use Rattle.rules.specs.Causes.{Ok, left}
 use Rattle.rules.specs.Items as rules
 use Rattle.rules.specs.Table.{Table}
 use Rattle.rules_by_group.specs.Group.{effected, tombed}
@@ -55,7 +55,7 @@ module _ (g : ℕ) (it : LogItem) (es bs : List ℕ) (o : Option Table) where
     buried-taken w =
         record {
           ready = says.ready;
-          taken = says.rule ∙ ap ok (sym gives);
+          taken = says.rule ∙ ap Ok (sym gives);
           room = rw gives (within_more 320 144 384 160 (effected (content_of it.content es bs) o) (omega arith) (omega arith) (tomb-room 320 144 o w (content_of it.content es bs)));
         }
 

@@ -1,6 +1,6 @@
 -- The number of one place staged, and one place after the other. Assumes nothing.
 use mathlib.Core.List.{List, [], ◌∷◌}
-use mathlib.Core.Option.{Option}
+use Rattle.std.specs.Prelude.{Some, None, Option}
 use mathlib.Core.Path.{◌≡◌}
 use Prim.Native.Nat.{ℕ, suc, ◌+◌}
 use native.Mathlib.Numerals.{add-one}
@@ -11,8 +11,6 @@ use Rattle.maps.specs.OrderLaws.{split}
 use Rattle.rules.specs.Causes.{Result}
 use Rattle.rules.specs.Table.{Table}
 use Rattle.staging.specs.declared.Flags.{Flags}
-use Rattle.staging.specs.declared.Number.{Number}
-use Rattle.staging.specs.declared.Number.TheVariants as number
 use Rattle.groups.specs.AreaLaws.{same-stretch}
 use Rattle.groups.specs.Undo.{live_numbers}
 use Rattle.contexts.specs.Contexts.{context_of}
@@ -22,19 +20,19 @@ use Rattle.staging.specs.StagingLaws.{staging-none, staging-then}
 use Rattle.staging.specs.Modes.{group_by, Given, stretch_number, number_at, firsts, numbers_of}
 use Rattle.staging.specs.ModeLaws.{beside-context}
 
-none_of : (n : Number) (gs : List ℕ) → n ≡ number.None → numbers_of n ≡ gs → [] ≡ gs
+none_of : (n : Option ℕ) (gs : List ℕ) → n ≡ None → numbers_of n ≡ gs → [] ≡ gs
 unfolding numbers_of
 none_of n gs e h = rw e at h
 
-one_of : (n : Number) (g : ℕ) (gs : List ℕ) → n ≡ number.Of g → numbers_of n ≡ gs → g ∷ [] ≡ gs
+one_of : (n : Option ℕ) (g : ℕ) (gs : List ℕ) → n ≡ Some g → numbers_of n ≡ gs → g ∷ [] ≡ gs
 unfolding numbers_of
 one_of n g gs e h = rw e at h
 
-module _ (at : ℕ → Result (Option Table)) (n : Number) (gs : List ℕ) (f : Flags) (xs bs : List ℕ) (h : numbers_of n ≡ gs) where
-  pub turn-none : n ≡ number.None → Ready xs bs → Staging at gs f xs bs f xs bs
+module _ (at : ℕ → Result (Option Table)) (n : Option ℕ) (gs : List ℕ) (f : Flags) (xs bs : List ℕ) (h : numbers_of n ≡ gs) where
+  pub turn-none : n ≡ None → Ready xs bs → Staging at gs f xs bs f xs bs
   turn-none e r = rw (← none_of n gs e h) (staging-none at f xs bs r)
 
-  pub turn_one : (g : ℕ) (r : Flags) (xs' bs' : List ℕ) → n ≡ number.Of g → Staging at (g ∷ []) f xs bs r xs' bs' → Staging at gs f xs bs r xs' bs'
+  pub turn_one : (g : ℕ) (r : Flags) (xs' bs' : List ℕ) → n ≡ Some g → Staging at (g ∷ []) f xs bs r xs' bs' → Staging at gs f xs bs r xs' bs'
   turn_one g r xs' bs' e s = rw (← one_of n g gs e h) s
 
 -- ---- one place after the other

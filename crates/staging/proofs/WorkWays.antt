@@ -1,7 +1,9 @@
 -- The ways of the work on one group: what is lent of the areas, and what comes back. Assumes nothing.
+use Rattle.rules.specs.Causes.{ByCause, Ok}
 use mathlib.Core.Bool.{true}
+use mathlib.Core.Logic.{◌⊎◌, ⊎_elim}
 use mathlib.Core.List.{List, []}
-use mathlib.Core.Option.{Option, none, some}
+use Rattle.std.specs.Prelude.{Option, None, Some}
 use mathlib.Core.Path.{◌≡◌, refl, sym, ap, ◌∙◌}
 use Prim.Native.Nat.{ℕ, ◌+◌, ◌-◌, ◌*◌, ◌≤◌}
 use native.Mathlib.Omega.{arith}
@@ -19,8 +21,6 @@ use Rattle.rules_by_group.proofs.RoomLaws.{tombed-room}
 use Rattle.rules_by_group.specs.Kept.{Within}
 use Rattle.stores.specs.declared.Store.{Store}
 use Rattle.stores.specs.Stores.{Area, area, store_items, Stored}
-use Rattle.stretch.specs.declared.Outcome.{Outcome}
-use Rattle.stretch.specs.declared.Outcome.TheVariants.{Done}
 use Rattle.stretch.specs.Layout.{stretch_width, bytes_width}
 use Rattle.stretch.specs.Stretch.{table_in}
 use Rattle.groups.specs.declared.Slot.{Slot}
@@ -64,7 +64,7 @@ module _ (xs : List ℕ) (p : List ℕ) (n : length xs ≡ 17231) (k : length p 
   pub long-length : length (put_mid 13509 (length xs - 13509) xs p) ≡ length xs
   long-length = length_back 13509 xs p (omega arith) (omega arith)
 
-  pub cleared-loaded : (bs : List ℕ) → length bs ≡ 38912 → ((b : List ℕ) → length b ≡ 10240 → Becomes none p b) → Loaded none xs bs (put_mid 13509 (length xs - 13509) xs p) bs
+  pub cleared-loaded : (bs : List ℕ) → length bs ≡ 38912 → ((b : List ℕ) → length b ≡ 10240 → Becomes None p b) → Loaded None xs bs (put_mid 13509 (length xs - 13509) xs p) bs
   cleared-loaded bs m f =
       record {
         becomes = rw long_back (f (drop long_bytes bs) (long-bytes-length bs m));
@@ -90,7 +90,7 @@ module _ (xs : List ℕ) (p : List ℕ) (n : length xs ≡ 17231) (k : length p 
 pub long-is : (a n : ℕ) (xs : List ℕ) → length xs ≡ a + n → part a n xs ≡ drop a xs
 long-is a n xs e = let k : length xs - a ≡ n = omega arith in sym (part_back a xs ∙ rw k)
 
-pub load-loaded : (k : ℕ) (xs bs xs' bs' : List ℕ) → length xs ≡ 17231 → length bs ≡ 38912 → length xs' ≡ length xs → length bs' ≡ length bs → moves.Loaded k xs bs xs' bs' → Loaded (some (table_in (stretch_at k xs) (bytes_at k bs))) xs bs xs' bs'
+pub load-loaded : (k : ℕ) (xs bs xs' bs' : List ℕ) → length xs ≡ 17231 → length bs ≡ 38912 → length xs' ≡ length xs → length bs' ≡ length bs → moves.Loaded k xs bs xs' bs' → Loaded (Some (table_in (stretch_at k xs) (bytes_at k bs))) xs bs xs' bs'
 unfolding moves.long_in moves.long_bytes_in
 load-loaded k xs bs xs' bs' n m p q l =
     record {
@@ -104,14 +104,11 @@ load-loaded k xs bs xs' bs' n m p q l =
     }
 
 module _ (g : ℕ) (xs bs : List ℕ) (w : Wf xs bs) (slot : Slot) (f : Found g xs slot) where
-  pub loaded_at : (k : ℕ) (xs' bs' : List ℕ) → slot ≡ At k → Loaded (some (table_in (stretch_at k xs) (bytes_at k bs))) xs bs xs' bs' → Loaded (lookup numbers g (groups_of xs bs)) xs bs xs' bs'
+  pub loaded_at : (k : ℕ) (xs' bs' : List ℕ) → slot ≡ At k → Loaded (Some (table_in (stretch_at k xs) (bytes_at k bs))) xs bs xs' bs' → Loaded (lookup numbers g (groups_of xs bs)) xs bs xs' bs'
   loaded_at k xs' bs' e l = rw (lookup-found g k xs bs w.groups (found_at_lem g k xs slot f e)) l
 
-  pub loaded-free : (k : ℕ) (xs' bs' : List ℕ) → slot ≡ Free k → Loaded none xs bs xs' bs' → Loaded (lookup numbers g (groups_of xs bs)) xs bs xs' bs'
-  loaded-free k xs' bs' e l = rw (lookup-free g k xs bs (found-free g k xs slot f e)) l
-
-  pub loaded-full : (xs' bs' : List ℕ) → slot ≡ Full → Loaded none xs bs xs' bs' → Loaded (lookup numbers g (groups_of xs bs)) xs bs xs' bs'
-  loaded-full xs' bs' e l = rw (lookup-full g xs bs (found-full g xs slot f e)) l
+  pub loaded-none : ((k : ℕ) × (slot ≡ Free k)) ⊎ (slot ≡ Full) → (xs' bs' : List ℕ) → Loaded None xs bs xs' bs' → Loaded (lookup numbers g (groups_of xs bs)) xs bs xs' bs'
+  loaded-none n xs' bs' l = rw (⊎_elim (λ h. lookup-free g h.0 xs bs (found-free g h.0 xs slot f h.1)) (λ e. lookup-full g xs bs (found-full g xs slot f e)) n) l
 
 -- ---- the newer tombstones
 
@@ -147,20 +144,20 @@ module _ (ys cs : List ℕ) where
 -- ---- the newer table
 
 -- stretch k and its bytes, as they are lent
-pub lent-stretch : (k : ℕ) (ys : List ℕ) → take (k * stretch_width + stretch_width - k * stretch_width) (drop (k * stretch_width) ys) ≡ stretch_at k ys
+pub lent-stretch : (k : ℕ) (ys : List ℕ) → take ((k + 1) * stretch_width - k * stretch_width) (drop (k * stretch_width) ys) ≡ stretch_at k ys
 unfolding stretch_at part
-lent-stretch k ys = let e : k * stretch_width + stretch_width - k * stretch_width ≡ stretch_width = omega arith in rw e
+lent-stretch k ys = let e : (k + 1) * stretch_width - k * stretch_width ≡ stretch_width = omega arith in rw e
 
-pub lent-bytes : (k : ℕ) (cs : List ℕ) → take (k * bytes_width + bytes_width - k * bytes_width) (drop (k * bytes_width) cs) ≡ bytes_at k cs
+pub lent-bytes : (k : ℕ) (cs : List ℕ) → take ((k + 1) * bytes_width - k * bytes_width) (drop (k * bytes_width) cs) ≡ bytes_at k cs
 unfolding bytes_at part
-lent-bytes k cs = let e : k * bytes_width + bytes_width - k * bytes_width ≡ bytes_width = omega arith in rw e
+lent-bytes k cs = let e : (k + 1) * bytes_width - k * bytes_width ≡ bytes_width = omega arith in rw e
 
 pub context-groups : (xs bs : List ℕ) → (context_of xs bs).groups ≡ groups_of xs bs
 unfolding context_of rest_at with_waiting with_groups
 context-groups xs bs = refl
 
 module _ (m : Mode) (g : ℕ) (ys cs p b : List ℕ) (w : Wf ys cs) (slot : Slot) (f : Found g ys slot) where
-  newer-there : (k : ℕ) → slot ≡ At k → lookup numbers g (groups_of ys cs) ≡ some (table_in (stretch_at k ys) (bytes_at k cs))
+  newer-there : (k : ℕ) → slot ≡ At k → lookup numbers g (groups_of ys cs) ≡ Some (table_in (stretch_at k ys) (bytes_at k cs))
   newer-there k e = lookup-found g k ys cs w.groups (found_at_lem g k ys slot f e)
 
   pub newer_layable : (k : ℕ) → slot ≡ At k → (context_of ys cs).kind ≡ newer_kind m → Within 320 144 (work_in p b) → OlderFor m (work_in p b) → Layable m (table_in (stretch_at k ys) (bytes_at k cs)) (work_in p b)
@@ -171,17 +168,14 @@ module _ (m : Mode) (g : ℕ) (ys cs p b : List ℕ) (w : Wf ys cs) (slot : Slot
         room = r;
       }
 
-  pub newer-laid : (k : ℕ) → slot ≡ At k → (r : Outcome) (p' b' : List ℕ) → Ends (laid_over m (table_in (stretch_at k ys) (bytes_at k cs)) (work_in p b)) r p' b' → Ends (laid_by m (lookup numbers g (groups_of ys cs)) (work_in p b)) r p' b'
+  pub newer-laid : (k : ℕ) → slot ≡ At k → (r : ByCause (Unit {0})) (p' b' : List ℕ) → Ends (laid_over m (table_in (stretch_at k ys) (bytes_at k cs)) (work_in p b)) r p' b' → Ends (laid_by m (lookup numbers g (groups_of ys cs)) (work_in p b)) r p' b'
   newer-laid k e r p' b' d = rw (newer-there k e, ← laid-some m (table_in (stretch_at k ys) (bytes_at k cs)) (work_in p b)) d
 
-  stays : lookup numbers g (groups_of ys cs) ≡ none → work.Wf p b → Ends (laid_by m (lookup numbers g (groups_of ys cs)) (work_in p b)) Done p b
+  stays : lookup numbers g (groups_of ys cs) ≡ None → work.Wf p b → Ends (laid_by m (lookup numbers g (groups_of ys cs)) (work_in p b)) (Ok tt) p b
   stays e v = record { rule = rw e (laid_none m (work_in p b)); wf = v }
 
-  pub newer-free : (k : ℕ) → slot ≡ Free k → work.Wf p b → Ends (laid_by m (lookup numbers g (groups_of ys cs)) (work_in p b)) Done p b
-  newer-free k e v = stays (lookup-free g k ys cs (found-free g k ys slot f e)) v
-
-  pub newer-full : slot ≡ Full → work.Wf p b → Ends (laid_by m (lookup numbers g (groups_of ys cs)) (work_in p b)) Done p b
-  newer-full e v = stays (lookup-full g ys cs (found-full g ys slot f e)) v
+  pub newer-none : ((k : ℕ) × (slot ≡ Free k)) ⊎ (slot ≡ Full) → work.Wf p b → Ends (laid_by m (lookup numbers g (groups_of ys cs)) (work_in p b)) (Ok tt) p b
+  newer-none n v = stays (⊎_elim (λ h. lookup-free g h.0 ys cs (found-free g h.0 ys slot f h.1)) (λ e. lookup-full g ys cs (found-full g ys slot f e)) n) v
 
 -- ---- both
 
@@ -192,5 +186,5 @@ module _ (g : ℕ) (ts : List _) (p b p' b' : List ℕ) (k : Becomes (tombed g t
   pub buried_for : (m : Mode) → OlderFor m (tombed g ts (work_in p b)) → OlderFor m (work_in p' b')
   buried_for m o = rw k.is o
 
-  pub buried-laid : (m : Mode) (newer : Option Table) (r : Outcome) (p'' b'' : List ℕ) → Ends (laid_by m newer (work_in p' b')) r p'' b'' → Ends (laid_by m newer (tombed g ts (work_in p b))) r p'' b''
+  pub buried-laid : (m : Mode) (newer : Option Table) (r : ByCause (Unit {0})) (p'' b'' : List ℕ) → Ends (laid_by m newer (work_in p' b')) r p'' b'' → Ends (laid_by m newer (tombed g ts (work_in p b))) r p'' b''
   buried-laid m newer r p'' b'' e = rw k.is at e

@@ -2,7 +2,7 @@
 use Rattle.std.specs.Prelude.{Bool, true, false, ◌≡◌, ℕ, zero, suc, ◌+◌, ◌-◌, ◌*◌, ◌<◌, eqb, ltb, length, get_or, drop}
 use Rattle.std.proofs.Math.Bool.{or-true}
 use mathlib.Core.List.{List, [], ◌∷◌}
-use Rattle.std.proofs.Math.Option.{none-ne-some, some-injective}
+use Rattle.std.proofs.lemmas.Option.{none-some, same_Some}
 use Rattle.std.proofs.Math.Path.{refl, sym}
 use Rattle.std.proofs.Common.{◌∙◌, add-zero, get_or-drop}
 use Rattle.std.proofs.Math.Decide.{dec_lt}
@@ -83,8 +83,8 @@ module _ (xs bs ys cs : List ℕ) where
       let h : i < slots = omega (arith, length-cells zs ds) in
       let c = sym (get_or-cells i zs ds h) ∙ e in
       split (is_used (stretch_at i zs))
-      (λ u. rw (← some-injective (pair (group_in (stretch_at i zs)) (table_in (stretch_at i zs) (bytes_at i ds))) p (sym (used-cell i zs ds u) ∙ c)) (there i h u))
-      (λ u. absurd (none-ne-some p (sym (free-cell i zs ds u) ∙ c))))
+      (λ u. rw (← same_Some (pair (group_in (stretch_at i zs)) (table_in (stretch_at i zs) (bytes_at i ds))) p (sym (used-cell i zs ds u) ∙ c)) (there i h u))
+      (λ u. absurd (none-some p (sym (free-cell i zs ds u) ∙ c))))
 
 -- ---- the tombstones
 

@@ -1,6 +1,6 @@
 -- The parts of a group that a merge finishes, replayed on its work table.
 use Rattle.std.specs.Prelude.{List, ◌++◌, ◌≡◌, ℕ, length, drop}
-use Rattle.std.proofs.Math.Option.{Option, some}
+use Rattle.std.specs.Prelude.{Option, Some}
 use Rattle.maps.specs.Maps.{lookup, numbers}
 use Rattle.rules.specs.Items.{Rewrite, LogItem}
 use Rattle.rules.specs.Table.{Span}
@@ -27,7 +27,7 @@ pub record PartsGiven (g : ℕ) (xs bs ys cs : List ℕ) : Type 0 where
   pub wf : areas.Wf xs bs
   pub newer-wf : areas.Wf ys cs
   pub loaded : Becomes (lookup numbers g (groups_of xs bs)) (drop long_numbers xs) (drop long_bytes bs)
-  pub kind : (f : Finished) → finished_at g (context_of ys cs) (context_of xs bs) ≡ some f → (context_of xs bs).kind ≡ context Rewrite
+  pub kind : (f : Finished) → finished_at g (context_of ys cs) (context_of xs bs) ≡ Some f → (context_of xs bs).kind ≡ context Rewrite
 
 -- the items of both parts, and the files
 unfoldable pub ending_items : Ending → List ℕ → List ℕ → List ℕ → List ℕ → List LogItem

@@ -6,7 +6,7 @@ use Rattle.std.proofs.Math.Path.{ap}
 use Rattle.cells.specs.Part.{part}
 use Rattle.cells.specs.PartLaws.{part-drop, part-part}
 use Rattle.maps.specs.Maps.{Map}
-use Rattle.rules.specs.Causes.{Cause, Result, ok, refuse, in_order, limit_passed, files_go_back}
+use Rattle.rules.specs.Causes.{Cause, Result, Ok, Err, refuse, in_order, LimitPassed}
 use Rattle.rules.specs.Items.{Append, Rewrite}
 use Rattle.rules.specs.Context.{Part, Context, with_groups}
 use Rattle.rules.specs.Calls.{clash}
@@ -14,6 +14,7 @@ use Rattle.rules_by_group.specs.Kept.{Kept}
 use Rattle.rules_by_group.specs.Stage.{none_staged, stage_all, rest_fits, answer, waiting_after, merged_rest, merged_by, joined_by, Covers}
 use Rattle.rules_by_group.proofs.StageLaws.{answer-clashed, answer-passed, answer_ok}
 use Rattle.rules_by_group.proofs.ByGroupLaws.{merge_by-group, merged-waiting, merged_back, join_by-group}
+use Rattle.rules_by_group.proofs.WaitingLaws.{waiting-refused}
 use Rattle.rules_by_group.proofs.KeptLaws.{merge-kept, join_kept}
 use Rattle.groups.specs.Area.{slots, numbers_in_use, bytes_in_use, groups_of}
 use Rattle.groups.specs.AreaLaws.{Same, same-groups, same_wf, same-stretch, same_bytes}
@@ -89,7 +90,7 @@ beside-given m xs bs xs' bs' ys cs b g =
 -- ---- the rules' call, read off the staged groups
 
 -- nothing is accepted where nothing waits
-none_after : (older newer : Map ℕ (List Part)) → newer ≡ [] → waiting_after newer older ≡ ok older
+none_after : (older newer : Map ℕ (List Part)) → newer ≡ [] → waiting_after newer older ≡ Ok older
 unfolding waiting_after in_order
 none_after older newer e = rw e
 
@@ -100,7 +101,7 @@ module _ (newer c : Context) (gs : List ℕ) (kn : Kept newer) (kc : Kept c) (v 
   call-answer mode.Rewrite n o = merge_by-group Rewrite newer c gs kn kc n o v ∙ merged-waiting Rewrite newer c gs c.waiting (none_after c.waiting newer.waiting none)
   call-answer mode.Join n o = join_by-group (clash Append) newer c gs kn kc n o v ∙ (unfold joined_by in refl)
 
-pub call_kept : (m : Mode) (newer c d : Context) → Kept newer → Kept c → call_by m newer c ≡ ok d → Kept d
+pub call_kept : (m : Mode) (newer c d : Context) → Kept newer → Kept c → call_by m newer c ≡ Ok d → Kept d
 unfolding call_by
 call_kept mode.Append newer c d kn kc e = merge-kept newer c kn kc d e
 call_kept mode.Rewrite newer c d kn kc e = merge-kept newer c kn kc d e
@@ -124,10 +125,11 @@ module _ (f : Flags) (xs bs ys cs : List ℕ) (g : Given mode.Rewrite xs bs ys c
   unfolding call_by newer_kind older_kind
   by-group = merge_by-group Rewrite newer older w.numbers g.newer-wf.kept g.wf.kept g.newer-kind g.kind w.cover
 
-  pub waits_back : waiting_after newer.waiting older.waiting ≡ refuse files_go_back → call_by mode.Rewrite newer older ≡ refuse files_go_back
-  waits_back e = by-group ∙ merged_back Rewrite newer older w.numbers _ e
+  -- the refusal of what waits is that of the call
+  pub waits_back : (x : Cause) → waiting_after newer.waiting older.waiting ≡ refuse x → call_by mode.Rewrite newer older ≡ refuse x
+  waits_back x e = by-group ∙ merged_back Rewrite newer older w.numbers _ e ∙ ap Err (sym (waiting-refused newer.waiting older.waiting _ e))
 
-  pub waits-answer : (v : Map ℕ (List Part)) → waiting_after newer.waiting older.waiting ≡ ok v → call_by mode.Rewrite newer older ≡ answer (clash_by mode.Rewrite) (merged_rest newer v older) (staged_in f xs bs)
+  pub waits-answer : (v : Map ℕ (List Part)) → waiting_after newer.waiting older.waiting ≡ Ok v → call_by mode.Rewrite newer older ≡ answer (clash_by mode.Rewrite) (merged_rest newer v older) (staged_in f xs bs)
   unfolding group_by clash_by
   waits-answer v e =
       by-group ∙ merged-waiting Rewrite newer older w.numbers v e ∙ ap (answer (clash Rewrite) (merged_rest newer v older)) (sym w.staged)
@@ -140,10 +142,10 @@ module _ (n : Cause) (rest : Context) (f : Flags) (xs bs : List ℕ) (r : Result
   answered-clashed e = a ∙ answer-clashed n rest (staged_in f xs bs) e
 
   module _ (e : f.clashed ≡ false) where
-    pub answered-passed : (f.passed || not (rest_fits rest)) ≡ true → r ≡ refuse limit_passed
+    pub answered-passed : (f.passed || not (rest_fits rest)) ≡ true → r ≡ refuse LimitPassed
     unfolding staged_in
     answered-passed p = a ∙ answer-passed n rest (staged_in f xs bs) e p
 
-    pub answered_ok : f.passed ≡ false → rest_fits rest ≡ true → r ≡ ok (with_groups (groups_of (drop live_numbers xs) (drop live_bytes bs)) rest)
+    pub answered_ok : f.passed ≡ false → rest_fits rest ≡ true → r ≡ Ok (with_groups (groups_of (drop live_numbers xs) (drop live_bytes bs)) rest)
     unfolding staged_in
     answered_ok p h = a ∙ answer_ok n rest (staged_in f xs bs) e (rw (p, h))

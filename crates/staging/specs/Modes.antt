@@ -1,6 +1,6 @@
 -- The three calls as modes of one work: what becomes of a group, what the rest becomes, and the refusal that a group may meet.
-use Rattle.std.specs.Prelude.{List, [], ◌∷◌, ◌++◌, ◌≡◌, Bool, cond, ◌&&◌, ℕ, zero, suc, ◌+◌, ◌*◌, ◌-◌, ◌≤◌, eqb, leb, ltb, get_or, drop}
-use Rattle.std.proofs.Math.Option.{Option}
+use Rattle.std.specs.Prelude.{Some, None, List, [], ◌∷◌, ◌++◌, ◌≡◌, Bool, cond, ◌&&◌, ℕ, zero, suc, ◌+◌, ◌*◌, ◌-◌, ◌≤◌, eqb, leb, ltb, get_or, drop}
+use Rattle.std.specs.Prelude.{Option}
 use Rattle.rules.specs.Causes.{Cause, Result}
 use Rattle.rules.specs.Items.{Append, Rewrite}
 use Rattle.rules.specs.Table.{Table}
@@ -14,7 +14,6 @@ use Rattle.contexts.specs.Contexts.{waiting_numbers, context_of, Wf}
 use Rattle.worktable.specs.declared.Mode.{Mode}
 use Rattle.worktable.specs.declared.Mode.TheVariants as mode
 use Rattle.staging.specs.declared.Flags.{Flags}
-use Rattle.staging.specs.declared.Number as number
 use Rattle.staging.specs.Staging.{staged_in}
 
 -- the kinds of the older and of the newer context
@@ -117,6 +116,6 @@ abbrev pub place_count : ℕ
 place_count = 96
 
 -- the number that was found, if any
-unfoldable pub numbers_of : number.Number → List ℕ
-numbers_of number.TheVariants.None = []
-numbers_of (number.TheVariants.Of g) = g ∷ []
+unfoldable pub numbers_of : Option ℕ → List ℕ
+numbers_of None = []
+numbers_of (Some g) = g ∷ []

@@ -1,6 +1,6 @@
 -- The items of a finished part replayed on the work table, one after the other.
 use Rattle.std.specs.Prelude.{Bool, true, List, ◌≡◌, ℕ, ◌+◌, ◌≤◌, length}
-use Rattle.std.proofs.Math.Option.{Option}
+use Rattle.std.specs.Prelude.{Option}
 use Rattle.maps.specs.Lists.{every, sum}
 use Rattle.rules.specs.Causes.{left}
 use Rattle.rules.specs.Items.{Rewrite, LogItem, replay_rewrite}

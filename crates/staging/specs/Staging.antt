@@ -1,7 +1,7 @@
 -- The groups of a merge or join that are worked so far. They stand in the spare stretches of the older area, which are read as
 -- stretches are.
 use Rattle.std.specs.Prelude.{false, cond, List, ◌≡◌, ℕ, ◌+◌, ◌≤◌, ◌<◌, eqb, length, set, take, drop}
-use Rattle.std.proofs.Math.Option.{Option}
+use Rattle.std.specs.Prelude.{Option}
 use Rattle.cells.specs.Part.{part}
 use Rattle.rules.specs.Causes.{Result}
 use Rattle.rules.specs.Table.{Table}

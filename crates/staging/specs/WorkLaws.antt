@@ -1,6 +1,7 @@
 -- What becomes of one group, step by step. Assumes nothing.
 use Rattle.std.specs.Prelude.{true, List, [], ◌≡◌, ℕ}
-use Rattle.std.proofs.Math.Option.{Option, none, some, none-ne-some}
+use Rattle.std.specs.Prelude.{Option, None, Some}
+use Rattle.std.proofs.lemmas.Option.{none-some}
 use Rattle.std.proofs.Math.Path.{refl}
 use Rattle.std.proofs.Common.{sym, ◌∙◌}
 use native.Mathlib.Omega.{arith}
@@ -9,7 +10,7 @@ use Rattle.maps.specs.Maps.{Map, lookup, numbers}
 use Rattle.maps.specs.MapLaws.{laid}
 use Rattle.maps.specs.OrderLaws.{numbers_lawful}
 use Rattle.maps.specs.MapLaws.{every-lookup}
-use Rattle.rules.specs.Causes.{ok, and_then}
+use Rattle.rules.specs.Causes.{Ok, and_then}
 use Rattle.rules.specs.Items.{Rewrite, is_rewrite}
 use Rattle.rules.specs.Table.{Table, made, empty_table}
 use Rattle.rules.specs.Context.{context, Context, table_fits}
@@ -31,13 +32,13 @@ use Rattle.staging.specs.Finishings.{finished_at}
 
 -- ---- a newer table laid over
 
-pub laid_none : (m : Mode) (o : Option Table) → ok o ≡ laid_by m none o
+pub laid_none : (m : Mode) (o : Option Table) → Ok o ≡ laid_by m None o
 unfolding laid_by lay_over laid
 laid_none mode.Append o = refl
 laid_none mode.Rewrite o = refl
 laid_none mode.Join o = refl
 
-pub laid-some : (m : Mode) (t : Table) (o : Option Table) → laid_over m t o ≡ laid_by m (some t) o
+pub laid-some : (m : Mode) (t : Table) (o : Option Table) → laid_over m t o ≡ laid_by m (Some t) o
 unfolding laid_by laid_over
 laid-some mode.Append t o = refl
 laid-some mode.Rewrite t o = refl
@@ -45,7 +46,7 @@ laid-some mode.Join t o = refl
 
 -- ---- the group
 
-nothing-finishes : (g : ℕ) (newer c : Context) → newer.waiting ≡ [] → finished_at g newer c ≡ none
+nothing-finishes : (g : ℕ) (newer c : Context) → newer.waiting ≡ [] → finished_at g newer c ≡ None
 unfolding finished_at finished_of parts_of lookup or_else last
 nothing-finishes g newer c e = rw e
 
@@ -57,9 +58,9 @@ module _ (g : ℕ) (newer c : Context) (k : Kept newer) where
   group-is mode.Join e = rw (nothing-finishes g newer c (append-waits newer k e)) (unfold finish_table and_then joined_group in refl)
 
   -- a part finishes in a Rewrite context alone
-  pub finishes-in : (m : Mode) → newer.kind ≡ newer_kind m → c.kind ≡ older_kind m → (f : Finished) → finished_at g newer c ≡ some f → c.kind ≡ context Rewrite
+  pub finishes-in : (m : Mode) → newer.kind ≡ newer_kind m → c.kind ≡ older_kind m → (f : Finished) → finished_at g newer c ≡ Some f → c.kind ≡ context Rewrite
   unfolding newer_kind older_kind
-  finishes-in mode.Append e o f h = absurd (none-ne-some f (sym (nothing-finishes g newer c (append-waits newer k e)) ∙ h))
+  finishes-in mode.Append e o f h = absurd (none-some f (sym (nothing-finishes g newer c (append-waits newer k e)) ∙ h))
   finishes-in mode.Rewrite e o f h = o
   finishes-in mode.Join e o f h = o
 
@@ -71,7 +72,7 @@ newer-queue mode.Append = refl
 newer-queue mode.Rewrite = refl
 newer-queue mode.Join = refl
 
-pub newer-of : (m : Mode) (newer : Context) (g : ℕ) (t : Table) → Kept newer → newer.kind ≡ newer_kind m → lookup numbers g newer.groups ≡ some t → AllOf (newer_queue m) t.entries
+pub newer-of : (m : Mode) (newer : Context) (g : ℕ) (t : Table) → Kept newer → newer.kind ≡ newer_kind m → lookup numbers g newer.groups ≡ Some t → AllOf (newer_queue m) t.entries
 newer-of m newer g t k e l = queue-table (newer_queue m) newer k (e ∙ newer-queue m) g t l
 
 pub older-of : (m : Mode) (c : Context) (g : ℕ) (xs : List _) (o : Option Table) → Kept c → c.kind ≡ older_kind m → (every of_rewrite (made (lookup numbers g c.groups)).entries ≡ true → every of_rewrite (made o).entries ≡ true) → OlderFor m (tombed g xs o)

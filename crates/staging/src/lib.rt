@@ -14,16 +14,9 @@ pub use finishes::copy_room;
 pub use marks::{begin, seal};
 pub use stages::stage_all;
 
-// Whether some group was refused, and whether one passed a limit.
+// What the groups met: whether one was refused, and whether one passed a limit. Both may be so.
 #[derive(Clone, Copy)]
 pub struct Flags {
     pub clashed: bool,
     pub passed: bool,
-}
-
-// The number of a group that may get a table, where a place has one.
-#[derive(Clone, Copy)]
-pub enum Number {
-    None,
-    Of(u64),
 }

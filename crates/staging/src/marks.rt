@@ -20,21 +20,17 @@ pub fn begin(xs: &mut [u64])
     requires { 9376 ≤ length xs.old }
     ensures { Begun 8 xs.old xs.new }
 {
-    let mut k = 0;
-    while k < SLOTS {
+    for k in 0..SLOTS {
         xs[(SLOTS + k) * STRETCH] = NO_GROUP;
-        k += 1;
     }
 }
 
 // The mark of a spare stretch with this first number.
+#[tactic(auto, unfolding(crate::specs::Staging::sealed_mark))]
 fn mark_of(first: u64) -> u64
     ensures { result ≡ sealed_mark first }
 {
-    if first == GROUP {
-        return WHOLE;
-    }
-    FREE
+    if first == GROUP { WHOLE } else { FREE }
 }
 
 // Marks the spare stretches, so that the staged groups become the groups by `groups::undo`.
@@ -42,10 +38,8 @@ pub fn seal(xs: &mut [u64])
     requires { 9376 ≤ length xs.old }
     ensures { Sealed 8 xs.old xs.new }
 {
-    let mut k = 0;
-    while k < SLOTS {
+    for k in 0..SLOTS {
         let at = (SLOTS + k) * STRETCH;
         xs[at] = mark_of(xs[at]);
-        k += 1;
     }
 }

@@ -49,8 +49,7 @@ fn replay_at(
     requires replayable { Replayable (items_with tag (drop j (store_tagged store (area items.now entries.now bytes.now) tags.now))) (work_in p.old b.old) }
     ensures { Replaying (items_with tag (drop j (store_tagged store (area items.now entries.now bytes.now) tags.now))) (work_in p.old b.old) (items_with tag (drop (j + 1) (store_tagged store (area items.now entries.now bytes.now) tags.now))) p.new b.new }
 {
-    let its = tags[j];
-    if its != tag {
+    if tags[j] != tag {
         return;
     }
     let item = item_at(store, items, entries, bytes, j);
@@ -73,11 +72,8 @@ fn replay_tag(
     requires replayable { Replayable (items_with tag (store_tagged store (area items.now entries.now bytes.now) tags.now)) (work_in p.old b.old) }
     ensures { Becomes (replayed_items (items_with tag (store_tagged store (area items.now entries.now bytes.now) tags.now)) (work_in p.old b.old)) p.new b.new }
 {
-    let n = store.items;
-    let mut j = 0;
-    while j < n {
+    for j in 0..store.items {
         replay_at(p, b, store, tag, tags, items, entries, bytes, j);
-        j += 1;
     }
 }
 

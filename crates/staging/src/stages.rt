@@ -1,7 +1,7 @@
 // One number after the other: a group that is not staged yet is worked, and its table put into a spare stretch.
 ghost use Rattle.std.specs.Prelude.{true, List, [], ◌∷◌, ◌≡◌, ℕ, ◌≤◌, ◌<◌, length, drop};
-ghost use Rattle.std.proofs.Math.Option.{Option};
-ghost use Rattle.rules.specs.Causes.{Result, ok};
+ghost use Rattle.std.specs.Prelude.{Option};
+ghost use Rattle.rules.specs.Causes.{Result, Ok};
 ghost use Rattle.rules.specs.Table.{Table};
 ghost use Rattle.stretch.specs.Stretch.{is_used};
 ghost use Rattle.groups.specs.Area.{Found};
@@ -11,11 +11,11 @@ ghost use Rattle.contexts.specs.Contexts.{context_of};
 ghost use Rattle.staging.specs.Staging.{no_flags, Ready, Staging};
 ghost use Rattle.staging.specs.Modes.{group_by, Given, number_at, firsts};
 
+use crate::Flags;
 use crate::numbers::{PLACES, number_at};
 use crate::work::work;
-use crate::{Flags, Number};
 use groups::{SPARES_AT, Slot};
-use stretch::Outcome;
+use pipe_log::Cause;
 use worktable::{Mode, WORK_AT};
 
 // Looks for a group among those that are staged.
@@ -23,8 +23,7 @@ fn find_staged(xs: &[u64], group: u64) -> Slot
     requires { 14064 ≤ length xs.now }
     ensures { Found group (drop 4688 xs.now) result }
 {
-    let a = SPARES_AT;
-    groups::find(&xs[a..], group)
+    groups::find(&xs[SPARES_AT..], group)
 }
 
 // Puts the work table into spare stretch k, if it is within the limits.
@@ -33,66 +32,50 @@ fn put_at(xs: &mut [u64], bs: &mut [u8], k: usize, group: u64, flags: Flags) -> 
     requires found { Found group (drop 4688 xs.old) (Slot.Free k) }
     requires xs_len { (length xs.old ≡ 17231) × (length bs.old ≡ 38912) }
     requires wf { Wf (drop 13509 xs.old) (drop 28672 bs.old) × (is_used (drop 13509 xs.old) ≡ true) }
-    ensures { (at : ℕ → Result (Option Table)) → at group ≡ ok (work_in (drop 13509 xs.old) (drop 28672 bs.old)) → Staging at (group ∷ []) flags xs.old bs.old result xs.new bs.new }
+    ensures { (at : ℕ → Result (Option Table)) → at group ≡ Ok (work_in (drop 13509 xs.old) (drop 28672 bs.old)) → Staging at (group ∷ []) flags xs.old bs.old result xs.new bs.new }
 {
-    let a = WORK_AT;
-    if !worktable::fits(&xs[a..]) {
+    if !worktable::fits(&xs[WORK_AT..]) {
         return Flags {
-            clashed: flags.clashed,
             passed: true,
+            ..flags
         };
     }
     worktable::unload(xs, bs, k, group);
     flags
 }
 
-// Takes the work table, with which the work on a group ended, into the staged groups, for which spare stretch k is free.
-fn settle_free(
+// Takes the work table, with which the work on a group that is not staged ended, into the staged groups. Where no spare stretch is free,
+// a table is a ninth group.
+fn settle(
     xs: &mut [u64],
     bs: &mut [u8],
-    k: usize,
+    slot: Slot,
     group: u64,
-    outcome: Outcome,
+    outcome: Result<(), Cause>,
     flags: Flags,
 ) -> Flags
     requires ready { Ready xs.old bs.old }
-    requires found { Found group (drop 4688 xs.old) (Slot.Free k) }
+    requires found { Found group (drop 4688 xs.old) slot }
+    requires not_staged { (k : ℕ) → slot ≡ Slot.At k → ⊥ }
     requires xs_len { (length xs.old ≡ 17231) × (length bs.old ≡ 38912) }
     requires wf { Wf (drop 13509 xs.old) (drop 28672 bs.old) }
     ensures { (at : ℕ → Result (Option Table)) → Ends (at group) outcome (drop 13509 xs.old) (drop 28672 bs.old) → Staging at (group ∷ []) flags xs.old bs.old result xs.new bs.new }
 {
-    let Outcome::Done = outcome else {
+    if outcome.is_err() {
         return Flags {
             clashed: true,
-            passed: flags.passed,
+            ..flags
         };
-    };
-    let a = WORK_AT;
-    if !worktable::is_there(&xs[a..]) {
+    }
+    if !worktable::is_there(&xs[WORK_AT..]) {
         return flags;
     }
-    put_at(xs, bs, k, group, flags)
-}
-
-// The same where no spare stretch is free: a table is a ninth group.
-fn settle_full(xs: &[u64], group: u64, outcome: Outcome, flags: Flags) -> Flags
-    requires found { Found group (drop 4688 xs.now) Slot.Full }
-    requires xs_len { length xs.now ≡ 17231 }
-    ensures { (bs : List ℕ) (at : ℕ → Result (Option Table)) → Ready xs.now bs → Ends (at group) outcome (drop 13509 xs.now) (drop 28672 bs) → Staging at (group ∷ []) flags xs.now bs result xs.now bs }
-{
-    let Outcome::Done = outcome else {
-        return Flags {
-            clashed: true,
-            passed: flags.passed,
-        };
-    };
-    let a = WORK_AT;
-    if !worktable::is_there(&xs[a..]) {
-        return flags;
-    }
-    Flags {
-        clashed: flags.clashed,
-        passed: true,
+    match slot {
+        Slot::Free(k) => put_at(xs, bs, k, group, flags),
+        Slot::At(_) | Slot::Full => Flags {
+            passed: true,
+            ..flags
+        },
     }
 }
 
@@ -110,16 +93,11 @@ pub fn stage_one(
     requires ready { Ready xs.old bs.old }
     ensures { Staging (group_by mode (context_of ys.now cs.now) (context_of xs.old bs.old)) (group ∷ []) flags xs.old bs.old result xs.new bs.new }
 {
-    let slot = find_staged(xs, group);
-    match slot {
+    match find_staged(xs, group) {
         Slot::At(_) => flags,
-        Slot::Free(k) => {
+        slot => {
             let outcome = work(xs, bs, ys, cs, group, mode);
-            settle_free(xs, bs, k, group, outcome, flags)
-        }
-        Slot::Full => {
-            let outcome = work(xs, bs, ys, cs, group, mode);
-            settle_full(xs, group, outcome, flags)
+            settle(xs, bs, slot, group, outcome, flags)
         }
     }
 }
@@ -139,11 +117,10 @@ fn turn(
     requires i_bound { i < 96 }
     ensures { Staging (group_by mode (context_of ys.now cs.now) (context_of xs.old bs.old)) (number_at xs.old ys.now i) flags xs.old bs.old result xs.new bs.new }
 {
-    let number = number_at(xs, ys, i);
-    let Number::Of(group) = number else {
-        return flags;
-    };
-    stage_one(xs, bs, ys, cs, mode, group, flags)
+    match number_at(xs, ys, i) {
+        Some(group) => stage_one(xs, bs, ys, cs, mode, group, flags),
+        None => flags,
+    }
 }
 
 // Stages the numbers of all places.
@@ -156,10 +133,8 @@ pub fn stage_all(xs: &mut [u64], bs: &mut [u8], ys: &[u64], cs: &[u8], mode: Mod
         clashed: false,
         passed: false,
     };
-    let mut i = 0;
-    while i < PLACES {
+    for i in 0..PLACES {
         flags = turn(xs, bs, ys, cs, mode, i, flags);
-        i += 1;
     }
     flags
 }

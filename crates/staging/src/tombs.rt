@@ -25,8 +25,7 @@ fn bury_item(p: &mut [u64], b: &mut [u8], group: u64, item: LogItem, entries: &[
     requires bytes_value { is_tombstone (content_of item.content entries.now bytes.now) ≡ true }
     ensures { Becomes (buried group (item_of item entries.now bytes.now) (work_in p.old b.old)) p.new b.new }
 {
-    let its = item.raft_group_id;
-    if its != group {
+    if item.raft_group_id != group {
         return;
     }
     let content = item.content;
@@ -53,11 +52,8 @@ pub fn bury(
     requires bytes_value { all_tombstones (store_items store (area items.now entries.now bytes.now)) ≡ true }
     ensures { Becomes (tombed group (store_items store (area items.now entries.now bytes.now)) (work_in p.old b.old)) p.new b.new }
 {
-    let n = store.items;
-    let mut j = 0;
-    while j < n {
+    for j in 0..store.items {
         let item = item_at(store, items, entries, bytes, j);
         bury_item(p, b, group, item, entries, bytes);
-        j += 1;
     }
 }

@@ -1,7 +1,7 @@
 // What becomes of one group, worked in the long stretch: the older table, a part that finishes and the newer tombstones on it, the newer
 // table over it.
 ghost use Rattle.std.specs.Prelude.{true, ◌≡◌, ◌≤◌, ◌<◌, length};
-ghost use Rattle.std.proofs.Math.Option.{none};
+ghost use Rattle.std.specs.Prelude.{None};
 ghost use Rattle.maps.specs.Maps.{lookup, numbers};
 ghost use Rattle.rules_by_group.specs.Group.{tombed};
 ghost use Rattle.rules_by_group.specs.Kept.{Within};
@@ -18,17 +18,17 @@ ghost use Rattle.staging.specs.Works.{laid_by, Loaded, WorkedAs};
 use crate::finishes::finish_part;
 use crate::tombs::bury;
 use groups::Slot;
+use pipe_log::Cause;
 use stores::Store;
-use stretch::{BYTES, Outcome, STRETCH};
+use stretch::{BYTES, STRETCH};
 use worktable::{Mode, WORK_AT, WORK_BYTES_AT};
 
 // Makes the work table absent.
 fn clear_long(xs: &mut [u64])
     requires { length xs.old ≡ 17231 }
-    ensures { (bs : _) → length bs ≡ 38912 → Loaded none xs.old bs xs.new bs }
+    ensures { (bs : _) → length bs ≡ 38912 → Loaded None xs.old bs xs.new bs }
 {
-    let a = WORK_AT;
-    worktable::clear(&mut xs[a..]);
+    worktable::clear(&mut xs[WORK_AT..]);
 }
 
 // Makes the work table the older one of a group, or absent.
@@ -36,11 +36,9 @@ fn load_older(xs: &mut [u64], bs: &mut [u8], group: u64)
     requires { contexts·areas.Wf xs.old bs.old }
     ensures { Loaded (lookup numbers group (groups_of xs.old bs.old)) xs.old bs.old xs.new bs.new }
 {
-    let slot = groups::find(xs, group);
-    match slot {
+    match groups::find(xs, group) {
         Slot::At(k) => worktable::load(xs, bs, k),
-        Slot::Free(_) => clear_long(xs),
-        Slot::Full => clear_long(xs),
+        Slot::Free(_) | Slot::Full => clear_long(xs),
     }
 }
 
@@ -51,46 +49,57 @@ fn bury_newer(p: &mut [u64], b: &mut [u8], ys: &[u64], cs: &[u8], group: u64)
     requires wf_2 { contexts·areas.Wf ys.now cs.now }
     ensures { Becomes (tombed group (context_of ys.now cs.now).tombstones (work_in p.old b.old)) p.new b.new }
 {
-    let from = groups::NUMBERS + lists::ROWS_FROM;
-    let to = groups::NUMBERS + lists::ROWS_TO;
-    let start = groups::BYTES;
-    let end = start + lists::ROW_BYTES;
-    let none = [0u64; 0];
+    let rows = &ys[groups::NUMBERS + lists::ROWS_FROM..groups::NUMBERS + lists::ROWS_TO];
+    let bytes = &cs[groups::BYTES..groups::BYTES + lists::ROW_BYTES];
     let store = Store {
         items: ys[groups::NUMBERS + lists::TOMBSTONES_AT] as usize,
         entries: 0,
     };
-    bury(p, b, group, store, &ys[from..to], &none, &cs[start..end]);
+    bury(p, b, group, store, rows, &[], bytes);
 }
 
 // Lays stretch k of the newer area over the work table.
-fn lay_at(p: &mut [u64], b: &mut [u8], ys: &[u64], cs: &[u8], k: usize, mode: Mode) -> Outcome
+fn lay_at(
+    p: &mut [u64],
+    b: &mut [u8],
+    ys: &[u64],
+    cs: &[u8],
+    k: usize,
+    mode: Mode,
+) -> Result<(), Cause>
     requires wf { Wf p.old b.old }
     requires k_bound { (k < 8) × (9376 ≤ length ys.now) × (16384 ≤ length cs.now) }
     requires wf_2 { held.Wf (stretch_at k ys.now) (bytes_at k cs.now) × (is_used (stretch_at k ys.now) ≡ true) }
     requires layable { Layable mode (table_in (stretch_at k ys.now) (bytes_at k cs.now)) (work_in p.old b.old) }
     ensures { Ends (laid_over mode (table_in (stretch_at k ys.now) (bytes_at k cs.now)) (work_in p.old b.old)) result p.new b.new }
 {
-    let a = k * STRETCH;
-    let e = a + STRETCH;
-    let c = k * BYTES;
-    let d = c + BYTES;
-    worktable::lay_over(p, b, &ys[a..e], &cs[c..d], mode)
+    worktable::lay_over(
+        p,
+        b,
+        &ys[k * STRETCH..(k + 1) * STRETCH],
+        &cs[k * BYTES..(k + 1) * BYTES],
+        mode,
+    )
 }
 
 // Lays the newer table of a group, if there is one, over the work table.
-fn lay_newer(p: &mut [u64], b: &mut [u8], ys: &[u64], cs: &[u8], group: u64, mode: Mode) -> Outcome
+fn lay_newer(
+    p: &mut [u64],
+    b: &mut [u8],
+    ys: &[u64],
+    cs: &[u8],
+    group: u64,
+    mode: Mode,
+) -> Result<(), Cause>
     requires wf { Wf p.old b.old }
     requires within { Within 320 144 (work_in p.old b.old) × OlderFor mode (work_in p.old b.old) }
     requires wf_2 { contexts·areas.Wf ys.now cs.now }
     requires cs_value { (context_of ys.now cs.now).kind ≡ newer_kind mode }
     ensures { Ends (laid_by mode (lookup numbers group (groups_of ys.now cs.now)) (work_in p.old b.old)) result p.new b.new }
 {
-    let slot = groups::find(ys, group);
-    match slot {
+    match groups::find(ys, group) {
         Slot::At(k) => lay_at(p, b, ys, cs, k, mode),
-        Slot::Free(_) => Outcome::Done,
-        Slot::Full => Outcome::Done,
+        Slot::Free(_) | Slot::Full => Ok(()),
     }
 }
 
@@ -102,7 +111,7 @@ fn work_loaded(
     cs: &[u8],
     group: u64,
     mode: Mode,
-) -> Outcome
+) -> Result<(), Cause>
     requires wf { Wf p.old b.old }
     requires within { Within 320 144 (work_in p.old b.old) }
     requires older_for { OlderFor mode (tombed group (context_of ys.now cs.now).tombstones (work_in p.old b.old)) }
@@ -115,16 +124,25 @@ fn work_loaded(
 }
 
 // Works group `group` of the merge or join.
-pub fn work(xs: &mut [u64], bs: &mut [u8], ys: &[u64], cs: &[u8], group: u64, mode: Mode) -> Outcome
+pub fn work(
+    xs: &mut [u64],
+    bs: &mut [u8],
+    ys: &[u64],
+    cs: &[u8],
+    group: u64,
+    mode: Mode,
+) -> Result<(), Cause>
     requires { Given mode xs.old bs.old ys.now cs.now }
     ensures { WorkedAs (group_by mode (context_of ys.now cs.now) (context_of xs.old bs.old) group) xs.old bs.old result xs.new bs.new }
 {
     load_older(xs, bs, group);
-    let outcome = finish_part(xs, bs, ys, cs, group);
-    let Outcome::Done = outcome else {
-        return outcome;
-    };
-    let a = WORK_AT;
-    let c = WORK_BYTES_AT;
-    work_loaded(&mut xs[a..], &mut bs[c..], ys, cs, group, mode)
+    finish_part(xs, bs, ys, cs, group)?;
+    work_loaded(
+        &mut xs[WORK_AT..],
+        &mut bs[WORK_BYTES_AT..],
+        ys,
+        cs,
+        group,
+        mode,
+    )
 }

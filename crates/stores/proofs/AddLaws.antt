@@ -1,19 +1,19 @@
 -- A row, rows of entries and bytes written behind a store's own make the store with one more item. Assumes nothing.
-use mathlib.Core.Bool.{true, false}
+use Rattle.rules.specs.Causes.{Ok}
+use mathlib.Core.Bool.{true}
 use mathlib.Core.Path.{◌≡◌, ◌∙◌}
 use mathlib.Core.List.{List, [], ◌∷◌, ◌++◌}
-use Prim.Native.Nat.{ℕ, suc, ◌+◌, ◌*◌, ◌/◌, ◌-◌, ◌≤◌, ◌<◌}
+use Prim.Native.Nat.{ℕ, suc, ◌+◌, ◌*◌, ◌/◌, ◌≤◌, ◌<◌}
 use native.Mathlib.Decide.{dec_lt}
 use native.Mathlib.Numerals.{add-one}
 use native.Mathlib.Omega.{arith}
 use lib.Dec.{ltb}
 use lib.ListN.{length, drop}
-use borrow.Author.Tests.{ltb-true, leb-true, le-ltb, lt-ltb, lt-leb, le-leb}
+use borrow.Author.Tests.{ltb-true, leb-true}
 use Rattle.cells.specs.Part.{put}
 use Rattle.cells.specs.PartLaws.{length-put, take_put, from-put, drop-put}
 use Rattle.maps.specs.BoolLaws.{both_left, both_right}
 use Rattle.log_batch.specs.declared.item.LogItem.{LogItem}
-use Rattle.log_batch.specs.declared.open.Opened.{TheVariants.Item}
 use Rattle.log_batch.specs.Lent.{opened_row, item_of, item_at}
 use Rattle.stores.specs.declared.Store.{Store}
 use Rattle.stores.specs.Written.{row_for, placed, bytes_of, rows_of, count_of, Lent}
@@ -32,19 +32,6 @@ unfolding has_room
 room-is k s items entries h =
     let t = ltb s.items (items / 9) in
     record { rows = ltb-true _ _ (both_left t _ h); lists = leb-true _ _ (both_right t _ h) }
-
-pub no_row : (k : ℕ) (s : Store) (items entries : ℕ) → items / 9 ≤ s.items → false ≡ has_room k s items entries
-unfolding has_room
-no_row k s items entries h = rw (le-ltb s.items (items / 9) h)
-
-module _ (k : ℕ) (s : Store) (items entries : ℕ) (h : s.items < items / 9) (w : s.entries * 8 ≤ entries) where
-  pub no-lists : entries / 8 - s.entries < k → false ≡ has_room k s items entries
-  unfolding has_room
-  no-lists l = rw (lt-ltb s.items (items / 9) h, lt-leb (s.entries + k) (entries / 8) (omega arith))
-
-  pub some-room : k ≤ entries / 8 - s.entries → true ≡ has_room k s items entries
-  unfolding has_room
-  some-room l = rw (lt-ltb s.items (items / 9) h, le-leb (s.entries + k) (entries / 8) (omega arith))
 
 module _ (s : Store) (a : Area) (w : Stored s a) (k : ℕ) (room : Room k s (length a.items) (length a.entries)) where
   pub row_fits : s.items * 9 + 9 ≤ length a.items
@@ -115,7 +102,7 @@ module _ (s : Store) (a : Area) (it : LogItem) (es bs : List ℕ) where
     before_with : entries_before (suc s.items) written.items ≡ s.entries + count_of it.content
     before_with = rw (before_more s.items written.items, before-stays, row-behind, written-entries _ it s.entries (s.items * 64))
 
-    row_opens : (e : ℕ) → s.items * 64 + 64 ≤ e → opened_row (drop (s.items * 9) written.items) (s.entries + count_of it.content) e ≡ Item (placed it s.entries (s.items * 64))
+    row_opens : (e : ℕ) → s.items * 64 + 64 ≤ e → opened_row (drop (s.items * 9) written.items) (s.entries + count_of it.content) e ≡ Ok (placed it s.entries (s.items * 64))
     row_opens e h = rw row-behind (written-opens _ it s.entries (s.items * 64) e l.short h)
 
     held_new : Held s.items written.items

@@ -8,7 +8,7 @@ use borrow.Author.Tests.{lt-ltb, le-leb}
 use Rattle.log_batch.specs.Lent.{item_at}
 use Rattle.stores.specs.declared.Store.{Store}
 use Rattle.stores.specs.Stores.{Area, store_items, row_entries, entries_before, first_items, Stored, has_room, Added, AddedAll}
-use Rattle.stores.specs.StoreLaws.{before_more, before_below, length-stored, stored-total, stored-first, added_none, added_more, first-none, first_more, first_all}
+use Rattle.stores.specs.StoreLaws.{before_more, before_below, length-stored, stored-total, stored-first, added_none, added_more, first-none, first_more}
 
 module _ (s : Store) (a : Area) (n : ℕ) (c : Area) where
   -- after j of the n items of the other store
@@ -52,6 +52,3 @@ module _ (s : Store) (a : Area) (n : ℕ) (c : Area) where
     pub adding-next : (u : Store) (d : Area) → Added t b (item_at c.entries c.bytes (drop (j * 9) c.items)) u d → Adding (j + 1) u d
     adding-next u d r =
         record { began = m.began; room = m.room; added = rw (first_more c j) (added_more s a _ t b m.added _ u d r) }
-
-  pub adding-end : (f : Store) (j : ℕ) (t : Store) (b : Area) → f.items ≡ n → n ≤ j → j ≤ n → Adding j t b → AddedAll s a (store_items f c) t b
-  adding-end f j t b e h g m = let q : j ≡ f.items = omega arith in rw (← first_all f c j q) m.added

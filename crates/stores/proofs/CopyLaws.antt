@@ -3,16 +3,21 @@ use mathlib.Core.Path.{◌≡◌}
 use mathlib.Core.List.{List}
 use Prim.Native.Nat.{ℕ, ◌*◌, ◌≤◌}
 use native.Mathlib.Omega.{arith}
-use lib.ListN.{length, take}
+use lib.ListN.{length, take, drop}
 use lib.Seq.{length-take-le}
 use Rattle.cells.specs.Part.{put}
 use Rattle.cells.specs.PartLaws.{part-front, part-put_same, drop-put, length-put}
 use Rattle.stores.specs.declared.Store.{Store}
-use Rattle.stores.specs.Stores.{Area, Stored, FrontCopied, Fitting, Copied, Kept}
+use Rattle.stores.specs.Stores.{Area, Stored, Fitting, Copied, Kept}
 use Rattle.stores.specs.StoreLaws.{kept-items, kept-stored}
 
--- `copy_in` of a front
-pub front-copied : (n : ℕ) (from d e : List ℕ) → n ≤ length from → n ≤ length d → e ≡ put d 0 (take n from) → FrontCopied n from d e
+-- list d with the first n elements of another: what lies behind them is as it was
+record FrontCopied (n : ℕ) (from d e : List ℕ) : Type 0 where
+  front : take n e ≡ take n from
+  back : drop n e ≡ drop n d
+  sized : length e ≡ length d
+
+front-copied : (n : ℕ) (from d e : List ℕ) → n ≤ length from → n ≤ length d → e ≡ put d 0 (take n from) → FrontCopied n from d e
 front-copied n from d e h l q =
     let k = length-take-le n from h in
     record {
@@ -22,7 +27,7 @@ front-copied n from d e h l q =
     }
 
 module _ (s : Store) (a d b : Area) (w : Stored s a) (f : Fitting s d) where
-  pub bytes-used : (s.items * 64 ≤ length a.bytes) × (s.items * 64 ≤ length d.bytes)
+  bytes-used : (s.items * 64 ≤ length a.bytes) × (s.items * 64 ≤ length d.bytes)
   bytes-used =
       let p = w.places in
       let q = w.rows in
@@ -30,8 +35,11 @@ module _ (s : Store) (a d b : Area) (w : Stored s a) (f : Fitting s d) where
       let t = f.rows in
       (omega arith, omega arith)
 
-  pub copied : FrontCopied (s.items * 9) a.items d.items b.items → FrontCopied (s.entries * 8) a.entries d.entries b.entries → FrontCopied (s.items * 64) a.bytes d.bytes b.bytes → Copied s a d b
-  copied i e c =
+  pub copied : b.items ≡ put d.items 0 (take (s.items * 9) a.items) → b.entries ≡ put d.entries 0 (take (s.entries * 8) a.entries) → b.bytes ≡ put d.bytes 0 (take (s.items * 64) a.bytes) → Copied s a d b
+  copied p q r =
+      let i = front-copied (s.items * 9) a.items d.items b.items w.rows f.rows p in
+      let e = front-copied (s.entries * 8) a.entries d.entries b.entries w.lists f.lists q in
+      let c = front-copied (s.items * 64) a.bytes d.bytes b.bytes bytes-used.0 bytes-used.1 r in
       let kept : Kept s a b = record { rows = i.front; lists = e.front; places = c.front } in
       let m = i.sized in
       let n = c.sized in

@@ -1,4 +1,5 @@
 -- After j items of a store the items of other tags stand at the front, and the rest is as it was. Assumes nothing.
+use Rattle.rules.specs.Causes.{Ok}
 use mathlib.Core.Bool.{Bool, true, false}
 use mathlib.Core.Path.{◌≡◌, refl, sym, ap, ◌∙◌}
 use mathlib.Core.List.{List, [], ◌∷◌, ◌++◌}
@@ -15,7 +16,6 @@ use Rattle.maps.specs.Lists.{select}
 use Rattle.rules.specs.Items as rules
 use Rattle.rules.specs.Context.{entries_in}
 use Rattle.log_batch.specs.declared.item.LogItem.{LogItem}
-use Rattle.log_batch.specs.declared.open.Opened.{TheVariants.Item}
 use Rattle.log_batch.specs.Lent.{row_count_of, opened_row, item_of, item_at}
 use Rattle.log_batch.specs.OpenLaws.{item_back, item-opened}
 use Rattle.stores.specs.declared.Store.{Store}
@@ -63,7 +63,7 @@ module _ (o : Area) (os : List ℕ) (tag n : ℕ) where
     abbrev its : LogItem
     its = held_item (first_items n o) o t.began j h
 
-    its-opens : opened_row (drop (j * 9) a.items) (length a.entries / 8) (length a.bytes) ≡ Item its
+    its-opens : opened_row (drop (j * 9) a.items) (length a.entries / 8) (length a.bytes) ≡ Ok its
     its-opens = rw (t.rest.rows, t.sized.lists, t.sized.places) (stored-opens (first_items n o) o t.began j h)
 
     its-entries : entries_before (suc j) o.items ≡ entries_before j o.items + count_of its.content

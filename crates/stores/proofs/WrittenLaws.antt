@@ -1,4 +1,8 @@
 -- A written row opens into the item with its places, and the item stands for what the one that was written stands for. Assumes nothing.
+use Rattle.pipe_log.specs.declared.FileId.{FileId}
+use Rattle.log_batch.specs.declared.item.Bytes.{Bytes}
+use Rattle.rules.specs.Causes.{Ok}
+use Rattle.std.specs.Prelude.{Option, Some, None}
 use mathlib.Core.Bool.{true, false}
 use mathlib.Core.Path.{◌≡◌, refl, ◌∙◌}
 use mathlib.Core.List.{List, ◌∷◌, ◌++◌, append-nil}
@@ -9,16 +13,13 @@ use lib.Dec.{ltb}
 use lib.ListN.{length, length-append}
 use borrow.Author.Tests.{le-leb, le-ltb}
 use Rattle.cells.specs.Part.{part, put}
-use Rattle.cells.specs.PartLaws.{length_part, part_all, part_left, part_right, part-put-within, part-put_same, part-put-after, length-put, put-append}
+use Rattle.cells.specs.PartLaws.{length_part, part_all, part_left, part_right, part-put-within, part-put_same, part-put-after, put-append}
 use Rattle.rules.specs.Items as rules
 use Rattle.log_batch.specs.declared.item.Command as command
-use Rattle.log_batch.specs.declared.item.Value as value
 use Rattle.log_batch.specs.declared.item.OpType as op
-use Rattle.log_batch.specs.declared.item.KeyFile as file
 use Rattle.log_batch.specs.declared.item.KeyValue.{KeyValue}
 use Rattle.log_batch.specs.declared.item.LogItemContent as content
 use Rattle.log_batch.specs.declared.item.LogItem.{LogItem}
-use Rattle.log_batch.specs.declared.open.Opened.{TheVariants.Item}
 use Rattle.log_batch.specs.Lent.{item_if, value_fits, value_at, file_at, opened_entries, opened_put, opened_del, opened_row, content_of, item_of, key_content, key_change, change_of, value_of, ValueWithin, RowsWithin, BytesWithin}
 use Rattle.log_batch.specs.OpenLaws.{ValueIn, PlacesIn}
 use Rattle.stores.specs.Written.{key_length, file_number, file_seq, value_told, value_length, command_row, key_row, content_row, row_for, placed_value, placed_key, placed_content, placed, value_bytes, key_bytes, bytes_of, rows_of, count_of, ValueShort, ContentShort, ValueBehind, BytesBehind, Behind}
@@ -49,14 +50,14 @@ length-rows_of (content.TheVariants.EntryIndexes x) es w = length_part (x.at * 8
 length-rows_of (content.TheVariants.Command c) es w = refl
 length-rows_of (content.TheVariants.Kv k) es w = refl
 
-length-value : (v : value.Value) (bs : List ℕ) → ValueWithin v (length bs) → length (value_bytes v bs) ≡ value_length v
+length-value : (v : Option Bytes) (bs : List ℕ) → ValueWithin v (length bs) → length (value_bytes v bs) ≡ value_length v
 unfolding value_bytes
-length-value value.TheVariants.Absent bs w = refl
-length-value (value.TheVariants.At a n) bs w = length_part a n bs w
+length-value None bs w = refl
+length-value (Some b) bs w = length_part b.at b.len bs w
 
-value-32 : (v : value.Value) → ValueShort v → value_length v ≤ 32
-value-32 value.TheVariants.Absent s = omega arith
-value-32 (value.TheVariants.At a n) s = s
+value-32 : (v : Option Bytes) → ValueShort v → value_length v ≤ 32
+value-32 None s = omega arith
+value-32 (Some b) s = s
 
 pub key-32 : (c : content.LogItemContent) → ContentShort c → key_length c ≤ 32
 key-32 (content.TheVariants.EntryIndexes x) s = omega arith
@@ -80,35 +81,35 @@ length-bytes_of (content.TheVariants.Kv k) bs w s =
 -- ---- the written row opens
 
 module _ (rest : List ℕ) where
-  file_by : (q : rules.LogQueue) (n x0 x1 x2 x3 x4 x5 x6 : ℕ) → file_at (x0 ∷ x1 ∷ x2 ∷ x3 ∷ x4 ∷ x5 ∷ x6 ∷ file_number (file.TheVariants.Of (record { queue = q; seq = n })) ∷ n ∷ rest) ≡ file.TheVariants.Of (record { queue = q; seq = n })
+  file_by : (q : rules.LogQueue) (n x0 x1 x2 x3 x4 x5 x6 : ℕ) → file_at (x0 ∷ x1 ∷ x2 ∷ x3 ∷ x4 ∷ x5 ∷ x6 ∷ file_number (Some (record { queue = q; seq = n })) ∷ n ∷ rest) ≡ Some (record { queue = q; seq = n })
   unfolding file_at
   file_by rules.Append n x0 x1 x2 x3 x4 x5 x6 = refl
   file_by rules.Rewrite n x0 x1 x2 x3 x4 x5 x6 = refl
 
-  file_back : (f : file.KeyFile) (x0 x1 x2 x3 x4 x5 x6 : ℕ) → file_at (x0 ∷ x1 ∷ x2 ∷ x3 ∷ x4 ∷ x5 ∷ x6 ∷ file_number f ∷ file_seq f ∷ rest) ≡ f
+  file_back : (f : Option FileId) (x0 x1 x2 x3 x4 x5 x6 : ℕ) → file_at (x0 ∷ x1 ∷ x2 ∷ x3 ∷ x4 ∷ x5 ∷ x6 ∷ file_number f ∷ file_seq f ∷ rest) ≡ f
   unfolding file_at
-  file_back file.TheVariants.Absent x0 x1 x2 x3 x4 x5 x6 = refl
-  file_back (file.TheVariants.Of f) x0 x1 x2 x3 x4 x5 x6 = file_by f.queue f.seq x0 x1 x2 x3 x4 x5 x6
+  file_back None x0 x1 x2 x3 x4 x5 x6 = refl
+  file_back (Some f) x0 x1 x2 x3 x4 x5 x6 = file_by f.queue f.seq x0 x1 x2 x3 x4 x5 x6
 
-  value_back : (v : value.Value) (b x0 x1 x2 x3 x7 x8 : ℕ) → value_at (x0 ∷ x1 ∷ x2 ∷ x3 ∷ value_told v ∷ b ∷ value_length v ∷ x7 ∷ x8 ∷ rest) ≡ placed_value v b
+  value_back : (v : Option Bytes) (b x0 x1 x2 x3 x7 x8 : ℕ) → value_at (x0 ∷ x1 ∷ x2 ∷ x3 ∷ value_told v ∷ b ∷ value_length v ∷ x7 ∷ x8 ∷ rest) ≡ placed_value v b
   unfolding value_at
-  value_back value.TheVariants.Absent b x0 x1 x2 x3 x7 x8 = refl
-  value_back (value.TheVariants.At a n) b x0 x1 x2 x3 x7 x8 = refl
+  value_back None b x0 x1 x2 x3 x7 x8 = refl
+  value_back (Some b') b x0 x1 x2 x3 x7 x8 = refl
 
-  value-fits : (v : value.Value) (b e x0 x1 x2 x3 x7 x8 : ℕ) → ValueShort v → b + 32 ≤ e → value_fits (x0 ∷ x1 ∷ x2 ∷ x3 ∷ value_told v ∷ b ∷ value_length v ∷ x7 ∷ x8 ∷ rest) e ≡ true
+  value-fits : (v : Option Bytes) (b e x0 x1 x2 x3 x7 x8 : ℕ) → ValueShort v → b + 32 ≤ e → value_fits (x0 ∷ x1 ∷ x2 ∷ x3 ∷ value_told v ∷ b ∷ value_length v ∷ x7 ∷ x8 ∷ rest) e ≡ true
   unfolding value_fits
-  value-fits value.TheVariants.Absent b e x0 x1 x2 x3 x7 x8 s h = refl
-  value-fits (value.TheVariants.At a n) b e x0 x1 x2 x3 x7 x8 s h = le-leb (b + n) e (omega arith)
+  value-fits None b e x0 x1 x2 x3 x7 x8 s h = refl
+  value-fits (Some b') b e x0 x1 x2 x3 x7 x8 s h = le-leb (b + b'.len) e (omega arith)
 
   nine-long : (x0 x1 x2 x3 x4 x5 x6 x7 x8 : ℕ) → ltb (length (x0 ∷ x1 ∷ x2 ∷ x3 ∷ x4 ∷ x5 ∷ x6 ∷ x7 ∷ x8 ∷ rest)) 9 ≡ false
   nine-long x0 x1 x2 x3 x4 x5 x6 x7 x8 = le-ltb (length (x0 ∷ x1 ∷ x2 ∷ x3 ∷ x4 ∷ x5 ∷ x6 ∷ x7 ∷ x8 ∷ rest)) 9 (omega arith)
 
-  opens-command : (g r b : ℕ) (c : command.Command) → opened_row (command_row g c ++ rest) r b ≡ Item (record { raft_group_id = g; content = content.TheVariants.Command c })
+  opens-command : (g r b : ℕ) (c : command.Command) → opened_row (command_row g c ++ rest) r b ≡ Ok (record { raft_group_id = g; content = content.TheVariants.Command c })
   unfolding opened_row item_if
   opens-command g r b command.TheVariants.Clean = rw (nine-long g 1 0 0 0 0 0 0 0)
   opens-command g r b (command.TheVariants.Compact i) = rw (nine-long g 2 i 0 0 0 0 0 0)
 
-  opens_key : (o : op.OpType) (g : ℕ) (k : KeyValue) (r b e : ℕ) → ContentShort (content.TheVariants.Kv k) → b + 64 ≤ e → opened_row (key_row o g k b ++ rest) r e ≡ Item (record { raft_group_id = g; content = content.TheVariants.Kv (placed_key o k b) })
+  opens_key : (o : op.OpType) (g : ℕ) (k : KeyValue) (r b e : ℕ) → ContentShort (content.TheVariants.Kv k) → b + 64 ≤ e → opened_row (key_row o g k b ++ rest) r e ≡ Ok (record { raft_group_id = g; content = content.TheVariants.Kv (placed_key o k b) })
   unfolding opened_row opened_put opened_del item_if
   opens_key op.TheVariants.Put g k r b e s h =
       let n = k.key_len in
@@ -127,14 +128,14 @@ module _ (rest : List ℕ) where
       let short = s.0 in
       rw (nine-long g 4 b n 0 0 0 2 0, le-leb (b + n) e (omega arith))
 
-  opens-content : (g : ℕ) (c : content.LogItemContent) (r b e : ℕ) → ContentShort c → b + 64 ≤ e → opened_row (content_row g c r b ++ rest) (r + count_of c) e ≡ Item (record { raft_group_id = g; content = placed_content c r b })
+  opens-content : (g : ℕ) (c : content.LogItemContent) (r b e : ℕ) → ContentShort c → b + 64 ≤ e → opened_row (content_row g c r b ++ rest) (r + count_of c) e ≡ Ok (record { raft_group_id = g; content = placed_content c r b })
   unfolding opened_row opened_entries item_if
   opens-content g (content.TheVariants.EntryIndexes x) r b e s h =
       rw (nine-long g 0 r x.count 0 0 0 0 0, le-leb (r + x.count) (r + x.count) (omega arith))
   opens-content g (content.TheVariants.Command c) r b e s h = opens-command g _ e c
   opens-content g (content.TheVariants.Kv k) r b e s h = opens_key k.op_type g k _ b e s h
 
-  pub written-opens : (it : LogItem) (r b e : ℕ) → ContentShort it.content → b + 64 ≤ e → opened_row (row_for it r b ++ rest) (r + count_of it.content) e ≡ Item (placed it r b)
+  pub written-opens : (it : LogItem) (r b e : ℕ) → ContentShort it.content → b + 64 ≤ e → opened_row (row_for it r b ++ rest) (r + count_of it.content) e ≡ Ok (placed it r b)
   unfolding row_for placed
   written-opens it r b e s h = opens-content it.raft_group_id it.content r b e s h
 
@@ -180,10 +181,10 @@ module _ (bs d : List ℕ) (b : ℕ) (h : b ≤ length d) where
   unfolding key_bytes
   key_back k w = front_back d b _ _ k.key_len (length_part k.key_at k.key_len bs w.0) h
 
-  change_back : (o : op.OpType) (v : value.Value) (f : file.KeyFile) (key : List ℕ) (n : ℕ) → length key ≡ n → ValueWithin v (length bs) → change_of o (placed_value v (b + n)) f (put d b (key ++ value_bytes v bs)) ≡ change_of o v f bs
+  change_back : (o : op.OpType) (v : Option Bytes) (f : Option FileId) (key : List ℕ) (n : ℕ) → length key ≡ n → ValueWithin v (length bs) → change_of o (placed_value v (b + n)) f (put d b (key ++ value_bytes v bs)) ≡ change_of o v f bs
   unfolding change_of value_of value_bytes
-  change_back op.TheVariants.Put value.TheVariants.Absent f key n e w = refl
-  change_back op.TheVariants.Put (value.TheVariants.At a m) f key n e w = rw (rest_back d b key (part a m bs) n m e (length_part a m bs w) h)
+  change_back op.TheVariants.Put None f key n e w = refl
+  change_back op.TheVariants.Put (Some v) f key n e w = rw (rest_back d b key (part v.at v.len bs) n v.len e (length_part v.at v.len bs w) h)
   change_back op.TheVariants.Del v f key n e w = refl
 
   keyed_back : (o : op.OpType) (k : KeyValue) → BytesWithin (content.TheVariants.Kv k) (length bs) → key_content (placed_key o k b) (put d b (key_bytes k bs)) ≡ rules.kv (part k.key_at k.key_len bs) (change_of o k.value k.file_id bs)
@@ -212,14 +213,14 @@ module _ (bs d : List ℕ) (b : ℕ) (h : b ≤ length d) where
 -- ---- what the copies write
 
 module _ (k : KeyValue) (at : ℕ) (xs bs ys : List ℕ) (e : ys ≡ put xs at (part k.key_at k.key_len bs)) where
-  pub key-copied : k.value ≡ value.TheVariants.Absent → ys ≡ put xs at (key_bytes k bs)
+  pub key-copied : k.value ≡ None → ys ≡ put xs at (key_bytes k bs)
   unfolding key_bytes value_bytes
   key-copied h = rw (h, append-nil) e
 
-  pub value-copied : (a n : ℕ) (zs : List ℕ) → k.value ≡ value.TheVariants.At a n → k.key_at + k.key_len ≤ length bs → at ≤ length xs → zs ≡ put ys (at + k.key_len) (part a n bs) → zs ≡ put xs at (key_bytes k bs)
+  pub value-copied : (v : Bytes) (zs : List ℕ) → k.value ≡ Some v → k.key_at + k.key_len ≤ length bs → at ≤ length xs → zs ≡ put ys (at + k.key_len) (part v.at v.len bs) → zs ≡ put xs at (key_bytes k bs)
   unfolding key_bytes value_bytes
-  value-copied a n zs h w l f =
-      let q = put-append xs at (part k.key_at k.key_len bs) (part a n bs) l in
+  value-copied v zs h w l f =
+      let q = put-append xs at (part k.key_at k.key_len bs) (part v.at v.len bs) l in
       let m = length_part k.key_at k.key_len bs w in
       rw (h, q, m, ← e) f
 
@@ -230,19 +231,14 @@ module _ (k : KeyValue) (to : ℕ) (xs ys : List ℕ) (e : ys ≡ put xs to (par
       let m = length_part k.key_at k.key_len xs w in
       rw e (part-put-after a n xs to (part k.key_at k.key_len xs) (omega arith) (omega arith))
 
-  pub moved_length : length ys ≡ length xs
-  moved_length =
-      let m = length_part k.key_at k.key_len xs w in
-      rw e (length-put xs to (part k.key_at k.key_len xs) (omega arith))
-
-  pub value-moved : (a n : ℕ) (zs : List ℕ) → k.value ≡ value.TheVariants.At a n → to + k.key_len ≤ a → zs ≡ put ys (to + k.key_len) (part a n ys) → zs ≡ put xs to (key_bytes k xs)
-  value-moved a n zs h b f = value-copied k to xs xs ys e a n zs h w (omega arith) (rw (value_stays a n b) at f)
+  pub value-moved : (v : Bytes) (zs : List ℕ) → k.value ≡ Some v → to + k.key_len ≤ v.at → zs ≡ put ys (to + k.key_len) (part v.at v.len ys) → zs ≡ put xs to (key_bytes k xs)
+  value-moved v zs h b f = value-copied k to xs xs ys e v zs h w (omega arith) (rw (value_stays v.at v.len b) at f)
 
 -- ---- the places of an item lie at or behind where it was placed
 
-behind-value : (v : value.Value) (b d : ℕ) → d ≤ b → ValueBehind (placed_value v b) d
-behind-value value.TheVariants.Absent b d h = tt
-behind-value (value.TheVariants.At a n) b d h = h
+behind-value : (v : Option Bytes) (b d : ℕ) → d ≤ b → ValueBehind (placed_value v b) d
+behind-value None b d h = tt
+behind-value (Some b') b d h = h
 
 behind_key : (o : op.OpType) (k : KeyValue) (b d : ℕ) → d ≤ b → BytesBehind (content.TheVariants.Kv (placed_key o k b)) d
 behind_key op.TheVariants.Put k b d h = (h, behind-value k.value (b + k.key_len) (d + k.key_len) (omega arith))
@@ -257,9 +253,9 @@ pub placed-behind : (it : LogItem) (r b q d : ℕ) → q ≤ r → d ≤ b → B
 unfolding placed
 placed-behind it r b q d g h = behind-content it.content r b q d g h
 
-back-value : (v : value.Value) (b d : ℕ) → d ≤ b → ValueIn (λ a n. d ≤ a) (placed_value v b)
-back-value value.TheVariants.Absent b d h = tt
-back-value (value.TheVariants.At a n) b d h = h
+back-value : (v : Option Bytes) (b d : ℕ) → d ≤ b → ValueIn (λ a n. d ≤ a) (placed_value v b)
+back-value None b d h = tt
+back-value (Some b') b d h = h
 
 back_key : (o : op.OpType) (k : KeyValue) (b : ℕ) (R : ℕ → ℕ → Type 0) → PlacesIn R (λ a n. b ≤ a) (content.TheVariants.Kv (placed_key o k b))
 back_key op.TheVariants.Put k b R = (omega arith, back-value k.value (b + k.key_len) b (omega arith))

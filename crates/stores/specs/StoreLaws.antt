@@ -1,5 +1,8 @@
 -- The laws of a store: its items open within the fronts in use, so they stay where the fronts stay. Assumes nothing.
-use Rattle.std.specs.Prelude.{Bool, cond, ◌&&◌, ◌≡◌, List, [], ◌∷◌, ◌++◌, eqb, ltb, leb, length, get_or, take, drop}
+use Rattle.log_batch.specs.declared.item.Bytes.{Bytes}
+use Rattle.log_batch.specs.Lent.{Opened}
+use Rattle.rules.specs.Causes.{Ok, Err}
+use Rattle.std.specs.Prelude.{Option, Some, None, Bool, cond, ◌&&◌, ◌≡◌, List, [], ◌∷◌, ◌++◌, eqb, ltb, leb, length, get_or, take, drop}
 use Rattle.std.proofs.Math.Bool.{true, false}
 use Rattle.std.proofs.Math.Path.{refl, sym, ap}
 use Rattle.std.proofs.Common.{◌∙◌, append_assoc, append-nil, add-one, lt-ltb, le-ltb, le-leb, get_or-take}
@@ -15,12 +18,10 @@ use Rattle.maps.specs.Lists.{sum}
 use Rattle.maps.specs.ListLaws.{sum-append}
 use Rattle.rules.specs.Items as rules
 use Rattle.rules.specs.Context.{entries_in}
-use Rattle.log_batch.specs.declared.item.Value as value
 use Rattle.log_batch.specs.declared.item.OpType as op
 use Rattle.log_batch.specs.declared.item.KeyValue.{KeyValue}
 use Rattle.log_batch.specs.declared.item.LogItemContent as content
 use Rattle.log_batch.specs.declared.item.LogItem.{LogItem}
-use Rattle.log_batch.specs.declared.open.Opened.{Opened, TheVariants.Item, TheVariants.Refused}
 use Rattle.log_batch.specs.Lent.{row_count_of, item_if, opened_entries, opened_put, opened_del, opened_row, content_of, key_content, item_of, item_at, items_from, Within}
 use Rattle.stores.specs.declared.Store.{Store}
 use Rattle.stores.specs.Written.{placed, placed_value, placed_key, placed_content, count_of, ValueShort, ContentShort, Lent}
@@ -83,24 +84,24 @@ held_same n j xs ys e h held =
 -- ---- an opened item: how many entries it has
 
 opened_count : Opened → ℕ
-opened_count (Item it) = count_of it.content
-opened_count (Refused g) = 0
+opened_count (Ok it) = count_of it.content
+opened_count (Err u) = 0
 
 module _ (row : List ℕ) (it : LogItem) where
-  if-count : (b : Bool) (c : content.LogItemContent) → item_if b row c ≡ Item it → count_of c ≡ count_of it.content
+  if-count : (b : Bool) (c : content.LogItemContent) → item_if b row c ≡ Ok it → count_of c ≡ count_of it.content
   unfolding item_if opened_count
   if-count true c e = ap opened_count e
   if-count false c e = refused-item _ it e
 
-  either_way : {P : Type 0} (b : Bool) (x y : Opened) → (x ≡ Item it → P) → (y ≡ Item it → P) → cond b x y ≡ Item it → P
+  either_way : {P : Type 0} (b : Bool) (x y : Opened) → (x ≡ Ok it → P) → (y ≡ Ok it → P) → cond b x y ≡ Ok it → P
   either_way true x y p q e = p e
   either_way false x y p q e = q e
 
-  by-tag : (b : Bool) (x y : Opened) (m : ℕ) → (x ≡ Item it → m ≡ count_of it.content) → (y ≡ Item it → 0 ≡ count_of it.content) → cond b x y ≡ Item it → cond b m 0 ≡ count_of it.content
+  by-tag : (b : Bool) (x y : Opened) (m : ℕ) → (x ≡ Ok it → m ≡ count_of it.content) → (y ≡ Ok it → 0 ≡ count_of it.content) → cond b x y ≡ Ok it → cond b m 0 ≡ count_of it.content
   by-tag true x y m p q e = p e
   by-tag false x y m p q e = q e
 
-  pub opened-entries : (r b : ℕ) → opened_row row r b ≡ Item it → row_entries row ≡ count_of it.content
+  pub opened-entries : (r b : ℕ) → opened_row row r b ≡ Ok it → row_entries row ≡ count_of it.content
   unfolding opened_row opened_entries opened_put opened_del row_entries
   opened-entries r b =
       either_way (ltb (length row) 9) _ _ (λ e. refused-item _ it e)
@@ -123,9 +124,9 @@ entries-count it es bs = content-count it.content it.raft_group_id es bs
 
 -- an item with places is as short, and has as many entries
 
-placed-value-short : (v : value.Value) (b : ℕ) → ValueShort v → ValueShort (placed_value v b)
-placed-value-short value.TheVariants.Absent b s = tt
-placed-value-short (value.TheVariants.At a n) b s = s
+placed-value-short : (v : Option Bytes) (b : ℕ) → ValueShort v → ValueShort (placed_value v b)
+placed-value-short None b s = tt
+placed-value-short (Some b') b s = s
 
 placed_key-short : (o : op.OpType) (k : KeyValue) (b : ℕ) → ContentShort (content.TheVariants.Kv k) → ContentShort (content.TheVariants.Kv (placed_key o k b))
 placed_key-short op.TheVariants.Put k b s = (s.0, placed-value-short k.value (b + k.key_len) s.1)
@@ -147,7 +148,7 @@ module _ (s : Store) (a : Area) (w : Stored s a) (j : ℕ) (h : j < s.items) whe
   abbrev pub held_item : LogItem
   held_item = placed (w.each j h).item (entries_before j a.items) (j * 64)
 
-  opens-in_use : opened_row (drop (j * 9) a.items) s.entries (s.items * 64) ≡ Item held_item
+  opens-in_use : opened_row (drop (j * 9) a.items) s.entries (s.items * 64) ≡ Ok held_item
   opens-in_use =
       let l = before_below (suc j) s.items a.items h in
       let t = w.total in
@@ -174,7 +175,7 @@ module _ (s : Store) (a : Area) (w : Stored s a) (j : ℕ) (h : j < s.items) whe
     places_stay : s.items * 64 ≤ length b.bytes
     places_stay = front_length (s.items * 64) a.bytes b.bytes k.places bytes-in_use
 
-    pub kept-opens : opened_row (drop (j * 9) b.items) (length b.entries / 8) (length b.bytes) ≡ Item held_item
+    pub kept-opens : opened_row (drop (j * 9) b.items) (length b.entries / 8) (length b.bytes) ≡ Ok held_item
     kept-opens =
         let l = lists_stay in
         open-longer held_item _ s.entries (s.items * 64) _ _ (omega arith) places_stay
@@ -252,7 +253,7 @@ module _ (s : Store) (a : Area) (w : Stored s a) where
   unfolding store_items
   stored_at j h z = items_at a.entries a.bytes s.items a.items j z h ∙ kept-item s a w j h a (kept_all s a)
 
-  pub stored-opens : (j : ℕ) (h : j < s.items) → opened_row (drop (j * 9) a.items) (length a.entries / 8) (length a.bytes) ≡ Item (held_item s a w j h)
+  pub stored-opens : (j : ℕ) (h : j < s.items) → opened_row (drop (j * 9) a.items) (length a.entries / 8) (length a.bytes) ≡ Ok (held_item s a w j h)
   stored-opens j h = kept-opens s a w j h a (kept_all s a)
 
   pub stored_row : (j : ℕ) → j < s.items → j < row_count_of a.items
@@ -260,7 +261,7 @@ module _ (s : Store) (a : Area) (w : Stored s a) where
   stored_row j h = let r = w.rows in omega arith
 
   -- what row j opens into is item j
-  pub stored-item : (j : ℕ) → j < s.items → (it : LogItem) → opened_row (drop (j * 9) a.items) (length a.entries / 8) (length a.bytes) ≡ Item it → ItemAt s a j it
+  pub stored-item : (j : ℕ) → j < s.items → (it : LogItem) → opened_row (drop (j * 9) a.items) (length a.entries / 8) (length a.bytes) ≡ Ok it → ItemAt s a j it
   stored-item j h it e =
       let same : held_item s a w j h ≡ it = cc (sym (stored-opens j h) ∙ e) in
       record {
@@ -269,7 +270,7 @@ module _ (s : Store) (a : Area) (w : Stored s a) where
         lent = rw same at (kept_lent s a w j h a (kept_all s a));
       }
 
-  pub stored-not-refused : (j : ℕ) → j < s.items → (g : ℕ) → opened_row (drop (j * 9) a.items) (length a.entries / 8) (length a.bytes) ≡ Refused g → ⊥
+  pub stored-not-refused : (j : ℕ) → j < s.items → (g : ℕ) → opened_row (drop (j * 9) a.items) (length a.entries / 8) (length a.bytes) ≡ Err (record { raft_group_id = g }) → ⊥
   stored-not-refused j h g e = refused-item g (held_item s a w j h) (sym e ∙ stored-opens j h)
 
   -- row j says how many entries item j has

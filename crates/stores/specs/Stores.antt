@@ -1,14 +1,13 @@
--- A store: items in the layout of a lent batch, read as `log_batch` reads one. Item j has its bytes from place 64 j, and its rows of
+-- A store: items in the layout of a lent batch, read as `log_batch` reads one. Ok j has its bytes from place 64 j, and its rows of
 -- entries behind those of the items before it.
-use Rattle.std.specs.Prelude.{Bool, false, cond, ◌&&◌, List, [], ◌∷◌, ◌++◌, ◌≡◌, ℕ, zero, suc, ◌+◌, ◌*◌, ◌/◌, ◌≤◌, ◌<◌, eqb, leb, ltb, length, get_or, take, drop}
+use Rattle.rules.specs.Causes.{Ok}
+use Rattle.std.specs.Prelude.{Option, Some, None, Bool, false, cond, ◌&&◌, List, [], ◌∷◌, ◌++◌, ◌≡◌, ℕ, zero, suc, ◌+◌, ◌*◌, ◌/◌, ◌≤◌, ◌<◌, eqb, leb, ltb, length, get_or, take, drop}
 use Rattle.maps.specs.Lists.{sum}
 use Rattle.rules.specs.Items as rules
 use Rattle.rules.specs.Context.{entries_in}
 use Rattle.log_batch.specs.declared.item.LogItem.{LogItem}
-use Rattle.log_batch.specs.declared.open.Opened.{TheVariants.Item}
 use Rattle.log_batch.specs.Lent.{opened_row, item_of, items_from}
 use Rattle.stores.specs.declared.Store.{Store}
-use Rattle.stores.specs.declared.Pushed.{Pushed, TheVariants.Done, TheVariants.NoRoom}
 use Rattle.stores.specs.Written.{ContentShort, placed, Lent}
 
 -- the three lent parts of a store
@@ -42,7 +41,7 @@ first_items n a = record { items = n; entries = entries_before n a.items }
 -- row j opens into an item with the places of item j
 pub record Held (j : ℕ) (items : List ℕ) : Type 0 where
   pub item : LogItem
-  pub opens : opened_row (drop (j * 9) items) (entries_before (suc j) items) (suc j * 64) ≡ Item (placed item (entries_before j items) (j * 64))
+  pub opens : opened_row (drop (j * 9) items) (entries_before (suc j) items) (suc j * 64) ≡ Ok (placed item (entries_before j items) (j * 64))
   pub short : ContentShort item.content
 
 -- there is a row for each item and 64 bytes for each row; the number of entries is the items' own
@@ -101,24 +100,18 @@ pub record AddedAll (s : Store) (a : Area) (xs : List rules.LogItem) (t : Store)
   pub sized : Sized a b
 
 -- the answer of a push: the store with the item, or no room and all as it was
-abbrev pub Pushing : Store → Area → rules.LogItem → Pushed → Area → Type 0
-Pushing s a it (Done t) b = Added s a it t b
-Pushing s a it NoRoom b = (has_room (entries_in it) s (length a.items) (length a.entries) ≡ false) × (b ≡ a)
+abbrev pub Pushing : Store → Area → rules.LogItem → Option Store → Area → Type 0
+Pushing s a it (Some t) b = Added s a it t b
+Pushing s a it None b = (has_room (entries_in it) s (length a.items) (length a.entries) ≡ false) × (b ≡ a)
 
 -- ---- item j, as it is read
 
 pub record ItemAt (s : Store) (a : Area) (j : ℕ) (it : LogItem) : Type 0 where
-  pub opens : opened_row (drop (j * 9) a.items) (length a.entries / 8) (length a.bytes) ≡ Item it
+  pub opens : opened_row (drop (j * 9) a.items) (length a.entries / 8) (length a.bytes) ≡ Ok it
   pub is : (z : rules.LogItem) → get_or (store_items s a) j z ≡ item_of it a.entries a.bytes
   pub lent : Lent it (length a.entries) (length a.bytes)
 
 -- ---- a copy
-
--- list d with the first n elements of another: what lies behind them is as it was
-pub record FrontCopied (n : ℕ) (from d e : List ℕ) : Type 0 where
-  pub front : take n e ≡ take n from
-  pub back : drop n e ≡ drop n d
-  pub sized : length e ≡ length d
 
 -- parts that the store fits into
 pub record Fitting (s : Store) (d : Area) : Type 0 where

@@ -1,13 +1,12 @@
 -- Items with tags, one number an item in a list of their own: an item's tag is the waiting part that it belongs to.
-use Rattle.std.specs.Prelude.{Bool, true, false, cond, not, List, [], ◌∷◌, ◌++◌, map, ◌≡◌, ℕ, zero, suc, ◌*◌, ◌/◌, ◌<◌, ◌≤◌, eqb, length, get_or, set, drop}
+use Rattle.rules.specs.Causes.{Ok}
+use Rattle.std.specs.Prelude.{Option, Some, None, Bool, true, false, cond, not, List, [], ◌∷◌, ◌++◌, map, ◌≡◌, ℕ, zero, suc, ◌*◌, ◌/◌, ◌<◌, ◌≤◌, eqb, length, get_or, set, drop}
 use Rattle.maps.specs.Lists.{select, sum}
 use Rattle.rules.specs.Items as rules
 use Rattle.rules.specs.Context.{entries_in}
 use Rattle.log_batch.specs.declared.item.LogItem.{LogItem}
-use Rattle.log_batch.specs.declared.open.Opened.{TheVariants.Item}
 use Rattle.log_batch.specs.Lent.{row_count_of, opened_row, item_at}
 use Rattle.stores.specs.declared.Store.{Store}
-use Rattle.stores.specs.declared.Pushed.{Pushed, TheVariants.Done, TheVariants.NoRoom}
 use Rattle.stores.specs.Written.{count_of, Behind, Lent}
 use Rattle.stores.specs.Stores.{Area, store_items, row_entries, Stored, Sized, has_room, one_more, Added, Pushing}
 
@@ -39,9 +38,9 @@ pub record AddedTagged (s : Store) (a : Area) (ts : List ℕ) (tag : ℕ) (it : 
   pub tags : us ≡ set ts s.items tag
   pub items : store_tagged t b us ≡ store_tagged s a ts ++ (record { tag = tag; item = it } ∷ [])
 
-abbrev pub PushingTagged : Store → Area → List ℕ → ℕ → rules.LogItem → Pushed → Area → List ℕ → Type 0
-PushingTagged s a ts tag it (Done t) b us = AddedTagged s a ts tag it t b us
-PushingTagged s a ts tag it NoRoom b us = Pushing s a it NoRoom b × (us ≡ ts)
+abbrev pub PushingTagged : Store → Area → List ℕ → ℕ → rules.LogItem → Option Store → Area → List ℕ → Type 0
+PushingTagged s a ts tag it (Some t) b us = AddedTagged s a ts tag it t b us
+PushingTagged s a ts tag it None b us = Pushing s a it None b × (us ≡ ts)
 
 -- ---- taking out a tag
 
@@ -49,7 +48,7 @@ PushingTagged s a ts tag it NoRoom b us = Pushing s a it NoRoom b × (us ≡ ts)
 pub record Movable (s : Store) (j : ℕ) (a : Area) : Type 0 where
   pub row : j < row_count_of a.items
   pub item : LogItem
-  pub opens : opened_row (drop (j * 9) a.items) (length a.entries / 8) (length a.bytes) ≡ Item item
+  pub opens : opened_row (drop (j * 9) a.items) (length a.entries / 8) (length a.bytes) ≡ Ok item
   pub lent : Lent item (length a.entries) (length a.bytes)
   pub room : has_room (count_of item.content) s (length a.items) (length a.entries) ≡ true
   pub behind : Behind item.content s.entries (s.items * 64)

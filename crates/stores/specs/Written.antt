@@ -1,11 +1,11 @@
 -- An item with the places that it has in a store: its row, its rows of entries and its bytes.
-use Rattle.std.specs.Prelude.{List, [], ◌∷◌, ◌++◌, ℕ, ◌+◌, ◌*◌, ◌≤◌}
+use Rattle.pipe_log.specs.declared.FileId.{FileId}
+use Rattle.log_batch.specs.declared.item.Bytes.{Bytes}
+use Rattle.std.specs.Prelude.{Option, Some, None, List, [], ◌∷◌, ◌++◌, ℕ, ◌+◌, ◌*◌, ◌≤◌}
 use Rattle.cells.specs.Part.{part}
 use Rattle.pipe_log.specs.Numbers.{queue_number}
 use Rattle.log_batch.specs.declared.item.Command as command
 use Rattle.log_batch.specs.declared.item.OpType as op
-use Rattle.log_batch.specs.declared.item.Value as value
-use Rattle.log_batch.specs.declared.item.KeyFile as file
 use Rattle.log_batch.specs.declared.item.KeyValue.{KeyValue}
 use Rattle.log_batch.specs.declared.item.LogItemContent as content
 use Rattle.log_batch.specs.declared.item.LogItem.{LogItem}
@@ -14,22 +14,22 @@ use Rattle.log_batch.specs.Lent.{Within}
 -- ---- the row
 
 -- the numbers that tell a key's file
-abbrev pub file_number : file.KeyFile → ℕ
-file_number file.TheVariants.Absent = 2
-file_number (file.TheVariants.Of f) = queue_number f.queue
+abbrev pub file_number : Option FileId → ℕ
+file_number None = 2
+file_number (Some f) = queue_number f.queue
 
-abbrev pub file_seq : file.KeyFile → ℕ
-file_seq file.TheVariants.Absent = 0
-file_seq (file.TheVariants.Of f) = f.seq
+abbrev pub file_seq : Option FileId → ℕ
+file_seq None = 0
+file_seq (Some f) = f.seq
 
 -- the numbers that tell a value
-abbrev pub value_told : value.Value → ℕ
-value_told value.TheVariants.Absent = 0
-value_told (value.TheVariants.At a n) = 1
+abbrev pub value_told : Option Bytes → ℕ
+value_told None = 0
+value_told (Some b) = 1
 
-abbrev pub value_length : value.Value → ℕ
-value_length value.TheVariants.Absent = 0
-value_length (value.TheVariants.At a n) = n
+abbrev pub value_length : Option Bytes → ℕ
+value_length None = 0
+value_length (Some b) = b.len
 
 abbrev pub command_row : ℕ → command.Command → List ℕ
 command_row g command.TheVariants.Clean = g ∷ 1 ∷ 0 ∷ 0 ∷ 0 ∷ 0 ∷ 0 ∷ 0 ∷ 0 ∷ []
@@ -63,15 +63,15 @@ row_for it r b = content_row it.raft_group_id it.content r b
 
 -- ---- the item with these places; a Del has neither value nor file
 
-abbrev pub placed_value : value.Value → ℕ → value.Value
-placed_value value.TheVariants.Absent b = value.TheVariants.Absent
-placed_value (value.TheVariants.At a n) b = value.TheVariants.At b n
+abbrev pub placed_value : Option Bytes → ℕ → Option Bytes
+placed_value None b = None
+placed_value (Some b') b = Some (record { at = b; len = b'.len })
 
 abbrev pub placed_key : op.OpType → KeyValue → ℕ → KeyValue
 placed_key op.TheVariants.Put k b =
     record { op_type = op.TheVariants.Put; key_at = b; key_len = k.key_len; value = placed_value k.value (b + k.key_len); file_id = k.file_id }
 placed_key op.TheVariants.Del k b =
-    record { op_type = op.TheVariants.Del; key_at = b; key_len = k.key_len; value = value.TheVariants.Absent; file_id = file.TheVariants.Absent }
+    record { op_type = op.TheVariants.Del; key_at = b; key_len = k.key_len; value = None; file_id = None }
 
 abbrev pub placed_content : content.LogItemContent → ℕ → ℕ → content.LogItemContent
 placed_content (content.TheVariants.EntryIndexes x) r b = content.TheVariants.EntryIndexes (record { at = r; count = x.count })
@@ -83,9 +83,9 @@ placed it r b = record { raft_group_id = it.raft_group_id; content = placed_cont
 
 -- ---- what is copied: the rows of its entries, and the bytes of its key and value
 
-unfoldable pub value_bytes : value.Value → List ℕ → List ℕ
-value_bytes value.TheVariants.Absent bs = []
-value_bytes (value.TheVariants.At a n) bs = part a n bs
+unfoldable pub value_bytes : Option Bytes → List ℕ → List ℕ
+value_bytes None bs = []
+value_bytes (Some b) bs = part b.at b.len bs
 
 unfoldable pub key_bytes : KeyValue → List ℕ → List ℕ
 key_bytes k bs = part k.key_at k.key_len bs ++ value_bytes k.value bs
@@ -108,9 +108,9 @@ count_of (content.TheVariants.Kv k) = 0
 
 -- ---- what is asked of an item: its places are within its slices, and key and value have at most 32 bytes
 
-abbrev pub ValueShort : value.Value → Type 0
-ValueShort value.TheVariants.Absent = Unit
-ValueShort (value.TheVariants.At a n) = n ≤ 32
+abbrev pub ValueShort : Option Bytes → Type 0
+ValueShort None = Unit
+ValueShort (Some b) = b.len ≤ 32
 
 abbrev pub ContentShort : content.LogItemContent → Type 0
 ContentShort (content.TheVariants.EntryIndexes x) = Unit
@@ -123,9 +123,9 @@ pub record Lent (it : LogItem) (entries bytes : ℕ) : Type 0 where
 
 -- ---- its places lie at or behind row r and place b; a value lies behind the key that moves there
 
-abbrev pub ValueBehind : value.Value → ℕ → Type 0
-ValueBehind value.TheVariants.Absent b = Unit
-ValueBehind (value.TheVariants.At a n) b = b ≤ a
+abbrev pub ValueBehind : Option Bytes → ℕ → Type 0
+ValueBehind None b = Unit
+ValueBehind (Some b') b = b ≤ b'.at
 
 abbrev pub BytesBehind : content.LogItemContent → ℕ → Type 0
 BytesBehind (content.TheVariants.EntryIndexes x) b = Unit

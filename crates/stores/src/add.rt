@@ -1,13 +1,15 @@
 // Adding an item behind the others of a store.
+#![tactic(auto, unfolding(crate::specs::Written::value_bytes, crate::specs::Written::key_bytes, crate::specs::Written::bytes_of, crate::specs::Written::rows_of, crate::specs::Stores::has_room))]
+
 ghost use Rattle.std.specs.Prelude.{true, ◌≡◌, ◌+◌, ◌*◌, ◌≤◌, length};
 ghost use Rattle.cells.specs.Part.{put};
 ghost use Rattle.log_batch.specs.Lent.{item_of, ValueWithin, BytesWithin, RowsWithin};
 ghost use Rattle.stores.specs.Written.{key_bytes, bytes_of, rows_of, count_of, ValueShort, ContentShort, Lent};
 ghost use Rattle.stores.specs.Stores.{area, Stored, has_room, Added, Pushing};
 
+use crate::Store;
 use crate::row::{ITEM_BYTES, write_row};
-use crate::{Pushed, Store};
-use log_batch::item::{KeyValue, LogItem, LogItemContent, Value, bytes_of, entries_of};
+use log_batch::item::{KeyValue, LogItem, LogItemContent, bytes_of, entries_of};
 use log_batch::open::ITEM_WIDTH;
 use pipe_log::ENTRY_WIDTH;
 
@@ -18,14 +20,15 @@ fn copy_key(bytes: &mut [u8], at: usize, kv: KeyValue, its_bytes: &[u8])
     requires key_len_bound { (kv.key_len ≤ 32) × ValueShort kv.value }
     ensures { bytes.new ≡ put bytes.old at (key_bytes kv its_bytes.now) }
 {
-    let key_at = kv.key_at;
-    let key_len = kv.key_len;
-    cells::copy_in_u8(bytes, at, bytes_of(its_bytes, key_at, key_len));
-    let value = kv.value;
-    let Value::At { at: from, len } = value else {
+    cells::copy_in(bytes, at, bytes_of(its_bytes, kv.key_at, kv.key_len));
+    let Some(value) = kv.value else {
         return;
     };
-    cells::copy_in_u8(bytes, at + key_len, bytes_of(its_bytes, from, len));
+    cells::copy_in(
+        bytes,
+        at + kv.key_len,
+        bytes_of(its_bytes, value.at, value.len),
+    );
 }
 
 // Copies an item's bytes, if it has any, to place `at`.
@@ -36,8 +39,7 @@ pub fn copy_bytes(bytes: &mut [u8], at: usize, content: LogItemContent, its_byte
     ensures { bytes.new ≡ put bytes.old at (bytes_of content its_bytes.now) }
 {
     match content {
-        LogItemContent::EntryIndexes(list) => (),
-        LogItemContent::Command(command) => (),
+        LogItemContent::EntryIndexes(_) | LogItemContent::Command(_) => {}
         LogItemContent::Kv(kv) => copy_key(bytes, at, kv, its_bytes),
     }
 }
@@ -56,17 +58,11 @@ pub fn copy_rows(
 {
     match content {
         LogItemContent::EntryIndexes(list) => {
-            let at = list.at;
-            let count = list.count;
-            cells::copy_in_u64(
-                entries,
-                row * ENTRY_WIDTH,
-                entries_of(its_entries, at, count),
-            );
-            row + count
+            let its = entries_of(its_entries, list.at, list.count);
+            cells::copy_in(entries, row * ENTRY_WIDTH, its);
+            row + list.count
         }
-        LogItemContent::Command(command) => row,
-        LogItemContent::Kv(kv) => row,
+        LogItemContent::Command(_) | LogItemContent::Kv(_) => row,
     }
 }
 
@@ -76,8 +72,7 @@ pub fn count_of(content: LogItemContent) -> usize
 {
     match content {
         LogItemContent::EntryIndexes(list) => list.count,
-        LogItemContent::Command(command) => 0,
-        LogItemContent::Kv(kv) => 0,
+        LogItemContent::Command(_) | LogItemContent::Kv(_) => 0,
     }
 }
 
@@ -86,15 +81,7 @@ fn has_room(store: Store, content: LogItemContent, items: usize, entries: usize)
     requires { store.entries * 8 ≤ entries }
     ensures { result ≡ has_room (count_of content) store items entries }
 {
-    if items / ITEM_WIDTH <= store.items {
-        return false;
-    }
-    let left = entries / ENTRY_WIDTH - store.entries;
-    let count = count_of(content);
-    if left < count {
-        return false;
-    }
-    true
+    store.items < items / ITEM_WIDTH && count_of(content) <= entries / ENTRY_WIDTH - store.entries
 }
 
 // Copies an item behind the others of a store that has room for it.
@@ -112,14 +99,11 @@ pub fn add(
     requires entries_value { has_room (count_of item.content) store (length items.old) (length entries.old) ≡ true }
     ensures { Added store (area items.old entries.old bytes.old) (item_of item its_entries.now its_bytes.now) result (area items.new entries.new bytes.new) }
 {
-    let n = store.items;
-    let row = store.entries;
-    let content = item.content;
-    write_row(items, n, item, row);
-    let end = copy_rows(entries, row, content, its_entries);
-    copy_bytes(bytes, n * ITEM_BYTES, content, its_bytes);
+    write_row(items, store.items, item, store.entries);
+    let end = copy_rows(entries, store.entries, item.content, its_entries);
+    copy_bytes(bytes, store.items * ITEM_BYTES, item.content, its_bytes);
     Store {
-        items: n + 1,
+        items: store.items + 1,
         entries: end,
     }
 }
@@ -133,14 +117,13 @@ pub fn push(
     item: LogItem,
     its_entries: &[u64],
     its_bytes: &[u8],
-) -> Pushed
+) -> Option<Store>
     requires stored { Stored store (area items.old entries.old bytes.old) }
     requires lent { Lent item (length its_entries.now) (length its_bytes.now) }
     ensures { Pushing store (area items.old entries.old bytes.old) (item_of item its_entries.now its_bytes.now) result (area items.new entries.new bytes.new) }
 {
-    let content = item.content;
-    if !has_room(store, content, items.len(), entries.len()) {
-        return Pushed::NoRoom;
+    if !has_room(store, item.content, items.len(), entries.len()) {
+        return None;
     }
-    Pushed::Done(add(store, items, entries, bytes, item, its_entries, its_bytes))
+    Some(add(store, items, entries, bytes, item, its_entries, its_bytes))
 }

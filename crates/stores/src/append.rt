@@ -45,10 +45,8 @@ pub fn add_all(
     requires from_in_bounds { (store.items + from.items ≤ length items.old / 9) × (store.entries + from.entries ≤ length entries.old / 8) }
     ensures { AddedAll store (area items.old entries.old bytes.old) (store_items from (area its_items.now its_entries.now its_bytes.now)) result (area items.new entries.new bytes.new) }
 {
-    let n = from.items;
     let mut all = store;
-    let mut j = 0;
-    while j < n {
+    for j in 0..from.items {
         all = add_item(
             all,
             items,
@@ -60,7 +58,6 @@ pub fn add_all(
             its_bytes,
             j,
         );
-        j += 1;
     }
     all
 }

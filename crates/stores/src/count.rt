@@ -1,4 +1,6 @@
 // Counting the items of one tag, and their entries.
+#![tactic(auto, unfolding(crate::specs::Stores::row_entries, crate::specs::Tags::count_one, crate::specs::Tags::count_tag))]
+
 ghost use Rattle.std.specs.Prelude.{◌≡◌, ◌+◌, ◌*◌, ◌≤◌, ◌<◌, ◌^◌, length, drop};
 ghost use Rattle.stores.specs.Stores.{row_entries, entries_before};
 ghost use Rattle.stores.specs.Tags.{count_one, count_tag};
@@ -12,11 +14,11 @@ fn row_entries(items: &[u64], j: usize) -> usize
     ensures { result ≡ row_entries (drop (j * 9) items.now) }
 {
     let at = j * ITEM_WIDTH;
-    let told = items[at + 1];
-    if told == LIST {
-        return items[at + 3] as usize;
+    if items[at + 1] == LIST {
+        items[at + 3] as usize
+    } else {
+        0
     }
-    0
 }
 
 // Counts row `j` if it has the tag.
@@ -25,15 +27,13 @@ fn count_row(count: Store, items: &[u64], tags: &[u64], j: usize, tag: u64) -> S
     requires count_le_j { (count.items ≤ j) × (count.entries + row_entries (drop (j * 9) items.now) < 2 ^ 64) }
     ensures { result ≡ count_one tag j items.now tags.now count }
 {
-    let its = tags[j];
-    if its == tag {
-        let more = row_entries(items, j);
-        return Store {
-            items: count.items + 1,
-            entries: count.entries + more,
-        };
+    if tags[j] != tag {
+        return count;
     }
-    count
+    Store {
+        items: count.items + 1,
+        entries: count.entries + row_entries(items, j),
+    }
 }
 
 // The counts of a store's items that have a tag.
@@ -42,15 +42,12 @@ pub fn count_tag(store: Store, items: &[u64], tags: &[u64], tag: u64) -> Store
     requires value { entries_before store.items items.now ≡ store.entries }
     ensures { result ≡ count_tag tag store.items items.now tags.now }
 {
-    let n = store.items;
     let mut count = Store {
         items: 0,
         entries: 0,
     };
-    let mut j = 0;
-    while j < n {
+    for j in 0..store.items {
         count = count_row(count, items, tags, j, tag);
-        j += 1;
     }
     count
 }

@@ -16,10 +16,3 @@ pub struct Store {
     pub items: usize,
     pub entries: usize,
 }
-
-// The answer of a push.
-#[derive(Clone, Copy)]
-pub enum Pushed {
-    Done(Store),
-    NoRoom,
-}

@@ -5,11 +5,11 @@ ghost use Rattle.stores.specs.Written.{Lent};
 ghost use Rattle.stores.specs.Stores.{area, Stored};
 ghost use Rattle.stores.specs.Tags.{PushingTagged, Movable, Moved, Keeping, TakenOut};
 
+use crate::Store;
 use crate::add::push;
 use crate::shift::put_down;
-use crate::{Pushed, Store};
 use log_batch::item::LogItem;
-use log_batch::open::{Opened, open_item};
+use log_batch::open::open_item;
 
 // Pushes an item with its tag.
 pub fn push_tagged(
@@ -22,19 +22,15 @@ pub fn push_tagged(
     item: LogItem,
     its_entries: &[u64],
     its_bytes: &[u8],
-) -> Pushed
+) -> Option<Store>
     requires stored { Stored store (area items.old entries.old bytes.old) }
     requires lent { Lent item (length its_entries.now) (length its_bytes.now) }
     requires in_bounds { length items.old / 9 ≤ length tags.old }
     ensures { PushingTagged store (area items.old entries.old bytes.old) tags.old tag (item_of item its_entries.now its_bytes.now) result (area items.new entries.new bytes.new) tags.new }
 {
-    let at = store.items;
-    let pushed = push(store, items, entries, bytes, item, its_entries, its_bytes);
-    let Pushed::Done(all) = pushed else {
-        return Pushed::NoRoom;
-    };
-    tags[at] = tag;
-    Pushed::Done(all)
+    let all = push(store, items, entries, bytes, item, its_entries, its_bytes)?;
+    tags[store.items] = tag;
+    Some(all)
 }
 
 // Adds item `j` of the parts behind the items that are left.
@@ -49,8 +45,8 @@ fn keep_item(
     requires movable { Movable left j (area items.old entries.old bytes.old) }
     ensures { Moved left (area items.old entries.old bytes.old) j result (area items.new entries.new bytes.new) }
 {
-    let Opened::Item(item) = open_item(items, entries, bytes, j) else {
-        return left;
+    let Ok(item) = open_item(items, entries, bytes, j) else {
+        unreachable!()
     };
     put_down(left, items, entries, bytes, item)
 }
@@ -74,8 +70,7 @@ fn keep_other(
     if its == tag {
         return left;
     }
-    let at = left.items;
-    tags[at] = its;
+    tags[left.items] = its;
     keep_item(left, items, entries, bytes, j)
 }
 
@@ -92,15 +87,12 @@ pub fn take_out(
     requires store_in_bounds { store.items ≤ length tags.old }
     ensures { TakenOut store (area items.old entries.old bytes.old) tags.old tag result (area items.new entries.new bytes.new) tags.new }
 {
-    let n = store.items;
     let mut left = Store {
         items: 0,
         entries: 0,
     };
-    let mut j = 0;
-    while j < n {
+    for j in 0..store.items {
         left = keep_other(left, items, entries, bytes, tags, j, tag);
-        j += 1;
     }
     left
 }

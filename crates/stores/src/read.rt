@@ -3,8 +3,8 @@ ghost use Rattle.std.specs.Prelude.{◌<◌};
 ghost use Rattle.stores.specs.Stores.{area, Stored, ItemAt};
 
 use crate::Store;
-use log_batch::item::{Command, LogItem, LogItemContent};
-use log_batch::open::{Opened, open_item};
+use log_batch::item::LogItem;
+use log_batch::open::open_item;
 
 // Opens item `j`. Every row of a store opens.
 pub fn item_at(store: Store, items: &[u64], entries: &[u64], bytes: &[u8], j: usize) -> LogItem
@@ -12,12 +12,8 @@ pub fn item_at(store: Store, items: &[u64], entries: &[u64], bytes: &[u8], j: us
     requires j_lt_store { j < store.items }
     ensures { ItemAt store (area items.now entries.now bytes.now) j result }
 {
-    let Opened::Item(item) = open_item(items, entries, bytes, j) else {
-        let content = LogItemContent::Command(Command::Clean);
-        return LogItem {
-            raft_group_id: 0,
-            content,
-        };
+    let Ok(item) = open_item(items, entries, bytes, j) else {
+        unreachable!()
     };
     item
 }

@@ -1,4 +1,6 @@
 // Adding an item of a store's own parts behind fewer items: it moves down, over what is no longer in use.
+#![tactic(auto, unfolding(crate::specs::Written::bytes_of, crate::specs::Written::rows_of))]
+
 ghost use Rattle.std.specs.Prelude.{true, ◌≡◌, ◌+◌, ◌*◌, ◌≤◌, length};
 ghost use Rattle.cells.specs.Part.{put};
 ghost use Rattle.log_batch.specs.Lent.{item_of, ValueWithin, BytesWithin, RowsWithin};
@@ -7,7 +9,7 @@ ghost use Rattle.stores.specs.Stores.{area, Stored, has_room, Added};
 
 use crate::Store;
 use crate::row::{ITEM_BYTES, write_row};
-use log_batch::item::{KeyValue, LogItem, LogItemContent, Value};
+use log_batch::item::{KeyValue, LogItem, LogItemContent};
 use pipe_log::ENTRY_WIDTH;
 
 // Moves a key, and its value behind it, down to place `to`.
@@ -16,14 +18,11 @@ fn move_key(bytes: &mut [u8], to: usize, kv: KeyValue)
     requires to_bound { (to ≤ kv.key_at) × ValueBehind kv.value (to + kv.key_len) }
     ensures { bytes.new ≡ put bytes.old to (key_bytes kv bytes.old) }
 {
-    let key_at = kv.key_at;
-    let key_len = kv.key_len;
-    cells::shift_down_u8(bytes, key_at, to, key_len);
-    let value = kv.value;
-    let Value::At { at, len } = value else {
+    cells::shift(bytes, kv.key_at, to, kv.key_len);
+    let Some(value) = kv.value else {
         return;
     };
-    cells::shift_down_u8(bytes, at, to + key_len, len);
+    cells::shift(bytes, value.at, to + kv.key_len, value.len);
 }
 
 // Moves an item's bytes, if it has any, down to place `to`.
@@ -33,8 +32,7 @@ pub fn move_bytes(bytes: &mut [u8], to: usize, content: LogItemContent)
     ensures { bytes.new ≡ put bytes.old to (bytes_of content bytes.old) }
 {
     match content {
-        LogItemContent::EntryIndexes(list) => (),
-        LogItemContent::Command(command) => (),
+        LogItemContent::EntryIndexes(_) | LogItemContent::Command(_) => {}
         LogItemContent::Kv(kv) => move_key(bytes, to, kv),
     }
 }
@@ -49,18 +47,15 @@ pub fn move_rows(entries: &mut [u64], row: usize, content: LogItemContent) -> us
 {
     match content {
         LogItemContent::EntryIndexes(list) => {
-            let at = list.at;
-            let count = list.count;
-            cells::shift_down_u64(
+            cells::shift(
                 entries,
-                at * ENTRY_WIDTH,
+                list.at * ENTRY_WIDTH,
                 row * ENTRY_WIDTH,
-                count * ENTRY_WIDTH,
+                list.count * ENTRY_WIDTH,
             );
-            row + count
+            row + list.count
         }
-        LogItemContent::Command(command) => row,
-        LogItemContent::Kv(kv) => row,
+        LogItemContent::Command(_) | LogItemContent::Kv(_) => row,
     }
 }
 
@@ -78,14 +73,11 @@ pub fn put_down(
     requires behind { Behind item.content store.entries (store.items * 64) }
     ensures { Added store (area items.old entries.old bytes.old) (item_of item entries.old bytes.old) result (area items.new entries.new bytes.new) }
 {
-    let n = store.items;
-    let row = store.entries;
-    let content = item.content;
-    write_row(items, n, item, row);
-    let end = move_rows(entries, row, content);
-    move_bytes(bytes, n * ITEM_BYTES, content);
+    write_row(items, store.items, item, store.entries);
+    let end = move_rows(entries, store.entries, item.content);
+    move_bytes(bytes, store.items * ITEM_BYTES, item.content);
     Store {
-        items: n + 1,
+        items: store.items + 1,
         entries: end,
     }
 }

@@ -1,7 +1,7 @@
 -- Each way through the changes of a group's entries. The part of the stretch was lent and came back as ys. Assumes nothing.
 use mathlib.Core.Bool.{true}
 use mathlib.Core.List.{List}
-use mathlib.Core.Option.{Option}
+use Rattle.std.specs.Prelude.{Option}
 use mathlib.Core.Path.{◌≡◌, refl, ap, ◌∙◌}
 use Prim.Native.Nat.{ℕ, ◌-◌, ◌/◌, ◌≤◌}
 use native.Mathlib.Omega.{arith}
@@ -11,15 +11,11 @@ use borrow.Rule.Slice.PartMut.{put_mid}
 use Rattle.cells.specs.PartLaws.{length-put, put-part, loan-put}
 use Rattle.maps.specs.Lists.{every}
 use Rattle.pipe_log.specs.Rows.{window}
-use Rattle.rules.specs.Causes.{Result, ok}
+use Rattle.rules.specs.Causes.{ByCause, Err, Result, Ok}
 use Rattle.rules.specs.Items.{is_rewrite}
 use Rattle.rules.specs.Table.{Table, rewritten, compacted}
 use Rattle.kvs.specs.Rows.{keys_in}
 use Rattle.memtable.specs.declared.Head.{Head}
-use Rattle.memtable.specs.declared.Appended.{Appended}
-use Rattle.memtable.specs.declared.Appended.TheVariants as appended
-use Rattle.memtable.specs.declared.Rewritten.{Rewritten}
-use Rattle.memtable.specs.declared.Rewritten.TheVariants as answer
 use Rattle.memtable.specs.declared.Compacted.{Compacted}
 use Rattle.memtable.specs.Appends.{appended_of, fitting, Laying}
 use Rattle.memtable.specs.Compaction.{Compaction}
@@ -27,11 +23,9 @@ use Rattle.memtable.specs.Rewrites.{rewritten_of, Rewriting}
 use Rattle.memtable.specs.Views.{table_of}
 use Rattle.memtable.specs.Views as memtable
 use Rattle.memtable.specs.SameLaws.{all-rewritten}
-use Rattle.stretch.specs.declared.Outcome.{Outcome}
-use Rattle.stretch.specs.declared.Outcome.TheVariants.{Done}
 use Rattle.stretch.specs.Stretch.{head_part, key_count, is_counted, head_numbers, entry_rows_at, key_rows_at, table_at, WfAt}
 use Rattle.stretch.specs.StretchLaws.{Holds, own, length-entries, length-head, with_entries_lem, with-head, table_of_lem, wf_of, front-put}
-use Rattle.stretch.specs.Changes.{ChangedAt, laid_outcome, laid_numbers, moved_outcome, moved_numbers}
+use Rattle.stretch.specs.Changes.{ChangedAt, laid_outcome, laid_numbers}
 use Rattle.stretch.proofs.Outcomes.{Kept, done_by, done-fitting, refused_by, refused-fitting}
 
 -- rows that came back as they were
@@ -87,47 +81,43 @@ module _ (w : ℕ) (p ys b : List ℕ) (o : WfAt w p b) (k : length ys ≡ lengt
   as_before e = after-loan ∙ entries_back w p ys o.numbers.from o.numbers.to e
 
 -- rows laid over by a rule
-module _ (w : ℕ) (by : Table → Result Table) (p ys rows : List ℕ) (k : length ys ≡ length (entry_rows_at w p)) (r : Outcome) (p' b : List ℕ) (o : WfAt w p b) where
-  laid_by_lem : (a : Appended) → appended_of a ys (keys_in (key_count p) (key_rows_at w p) b) (is_counted p) ≡ fitting (length (entry_rows_at w p) / 8) (by (table_at w p b)) → Laying by (head_part p) (entry_rows_at w p) rows a ys
+module _ (w : ℕ) (by : Table → Result Table) (p ys rows : List ℕ) (k : length ys ≡ length (entry_rows_at w p)) (r : ByCause (Unit {0})) (p' b : List ℕ) (o : WfAt w p b) where
+  laid_by_lem : (a : ByCause Head) → appended_of a ys (keys_in (key_count p) (key_rows_at w p) b) (is_counted p) ≡ fitting (length (entry_rows_at w p) / 8) (by (table_at w p b)) → Laying by (head_part p) (entry_rows_at w p) rows a ys
       → r ≡ laid_outcome a → p' ≡ laid_numbers a (put_mid 10 (w - 10) p ys) → ChangedAt w by p b r p' b
-  laid_by_lem (appended.Done g) x t e f =
+  laid_by_lem (Ok g) x t e f =
       rw (e, f, after-loan w p ys b o k)
-      (done-fitting w by p b o (with_both p ys g) b (kept-both w p ys b o k g) (wf-both w p ys b o k g t.wf) (front-both w p ys b o k g) (ap ok (table-both w p ys b o k g) ∙ x))
-  laid_by_lem appended.BelowFirst x t e f = rw (e, f ∙ as_before w p ys b o k t.laid) (refused-fitting w by p b o 13 x)
-  laid_by_lem appended.AboveLast x t e f = rw (e, f ∙ as_before w p ys b o k t.laid) (refused-fitting w by p b o 14 x)
-  laid_by_lem appended.Full x t e f = rw (e, f ∙ as_before w p ys b o k t.laid) (refused-fitting w by p b o 18 x)
+      (done-fitting w by p b o (with_both p ys g) b (kept-both w p ys b o k g) (wf-both w p ys b o k g t.wf) (front-both w p ys b o k g) (ap Ok (table-both w p ys b o k g) ∙ x))
+  laid_by_lem (Err n) x t e f = rw (e, f ∙ as_before w p ys b o k t.laid) (refused-fitting w by p b o n x)
 
-  pub laying : (a : Appended) → Laying by (head_part p) (entry_rows_at w p) rows a ys → r ≡ laid_outcome a → p' ≡ laid_numbers a (put_mid 10 (w - 10) p ys) → ChangedAt w by p b r p' b
+  pub laying : (a : ByCause Head) → Laying by (head_part p) (entry_rows_at w p) rows a ys → r ≡ laid_outcome a → p' ≡ laid_numbers a (put_mid 10 (w - 10) p ys) → ChangedAt w by p b r p' b
   unfolding table_at
   laying a t e f = laid_by_lem a (t.rule (keys_in (key_count p) (key_rows_at w p) b) (is_counted p)) t e f
 
 -- entries rewritten
-module _ (w : ℕ) (gate : Option ℕ) (s : ℕ) (p ys rows : List ℕ) (k : length ys ≡ length (entry_rows_at w p)) (r : Outcome) (p' b : List ℕ) (o : WfAt w p b) where
-  moved_by : (a : Rewritten) → rewritten_of a ys (keys_in (key_count p) (key_rows_at w p) b) (is_counted p) ≡ rewritten gate (window s (length rows / 8) rows) (table_at w p b)
-      → Rewriting gate (head_part p) (entry_rows_at w p) s rows a ys → r ≡ moved_outcome a → p' ≡ moved_numbers a (put_mid 10 (w - 10) p ys)
+module _ (w : ℕ) (gate : Option ℕ) (s : ℕ) (p ys rows : List ℕ) (k : length ys ≡ length (entry_rows_at w p)) (r : ByCause (Unit {0})) (p' b : List ℕ) (o : WfAt w p b) where
+  moved_by : (a : ByCause Head) → rewritten_of a ys (keys_in (key_count p) (key_rows_at w p) b) (is_counted p) ≡ rewritten gate (window s (length rows / 8) rows) (table_at w p b)
+      → Rewriting gate (head_part p) (entry_rows_at w p) s rows a ys → r ≡ laid_outcome a → p' ≡ laid_numbers a (put_mid 10 (w - 10) p ys)
       → ChangedAt w (rewritten gate (window s (length rows / 8) rows)) p b r p' b
-  moved_by (answer.Done g) x t e f =
+  moved_by (Ok g) x t e f =
       rw (e, f, after-loan w p ys b o k)
       (done_by w (rewritten gate (window s (length rows / 8) rows)) p b o (with_both p ys g) b (kept-both w p ys b o k g) (wf-both w p ys b o k g t.wf) (front-both w p ys b o k g)
-      (ap ok (table-both w p ys b o k g) ∙ x))
-  moved_by answer.AppendLeft x t e f =
-      rw (e, f ∙ as_before w p ys b o k t.laid) (refused_by w (rewritten gate (window s (length rows / 8) rows)) p b o 15 x)
-  moved_by answer.AlreadyRewritten x t e f =
-      rw (e, f ∙ as_before w p ys b o k t.laid) (refused_by w (rewritten gate (window s (length rows / 8) rows)) p b o 16 x)
+      (ap Ok (table-both w p ys b o k g) ∙ x))
+  moved_by (Err n) x t e f =
+      rw (e, f ∙ as_before w p ys b o k t.laid) (refused_by w (rewritten gate (window s (length rows / 8) rows)) p b o n x)
 
-  pub moving : (a : Rewritten) → Rewriting gate (head_part p) (entry_rows_at w p) s rows a ys → r ≡ moved_outcome a → p' ≡ moved_numbers a (put_mid 10 (w - 10) p ys)
+  pub moving : (a : ByCause Head) → Rewriting gate (head_part p) (entry_rows_at w p) s rows a ys → r ≡ laid_outcome a → p' ≡ laid_numbers a (put_mid 10 (w - 10) p ys)
       → ChangedAt w (rewritten gate (window s (length rows / 8) rows)) p b r p' b
   unfolding table_at
   moving a t e f = moved_by a (t.rule (keys_in (key_count p) (key_rows_at w p) b) (is_counted p)) t e f
 
 -- entries dropped
 pub compacting : (w i : ℕ) (p ys : List ℕ) → length ys ≡ length (entry_rows_at w p) → (a : Compacted) (p' b : List ℕ) → WfAt w p b → Compaction (head_part p) (entry_rows_at w p) i a ys
-    → p' ≡ put (put_mid 10 (w - 10) p ys) 2 (head_numbers a.head) → ChangedAt w (λ t. ok (compacted i t)) p b Done p' b
+    → p' ≡ put (put_mid 10 (w - 10) p ys) 2 (head_numbers a.head) → ChangedAt w (λ t. Ok (compacted i t)) p b (Ok tt) p' b
 unfolding table_at
 compacting w i p ys k a p' b o t f =
     rw (f, after-loan w p ys b o k)
-    (done_by w (λ t. ok (compacted i t)) p b o (with_both p ys a.head) b (kept-both w p ys b o k a.head) (wf-both w p ys b o k a.head t.wf) (front-both w p ys b o k a.head)
-    (ap ok (table-both w p ys b o k a.head ∙ t.rule (keys_in (key_count p) (key_rows_at w p) b) (is_counted p))))
+    (done_by w (λ t. Ok (compacted i t)) p b o (with_both p ys a.head) b (kept-both w p ys b o k a.head) (wf-both w p ys b o k a.head t.wf) (front-both w p ys b o k a.head)
+    (ap Ok (table-both w p ys b o k a.head ∙ t.rule (keys_in (key_count p) (key_rows_at w p) b) (is_counted p))))
 
 -- where all entries are Rewrite ones, the head counts them all
 pub only-rewrites : (w : ℕ) (p b : List ℕ) → WfAt w p b → every is_rewrite (table_at w p b).entries ≡ true → (head_part p).len ≤ (head_part p).rewrite_count

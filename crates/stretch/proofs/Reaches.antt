@@ -1,7 +1,7 @@
 -- What each change leaves as it was, from what the tables' functions say of the rows at exit. Assumes nothing.
 use mathlib.Core.Bool.{Bool, true, false}
 use mathlib.Core.List.{List, [], ◌∷◌, ◌++◌}
-use mathlib.Core.Option.{Option}
+use Rattle.std.specs.Prelude.{Option}
 use mathlib.Core.Path.{◌≡◌, refl, sym, ap, ◌∙◌}
 use Prim.Native.Nat.{ℕ, suc, ◌+◌, ◌-◌, ◌*◌, ◌/◌, ◌≤◌, ◌<◌, min}
 use native.Mathlib.Decide.{dec_lt}
@@ -18,14 +18,10 @@ use Rattle.maps.specs.Lists.{front}
 use Rattle.maps.specs.Maps.{Map}
 use Rattle.maps.specs.OrderLaws.{split}
 use Rattle.pipe_log.specs.Rows.{window, with_index}
-use Rattle.rules.specs.Causes.{Result, ok, and_then}
+use Rattle.rules.specs.Causes.{ByCause, Err, Result, Ok, and_then}
 use Rattle.rules.specs.Items.{EntryIndex}
 use Rattle.rules.specs.Table.{Held, Table, with_entries, entries_from, over, over_gap, appended, replayed_rewrite}
 use Rattle.memtable.specs.declared.Head.{Head}
-use Rattle.memtable.specs.declared.Appended.{Appended}
-use Rattle.memtable.specs.declared.Appended.TheVariants as laid
-use Rattle.memtable.specs.declared.Rewritten.{Rewritten}
-use Rattle.memtable.specs.declared.Rewritten.TheVariants as moved
 use Rattle.memtable.specs.Appends.{Lent, fitting, Laying}
 use Rattle.memtable.specs.Rewrites.{moved, replaced_part, Rewriting}
 use Rattle.memtable.specs.Views.{table_of}
@@ -33,7 +29,7 @@ use Rattle.memtable.specs.Views as memtable
 use Rattle.memtable.specs.WindowLaws.{length-window, below-window, from-window, is_below_first-window, is_above_last-window}
 use Rattle.stretch.specs.Stretch.{head_part, head_numbers, entry_rows_at, key_rows_at, NumbersAt}
 use Rattle.stretch.specs.StretchLaws.{length-entries, length-keys, length-head, keys-after}
-use Rattle.stretch.specs.Changes.{laid_numbers, moved_numbers}
+use Rattle.stretch.specs.Changes.{laid_numbers}
 use Rattle.stretch.specs.Reach.{kept_before, LeavesRows, LeavesAt}
 
 -- ---- rows laid over
@@ -42,14 +38,14 @@ use Rattle.stretch.specs.Reach.{kept_before, LeavesRows, LeavesAt}
 abbrev pub Keeps : (Table → Result Table) → Head → List ℕ → ℕ → List ℕ → Type 0
 Keeps by h xs s rows =
     (keys : Map (List ℕ) Held) (counted : Bool) → h.first_index < s → s ≤ h.first_index + h.len → 0 < length rows / 8
-    → by (table_of h xs keys counted) ≡ ok (with_entries (window h.first_index (s - h.first_index) xs ++ window s (length rows / 8) rows) (table_of h xs keys counted))
+    → by (table_of h xs keys counted) ≡ Ok (with_entries (window h.first_index (s - h.first_index) xs ++ window s (length rows / 8) rows) (table_of h xs keys counted))
 
 module _ (h : Head) (xs : List ℕ) (s m : ℕ) (rows : List ℕ) (keys : Map (List ℕ) Held) (counted : Bool) (a : h.first_index < s) (b : s ≤ h.first_index + h.len) where
   within : min (s - h.first_index) h.len ≡ s - h.first_index
   within = omega arith
 
   kept_append : (live : Bool) → appended live (window s (suc m) rows) (table_of h xs keys counted)
-      ≡ ok (with_entries (window h.first_index (s - h.first_index) xs ++ window s (suc m) rows) (table_of h xs keys counted))
+      ≡ Ok (with_entries (window h.first_index (s - h.first_index) xs ++ window s (suc m) rows) (table_of h xs keys counted))
   unfolding appended with_entries table_of window with_index over
   kept_append live =
       rw (
@@ -78,22 +74,22 @@ append-keeps live h xs s rows keys counted a b n =
     let e : length rows / 8 ≡ suc (length rows / 8 - 1) = omega arith in
     rw e (kept_append h xs s (length rows / 8 - 1) rows keys counted a b live)
 
-pub replay-keeps : (h : Head) (xs : List ℕ) (s : ℕ) (rows : List ℕ) → Keeps (λ t. ok (replayed_rewrite (window s (length rows / 8) rows) t)) h xs s rows
+pub replay-keeps : (h : Head) (xs : List ℕ) (s : ℕ) (rows : List ℕ) → Keeps (λ t. Ok (replayed_rewrite (window s (length rows / 8) rows) t)) h xs s rows
 replay-keeps h xs s rows keys counted a b n =
     let e : length rows / 8 ≡ suc (length rows / 8 - 1) = omega arith in
-    rw e (ap ok (kept-replay h xs s (length rows / 8 - 1) rows keys counted a b))
+    rw e (ap Ok (kept-replay h xs s (length rows / 8 - 1) rows keys counted a b))
 
 -- the table that was accepted within the room
-accepted_len : (room : ℕ) (t u : Table) → ok t ≡ fitting room (ok u) → length t.entries ≡ length u.entries
+accepted_len : (room : ℕ) (t u : Table) → Ok t ≡ fitting room (Ok u) → length t.entries ≡ length u.entries
 unfolding fitting and_then
 accepted_len room t u e =
     split (leb (length u.entries) room)
-    (λ f. let d : t ≡ u = (let g : ok t ≡ ok u = rw f at e in cc) in ap (λ (x : Table). length x.entries) d)
+    (λ f. let d : t ≡ u = (let g : Ok t ≡ Ok u = rw f at e in cc) in ap (λ (x : Table). length x.entries) d)
     (λ f. let z : ◌≡◌ {A = ℕ} 0 1 = (let g = rw f at e in cc) in absurd (omega arith))
 
 module _ (by : Table → Result Table) (h : Head) (xs : List ℕ) (s : ℕ) (rows ys : List ℕ) (w : memtable.Wf h xs) (whole : length rows / 8 * 8 ≡ length rows) (keeps : Keeps by h xs s rows) where
   -- the rows stand behind the entries that stay
-  laid-length : (g : Head) → Laying by h xs rows (laid.Done g) ys → h.first_index < s → s ≤ h.first_index + h.len → 0 < length rows / 8 → g.len ≡ s - h.first_index + length rows / 8
+  laid-length : (g : Head) → Laying by h xs rows (Ok g) ys → h.first_index < s → s ≤ h.first_index + h.len → 0 < length rows / 8 → g.len ≡ s - h.first_index + length rows / 8
   unfolding table_of with_entries
   laid-length g t a b n =
       let e = t.rule [] true ∙ ap (fitting (length xs / 8)) (keeps [] true a b n) in
@@ -106,7 +102,7 @@ module _ (by : Table → Result Table) (h : Head) (xs : List ℕ) (s : ℕ) (row
   no_rows [] e = refl
   no_rows (x ∷ l) e = absurd (omega arith)
 
-  done_below : (g : Head) → Laying by h xs rows (laid.Done g) ys → s ≤ h.first_index + h.len → take ((s - h.first_index) * 8) ys ≡ take ((s - h.first_index) * 8) xs
+  done_below : (g : Head) → Laying by h xs rows (Ok g) ys → s ≤ h.first_index + h.len → take ((s - h.first_index) * 8) ys ≡ take ((s - h.first_index) * 8) xs
   done_below g t b =
       elim (dec_lt h.first_index s) [
         | yes a ↦
@@ -120,15 +116,13 @@ module _ (by : Table → Result Table) (h : Head) (xs : List ℕ) (s : ℕ) (row
         | no a ↦ (let z : (s - h.first_index) * 8 ≡ 0 = omega arith in rw z)
       ]
 
-  pub laid_below : (a : Appended) → Laying by h xs rows a ys → take (kept_before h s * 8) ys ≡ take (kept_before h s * 8) xs
+  pub laid_below : (a : ByCause Head) → Laying by h xs rows a ys → take (kept_before h s * 8) ys ≡ take (kept_before h s * 8) xs
   unfolding kept_before
-  laid_below (laid.Done g) t =
+  laid_below (Ok g) t =
       split (leb s (h.first_index + h.len))
       (λ e. rw e (done_below g t (leb-true s (h.first_index + h.len) e)))
       (λ e. rw e)
-  laid_below laid.BelowFirst t = rw t.laid
-  laid_below laid.AboveLast t = rw t.laid
-  laid_below laid.Full t = rw t.laid
+  laid_below (Err e) t = rw t.laid
 
 -- ---- entries rewritten
 
@@ -151,10 +145,9 @@ module _ (gate : Option ℕ) (h : Head) (xs : List ℕ) (s : ℕ) (rows ys : Lis
         | no l ↦ rw (none_from h xs s (omega arith), moved_none gate (entries_from h.first_index (window s (length rows / 8) rows)), part_none ((h.first_index - s) * 8) rows, put-nil xs ((s - h.first_index) * 8))
       ]
 
-  pub moved_below : (a : Rewritten) → Rewriting gate h xs s rows a ys → take ((s - h.first_index) * 8) ys ≡ take ((s - h.first_index) * 8) xs
-  moved_below (moved.Done g) t = rw t.laid replaced_below
-  moved_below moved.AppendLeft t = rw t.laid
-  moved_below moved.AlreadyRewritten t = rw t.laid
+  pub moved_below : (a : ByCause Head) → Rewriting gate h xs s rows a ys → take ((s - h.first_index) * 8) ys ≡ take ((s - h.first_index) * 8) xs
+  moved_below (Ok g) t = rw t.laid replaced_below
+  moved_below (Err e) t = rw t.laid
 
 -- ---- the stretch after the loan of its rows of entries
 
@@ -196,29 +189,26 @@ module _ (w n : ℕ) (p ys : List ℕ) (f : 10 ≤ w) (t : w ≤ length p) (k : 
         keys = head-keys w (put_mid 10 (w - 10) p ys) g f m ∙ loan-keys w p ys f t k;
       }
 
-  leaves-laid : (a : Appended) → LeavesRows w n p (laid_numbers a (put_mid 10 (w - 10) p ys))
-  leaves-laid (laid.Done g) = leaves-head g
-  leaves-laid laid.BelowFirst = leaves-loan
-  leaves-laid laid.AboveLast = leaves-loan
-  leaves-laid laid.Full = leaves-loan
+  leaves-laid : (a : ByCause Head) → LeavesRows w n p (laid_numbers a (put_mid 10 (w - 10) p ys))
+  leaves-laid (Ok g) = leaves-head g
+  leaves-laid (Err e) = leaves-loan
 
-  leaves-moved : (a : Rewritten) → LeavesRows w n p (moved_numbers a (put_mid 10 (w - 10) p ys))
-  leaves-moved (moved.Done g) = leaves-head g
-  leaves-moved moved.AppendLeft = leaves-loan
-  leaves-moved moved.AlreadyRewritten = leaves-loan
+  leaves-moved : (a : ByCause Head) → LeavesRows w n p (laid_numbers a (put_mid 10 (w - 10) p ys))
+  leaves-moved (Ok g) = leaves-head g
+  leaves-moved (Err e) = leaves-loan
 
 -- ---- each way
 
 module _ (w : ℕ) (p ys : List ℕ) (o : NumbersAt w p) (k : length ys ≡ length (entry_rows_at w p)) (p' : List ℕ) where
-  pub laying-leaves : (by : Table → Result Table) (q s : ℕ) (rows : List ℕ) → Lent q s rows → Keeps by (head_part p) (entry_rows_at w p) s rows → (a : Appended) → Laying by (head_part p) (entry_rows_at w p) rows a ys
+  pub laying-leaves : (by : Table → Result Table) (q s : ℕ) (rows : List ℕ) → Lent q s rows → Keeps by (head_part p) (entry_rows_at w p) s rows → (a : ByCause Head) → Laying by (head_part p) (entry_rows_at w p) rows a ys
       → p' ≡ laid_numbers a (put_mid 10 (w - 10) p ys) → LeavesRows w (kept_before (head_part p) s) p p'
   laying-leaves by q s rows l f a t e =
       rw e
       (leaves-laid w (kept_before (head_part p) s) p ys o.from o.to k
       (laid_below by (head_part p) (entry_rows_at w p) s rows ys o.entries l.whole f a t) a)
 
-  pub moving-leaves : (gate : Option ℕ) (s : ℕ) (rows : List ℕ) (a : Rewritten) → Rewriting gate (head_part p) (entry_rows_at w p) s rows a ys
-      → p' ≡ moved_numbers a (put_mid 10 (w - 10) p ys) → LeavesRows w (s - (head_part p).first_index) p p'
+  pub moving-leaves : (gate : Option ℕ) (s : ℕ) (rows : List ℕ) (a : ByCause Head) → Rewriting gate (head_part p) (entry_rows_at w p) s rows a ys
+      → p' ≡ laid_numbers a (put_mid 10 (w - 10) p ys) → LeavesRows w (s - (head_part p).first_index) p p'
   moving-leaves gate s rows a t e =
       rw e
       (leaves-moved w (s - (head_part p).first_index) p ys o.from o.to k

@@ -1,7 +1,7 @@
 -- The laws of stretches that a crate above cites: a group's stretch as one of any width, as a cell of a map, as a group that was just
 -- made, and by what is in use. Assumes nothing.
 use Rattle.std.specs.Prelude.{Bool, true, false, cond, List, [], ◌∷◌, ◌≡◌, refl, ℕ, ◌+◌, ◌-◌, ◌*◌, ◌/◌, ◌≤◌, ◌<◌, leb, length, get_or, take}
-use Rattle.std.proofs.Math.Option.{Option, none, some}
+use Rattle.std.specs.Prelude.{Option, None, Some}
 use Rattle.std.proofs.Math.Path.{sym}
 use Rattle.std.proofs.Common.{ap, ◌∙◌, arith, get_or-take, take-take, le-leb, leb-true, leb-false}
 use Rattle.std.proofs.Math.Nat.{add-zero}
@@ -13,9 +13,8 @@ use Rattle.maps.specs.OrderLaws.{split}
 use Rattle.maps.specs.Lists.{or_else, map_option, first, last}
 use Rattle.maps.specs.Maps.{lookup, bytes}
 use Rattle.maps.specs.MapLaws.{pair, ascending-nil}
-use Rattle.pipe_log.specs.Numbers.{gate_of}
 use Rattle.pipe_log.specs.Rows.{window}
-use Rattle.rules.specs.Causes.{Result, ok, refused, refuse, and_then, limit_passed}
+use Rattle.rules.specs.Causes.{ByCause, Result, Ok, Err, refuse, and_then, LimitPassed}
 use Rattle.rules.specs.Items.{EntryIndex}
 use Rattle.rules.specs.Context.{table_fits}
 use Rattle.rules.specs.Table.{Held, Table, empty_table, first_index_of, last_index, is_below_first, is_above_last, with_entries, over, appended, rewritten, rewritten_key}
@@ -23,16 +22,13 @@ use Rattle.kvs.specs.Rows.{rows_from, keys_in, RowsOk, fits}
 use Rattle.kvs.specs.Rows as kvs
 use Rattle.kvs.specs.RowLaws.{Same, length-keys}
 use Rattle.kvs.specs.SameLaws as keys
-use Rattle.memtable.specs.declared.AtomicGroup.TheVariants as group
 use Rattle.memtable.specs.declared.Head.{Head}
-use Rattle.memtable.specs.Views.{span_of, table_of}
+use Rattle.memtable.specs.Views.{table_of}
 use Rattle.memtable.specs.Views as memtable
 use Rattle.memtable.specs.SameLaws as entries
 use Rattle.memtable.specs.WindowLaws.{length-window}
 use Rattle.stretch.specs.declared.Change.{Change}
 use Rattle.stretch.specs.declared.Change.TheVariants as change
-use Rattle.stretch.specs.declared.Outcome.{Outcome}
-use Rattle.stretch.specs.declared.Outcome.TheVariants.{Done}
 use Rattle.stretch.specs.Stretch.{is_used, group_in, span_in, head_part, key_count, is_counted, made_header, entry_rows_at, key_rows_at, table_at, WfAt, entry_rows, key_rows, table_in, cell_of, Wf}
 use Rattle.stretch.specs.StretchLaws.{Holds, own, length-entries, table_of_lem, wf_of, head_same}
 use Rattle.stretch.specs.StretchLaws as any
@@ -87,9 +83,9 @@ room-short p b l m t =
 
 limited-short : (p b : List ℕ) → length p ≡ 586 → length b ≡ 1024 → (r : Result Table) → limited_at 522 p b r ≡ limited_table r
 unfolding limited_at limited_table
-limited-short p b l m r = ap (λ (f : Table → Bool). and_then r (λ t. cond (f t) (ok t) (refuse limit_passed))) (λ i t. room-short p b l m t i)
+limited-short p b l m r = ap (λ (f : Table → Bool). and_then r (λ t. cond (f t) (Ok t) (refuse LimitPassed))) (λ i t. room-short p b l m t i)
 
-pub changed-short : {by : Table → Result Table} {p b : List ℕ} {r : Outcome} {p' b' : List ℕ} → length p ≡ 586 → length b ≡ 1024 → length p' ≡ length p → length b' ≡ length b → ChangedAt 522 by p b r p' b' → Changed by p b r p' b'
+pub changed-short : {by : Table → Result Table} {p b : List ℕ} {r : (ByCause (Unit {0}))} {p' b' : List ℕ} → length p ≡ 586 → length b ≡ 1024 → length p' ≡ length p → length b' ≡ length b → ChangedAt 522 by p b r p' b' → Changed by p b r p' b'
 changed-short {by} {p} {b} {r} {p'} {b'} l m k n c =
     record {
       rule =
@@ -104,11 +100,11 @@ changed-short {by} {p} {b} {r} {p'} {b'} l m k n c =
 
 -- ---- a stretch as a cell
 
-pub cell-used : (p b : List ℕ) → is_used p ≡ true → cell_of p b ≡ some (pair (group_in p) (table_in p b))
+pub cell-used : (p b : List ℕ) → is_used p ≡ true → cell_of p b ≡ Some (pair (group_in p) (table_in p b))
 unfolding cell_of
 cell-used p b u = rw u
 
-pub cell_free : (p b : List ℕ) → is_used p ≡ false → cell_of p b ≡ none
+pub cell_free : (p b : List ℕ) → is_used p ≡ false → cell_of p b ≡ None
 unfolding cell_of
 cell_free p b u = rw u
 
@@ -121,7 +117,7 @@ pub front-group : (p q : List ℕ) → take 2 q ≡ take 2 p → group_in q ≡ 
 unfolding group_in
 front-group p q e = sym (get_or-take 2 q 1 0 (omega arith)) ∙ ap (λ (l : List ℕ). get_or l 1 0) e ∙ get_or-take 2 p 1 0 (omega arith)
 
-pub changed-cell : {by : Table → Result Table} {p b : List ℕ} {r : Outcome} {p' b' : List ℕ} → Changed by p b r p' b' → is_used p ≡ true → cell_of p' b' ≡ some (pair (group_in p) (table_in p' b'))
+pub changed-cell : {by : Table → Result Table} {p b : List ℕ} {r : (ByCause (Unit {0}))} {p' b' : List ℕ} → Changed by p b r p' b' → is_used p ≡ true → cell_of p' b' ≡ Some (pair (group_in p) (table_in p' b'))
 changed-cell {p = p} {p' = p'} {b' = b'} c u =
     cell-used p' b' (front-used p p' c.front ∙ u) ∙ rw (front-group p p' c.front)
 
@@ -142,16 +138,16 @@ room-own w p b o =
     )
 
 -- what is accepted within the limits is not refused by them
-pub limited_same : (w : ℕ) (p b : List ℕ) (x : Result Table) → ((u : Table) → x ≡ ok u → room_at w p b u ≡ true) → limited_at w p b x ≡ x
+pub limited_same : (w : ℕ) (p b : List ℕ) (x : Result Table) → ((u : Table) → x ≡ Ok u → room_at w p b u ≡ true) → limited_at w p b x ≡ x
 unfolding limited_at and_then
-limited_same w p b (ok u) f = rw (f u refl)
-limited_same w p b (refused r) f = refl
+limited_same w p b (Ok u) f = rw (f u refl)
+limited_same w p b (Err r) f = refl
 
 -- a group that is there already is made by doing nothing
-pub unchanged : (w : ℕ) (p b : List ℕ) → WfAt w p b → ChangedAt w (λ t. ok t) p b Done p b
+pub unchanged : (w : ℕ) (p b : List ℕ) → WfAt w p b → ChangedAt w (λ t. Ok t) p b (Ok tt) p b
 unchanged w p b o =
     record {
-      rule = sym (limited_same w p b (ok (table_at w p b)) (λ u e. (let s : table_at w p b ≡ u = cc in rw (← s) (room-own w p b o))));
+      rule = sym (limited_same w p b (Ok (table_at w p b)) (λ u e. (let s : table_at w p b ≡ u = cc in rw (← s) (room-own w p b o))));
       front = refl;
       left = λ n d. (refl, refl);
       wf = o;
@@ -179,7 +175,7 @@ wf-fits p b w =
 
 -- no entries and no span
 abbrev pub no_entries : Head
-no_entries = record { first_index = 0; len = 0; rewrite_count = 0; atomic_group = group.None }
+no_entries = record { first_index = 0; len = 0; rewrite_count = 0; atomic_group = None }
 
 no-entries : (xs : List ℕ) → memtable.Wf no_entries xs
 no-entries xs =
@@ -229,7 +225,7 @@ module _ (g : ℕ) (p : List ℕ) (l : 10 ≤ length p) where
       }
 
 empty-table : (xs rows b : List ℕ) → table_of no_entries xs (keys_in 0 rows b) true ≡ empty_table
-unfolding table_of window keys_in rows_from span_of empty_table
+unfolding table_of window keys_in rows_from empty_table
 empty-table xs rows b = refl
 
 -- a stretch of any width that was just made
@@ -244,7 +240,7 @@ module _ (w g : ℕ) (p b : List ℕ) (f : 10 ≤ w) (t : w ≤ length p) where
       wf_of w (put p 0 (made_header g)) no_entries (entry_rows_at w p) 0 (key_rows_at w p) true (made_holds g p (omega arith) w f t) b (no-entries (entry_rows_at w p))
       (no_keys (key_rows_at w p) b)
 
-pub make-cell : (g : ℕ) (p b : List ℕ) → length p ≡ 586 → length b ≡ 1024 → (cell_of (put p 0 (made_header g)) b ≡ some (pair g empty_table)) × Wf (put p 0 (made_header g)) b
+pub make-cell : (g : ℕ) (p b : List ℕ) → length p ≡ 586 → length b ≡ 1024 → (cell_of (put p 0 (made_header g)) b ≡ Some (pair g empty_table)) × Wf (put p 0 (made_header g)) b
 make-cell g p b l n =
     let q = put p 0 (made_header g) in
     let a : 10 ≤ length p = omega arith in
@@ -254,37 +250,37 @@ make-cell g p b l n =
     )
 
 -- a group that was just made takes every change that may be asked of it
-appended_empty : (live : Bool) (es : List EntryIndex) → (t : Table) × (appended live es empty_table ≡ ok t)
+appended_empty : (live : Bool) (es : List EntryIndex) → (t : Table) × (appended live es empty_table ≡ Ok t)
 unfolding appended empty_table is_below_first is_above_last first_index_of last_index map_option or_else first last
 appended_empty live [] = (empty_table, refl)
 appended_empty live (e ∷ es) = (with_entries (over [] (e ∷ es)) empty_table, rw (and-false live))
 
 or_same : {A B : Type 0} (b : B) (o : Option A) → or_else b (λ (a : A). b) o ≡ b
 unfolding or_else
-or_same b none = refl
-or_same b (some a) = refl
+or_same b None = refl
+or_same b (Some a) = refl
 
-no-first : first_index_of [] ≡ none
+no-first : first_index_of [] ≡ None
 unfolding first_index_of map_option first
 no-first = refl
 
-rewritten_empty : (gate : Option ℕ) (rs : List EntryIndex) → rewritten gate rs empty_table ≡ ok empty_table
+rewritten_empty : (gate : Option ℕ) (rs : List EntryIndex) → rewritten gate rs empty_table ≡ Ok empty_table
 unfolding rewritten empty_table or_else
-rewritten_empty gate rs = rw no-first (or_same (ok empty_table) (first_index_of rs))
+rewritten_empty gate rs = rw no-first (or_same (Ok empty_table) (first_index_of rs))
 
-key_empty : (k : List ℕ) (gate : Option ℕ) (s : ℕ) → rewritten_key k gate s empty_table ≡ ok empty_table
+key_empty : (k : List ℕ) (gate : Option ℕ) (s : ℕ) → rewritten_key k gate s empty_table ≡ Ok empty_table
 unfolding rewritten_key empty_table lookup or_else
 key_empty k gate s = refl
 
-pub empty-taken : (c : Change) (rows key value : List ℕ) → Ready c rows key value empty_table → (t : Table) × (rule_of c rows key value empty_table ≡ ok t)
+pub empty-taken : (c : Change) (rows key value : List ℕ) → Ready c rows key value empty_table → (t : Table) × (rule_of c rows key value empty_table ≡ Ok t)
 unfolding rule_of
 empty-taken (change.Append first live) rows key value r = appended_empty live (window first (length rows / 8) rows)
 empty-taken (change.ReplayRewrite first) rows key value r = (_, refl)
-empty-taken (change.Rewrite first gate) rows key value r = (empty_table, rewritten_empty (gate_of gate) (window first (length rows / 8) rows))
+empty-taken (change.Rewrite first gate) rows key value r = (empty_table, rewritten_empty gate (window first (length rows / 8) rows))
 empty-taken (change.Compact index) rows key value r = (_, refl)
 empty-taken (change.Put queue seq) rows key value r = (_, refl)
 empty-taken change.Delete rows key value r = (_, refl)
-empty-taken (change.RewriteKey gate seq) rows key value r = (empty_table, key_empty key (gate_of gate) seq)
+empty-taken (change.RewriteKey gate seq) rows key value r = (empty_table, key_empty key gate seq)
 empty-taken change.Make rows key value r = (_, refl)
 
 -- ---- a stretch depends on its header and its rows in use alone

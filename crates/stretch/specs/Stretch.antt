@@ -1,14 +1,13 @@
 -- A stretch read as the rules' table of a group, or as a free place.
 -- The header's numbers: used, group, first index, entries, Rewrite entries, whether there is a span, its start and end, keys, counted.
-use Rattle.std.specs.Prelude.{Bool, cond, List, [], ◌∷◌, ◌≡◌, ℕ, ◌-◌, ◌≤◌, eqb, length, get_or}
-use Rattle.std.proofs.Math.Option.{none, some}
+use Rattle.pipe_log.specs.declared.Span.{Span}
+use Rattle.std.specs.Prelude.{Option, Bool, cond, List, [], ◌∷◌, ◌≡◌, ℕ, ◌-◌, ◌≤◌, eqb, length, get_or}
+use Rattle.std.specs.Prelude.{None, Some}
 use Rattle.cells.specs.Part.{part}
 use Rattle.maps.specs.Cells.{Cell}
 use Rattle.rules.specs.Table.{Table}
 use Rattle.kvs.specs.Rows.{keys_in}
 use Rattle.kvs.specs.Rows as kvs
-use Rattle.memtable.specs.declared.AtomicGroup.{AtomicGroup}
-use Rattle.memtable.specs.declared.AtomicGroup.TheVariants as group
 use Rattle.memtable.specs.declared.Head.{Head}
 use Rattle.memtable.specs.Views.{table_of}
 use Rattle.memtable.specs.Views as memtable
@@ -22,8 +21,8 @@ is_used p = eqb (get_or p 0 0) 1
 unfoldable pub group_in : List ℕ → ℕ
 group_in p = get_or p 1 0
 
-unfoldable pub span_in : List ℕ → AtomicGroup
-span_in p = cond (eqb (get_or p 5 0) 0) group.None (group.Span (get_or p 6 0) (get_or p 7 0))
+unfoldable pub span_in : List ℕ → Option Span
+span_in p = cond (eqb (get_or p 5 0) 0) None (Some (record { start = (get_or p 6 0); end = (get_or p 7 0) }))
 
 unfoldable pub head_part : List ℕ → Head
 head_part p = record { first_index = get_or p 2 0; len = get_or p 3 0; rewrite_count = get_or p 4 0; atomic_group = span_in p }
@@ -35,9 +34,9 @@ unfoldable pub is_counted : List ℕ → Bool
 is_counted p = eqb (get_or p 9 0) 1
 
 -- the numbers of a span: whether there is one, its start and its end
-unfoldable pub span_numbers : AtomicGroup → List ℕ
-span_numbers group.None = 0 ∷ 0 ∷ 0 ∷ []
-span_numbers (group.Span s e) = 1 ∷ s ∷ e ∷ []
+unfoldable pub span_numbers : Option Span → List ℕ
+span_numbers None = 0 ∷ 0 ∷ 0 ∷ []
+span_numbers (Some s') = 1 ∷ s'.start ∷ s'.end ∷ []
 
 -- the numbers of a head, which stand behind the group's number
 unfoldable pub head_numbers : Head → List ℕ
@@ -83,7 +82,7 @@ unfoldable pub table_in : List ℕ → List ℕ → Table
 table_in p b = table_of (head_part p) (entry_rows p) (keys_in (key_count p) (key_rows p) b) (is_counted p)
 
 unfoldable pub cell_of : List ℕ → List ℕ → Cell Table
-cell_of p b = cond (is_used p) (some (record { key = group_in p; val = table_in p b })) none
+cell_of p b = cond (is_used p) (Some (record { key = group_in p; val = table_in p b })) None
 
 -- what holds of the numbers of a used stretch between calls
 pub record NumbersWf (p : List ℕ) : Type 0 where

@@ -1,5 +1,6 @@
 -- A stretch taken apart into what it holds, and what it holds after a head, rows or a number of keys are laid in. Assumes nothing.
-use Rattle.std.specs.Prelude.{Bool, cond, ◌≡◌, refl, eqb, get_or, take}
+use Rattle.pipe_log.specs.declared.Span.{Span}
+use Rattle.std.specs.Prelude.{Option, Some, None, Bool, cond, ◌≡◌, refl, eqb, get_or, take}
 use mathlib.Core.List.{List, [], ◌∷◌}
 use Rattle.std.proofs.Common.{sym, ◌∙◌, arith}
 use Rattle.std.proofs.Math.Path.{ap}
@@ -9,8 +10,6 @@ use Rattle.cells.specs.Part.{put}
 use Rattle.cells.specs.PartLaws.{length_part, length-put, take_put, get_or-put-in, get_or-put-before, get_or-put-after, part-put_same, part-put-before, part-put-after}
 use Rattle.kvs.specs.Rows.{keys_in}
 use Rattle.kvs.specs.Rows as kvs
-use Rattle.memtable.specs.declared.AtomicGroup.{AtomicGroup}
-use Rattle.memtable.specs.declared.AtomicGroup.TheVariants as group
 use Rattle.memtable.specs.declared.Head.{Head}
 use Rattle.memtable.specs.Views.{table_of}
 use Rattle.memtable.specs.Views as memtable
@@ -40,25 +39,25 @@ length-keys w p b = length_part w (length p - w) p (omega arith)
 
 -- ---- the numbers of a head
 
-length-span : (a : AtomicGroup) → length (span_numbers a) ≡ 3
+length-span : (a : Option Span) → length (span_numbers a) ≡ 3
 unfolding span_numbers
-length-span group.None = refl
-length-span (group.Span s e) = refl
+length-span None = refl
+length-span (Some s') = refl
 
 pub length-head : (h : Head) → length (head_numbers h) ≡ 6
 unfolding head_numbers
 length-head h = rw (length-span h.atomic_group)
 
 -- they are 3
-pub three-numbers : (a : AtomicGroup) → span_numbers a ≡ get_or (span_numbers a) 0 0 ∷ get_or (span_numbers a) 1 0 ∷ get_or (span_numbers a) 2 0 ∷ []
+pub three-numbers : (a : Option Span) → span_numbers a ≡ get_or (span_numbers a) 0 0 ∷ get_or (span_numbers a) 1 0 ∷ get_or (span_numbers a) 2 0 ∷ []
 unfolding span_numbers
-three-numbers group.None = refl
-three-numbers (group.Span s e) = refl
+three-numbers None = refl
+three-numbers (Some s') = refl
 
-span-back : (a : AtomicGroup) → cond (eqb (get_or (span_numbers a) 0 0) 0) group.None (group.Span (get_or (span_numbers a) 1 0) (get_or (span_numbers a) 2 0)) ≡ a
+span-back : (a : Option Span) → cond (eqb (get_or (span_numbers a) 0 0) 0) None (Some (record { start = (get_or (span_numbers a) 1 0); end = (get_or (span_numbers a) 2 0) })) ≡ a
 unfolding span_numbers
-span-back group.None = refl
-span-back (group.Span s e) = refl
+span-back None = refl
+span-back (Some s') = refl
 
 -- a head depends on the header's first 8 numbers alone
 pub head_same : (p q : List ℕ) → ((i : ℕ) → i < 8 → get_or q i 0 ≡ get_or p i 0) → head_part q ≡ head_part p

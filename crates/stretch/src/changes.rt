@@ -3,7 +3,8 @@ ghost use Rattle.stretch.specs.Stretch.{head_part, table_at, WfAt};
 ghost use Rattle.stretch.specs.Changes.{rule_of, Ready, ChangedAt};
 ghost use Rattle.stretch.specs.Reach.{row_from, writes_keys, LeavesAt};
 
-use crate::{Change, Outcome, entries, keys};
+use crate::{Change, entries, keys};
+use pipe_log::Cause;
 
 // Carries out a change on a group's stretch p with its bytes b. The rows of keys begin at place `keys_at`.
 pub fn apply(
@@ -14,7 +15,7 @@ pub fn apply(
     rows: &[u64],
     key: &[u8],
     value: &[u8],
-) -> Outcome
+) -> Result<(), Cause>
     requires wf_at { WfAt keys_at p.old b.old }
     requires ready { Ready change rows.now key.now value.now (table_at keys_at p.old b.old) }
     ensures changed_at { ChangedAt keys_at (rule_of change rows.now key.now value.now) p.old b.old result p.new b.new }
@@ -28,6 +29,6 @@ pub fn apply(
         Change::Put { queue, seq } => keys::put(p, b, keys_at, key, value, queue, seq),
         Change::Delete => keys::delete(p, b, keys_at, key),
         Change::RewriteKey { gate, seq } => keys::rewrite_key(p, b, keys_at, key, gate, seq),
-        Change::Make => Outcome::Done,
+        Change::Make => Ok(()),
     }
 }

@@ -4,20 +4,21 @@ ghost use Rattle.cells.specs.Part.{put};
 ghost use Rattle.stretch.specs.Stretch.{span_in, head_part, span_numbers, head_numbers, made_header};
 
 use crate::ENTRY_COUNT;
-use memtable::{AtomicGroup, Head};
+use memtable::Head;
+use pipe_log::Span;
 
 // The span that a header has.
-fn span_in(p: &[u64]) -> AtomicGroup
+fn span_in(p: &[u64]) -> Option<Span>
     requires { 10 ≤ length p.now }
     ensures { result ≡ span_in p.now }
 {
     if p[5] == 0 {
-        return AtomicGroup::None;
+        return None;
     }
-    AtomicGroup::Span {
+    Some(Span {
         start: p[6],
         end: p[7],
-    }
+    })
 }
 
 // The head that a header has.
@@ -35,12 +36,12 @@ pub fn head_in(p: &[u64]) -> Head
 }
 
 // The numbers of a span.
-fn span_numbers(span: AtomicGroup) -> [u64; 3]
+fn span_numbers(span: Option<Span>) -> [u64; 3]
     ensures { result ≡ span_numbers span }
 {
     match span {
-        AtomicGroup::None => [0, 0, 0],
-        AtomicGroup::Span { start, end } => [1, start, end],
+        None => [0, 0, 0],
+        Some(Span { start, end }) => [1, start, end],
     }
 }
 
@@ -59,7 +60,7 @@ pub fn write_head(p: &mut [u64], head: Head)
         told[1],
         told[2],
     ];
-    cells::copy_in_u64(p, 2, &numbers);
+    cells::copy_in(p, 2, &numbers);
 }
 
 // Makes the stretch that of a group with nothing in it.
@@ -68,5 +69,5 @@ pub fn make(p: &mut [u64], group: u64)
     ensures { p.new ≡ put p.old 0 (made_header group) }
 {
     let numbers = [1, group, 0, 0, 0, 0, 0, 0, 0, 1];
-    cells::copy_in_u64(p, 0, &numbers);
+    cells::copy_in(p, 0, &numbers);
 }

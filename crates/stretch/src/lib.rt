@@ -15,7 +15,7 @@ pub use entries::{append, join, replay_rewrite, rewrite};
 pub use header::{head_in, make, write_head};
 pub use keys::lay_keys;
 use kvs::rows::{ROW_BYTES, ROW_WIDTH};
-use pipe_log::{ENTRY_WIDTH, Gate, LogQueue};
+use pipe_log::{ENTRY_WIDTH, LogQueue};
 pub use reach::{row_from, writes_keys};
 pub use spans::{set_span, write_span};
 
@@ -46,17 +46,10 @@ pub const BYTES: usize = MAX_KEYS * ROW_BYTES;
 pub enum Change {
     Append { first: u64, live: bool },
     ReplayRewrite { first: u64 },
-    Rewrite { first: u64, gate: Gate },
+    Rewrite { first: u64, gate: Option<u64> },
     Compact { index: u64 },
     Put { queue: LogQueue, seq: u64 },
     Delete,
-    RewriteKey { gate: Gate, seq: u64 },
+    RewriteKey { gate: Option<u64>, seq: u64 },
     Make,
-}
-
-// How a change ends: done, or refused with document 01's number.
-#[derive(Drop)]
-pub enum Outcome {
-    Done,
-    Refused(u64),
 }

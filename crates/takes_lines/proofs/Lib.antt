@@ -1,5 +1,4 @@
 -- The laws that the functions' proofs cite.
-pub mod TurnLaws
 pub mod AddWays
 pub mod CloseWays
 pub mod ReadWays

@@ -1,81 +1,59 @@
 -- The ways through the functions that write a line. Assumes nothing.
-use mathlib.Core.Path.{◌≡◌, refl, sym, ap, ◌∙◌}
-use mathlib.Core.List.{List, [], ◌∷◌, ◌++◌, append_assoc, append-nil}
-use Prim.Native.Nat.{ℕ, suc, ◌+◌, ◌*◌, ◌-◌, ◌/◌, ◌%◌, ◌^◌, ◌≤◌, ◌<◌}
-use native.Mathlib.Numerals.{add-one}
-use native.Mathlib.Nat.{zero-add}
-use native.Mathlib.Omega.{arith}
-use lib.ListN.{length, take, drop, get_or, set, length-append, length-set, length-drop}
-use lib.Seq.{drop-cons, drop-length, drop-set-lt, get_or-set_same, take-suc, take_all}
-use borrow.Author.Tests.{lt-ltb, le-ltb}
+use Rattle.std.proofs.Common.{◌≡◌, refl, sym, ap, ◌∙◌, List, [], ◌∷◌, ◌++◌, append_assoc, append-nil, ℕ, suc, zero, ◌+◌, ◌*◌, ◌/◌, ◌%◌, ◌^◌, ◌≤◌, ◌<◌, zero-add, add-one, arith, length, take, get_or, length-append, ltb, lt-ltb, le-ltb, ltb-false}
+use lib.ListN.{set}
+use lib.Seq.{take-suc}
+use Rattle.maps.specs.OrderLaws.{split}
 use Rattle.cells.specs.Part.{put}
-use Rattle.cells.specs.PartLaws.{length-put, part-front, part-put_same, put-nil, put-append, set-put}
+use Rattle.cells.specs.PartLaws.{length-put, part-front, part-put_same, put-nil, put-append, put-snoc, set-put}
 use Rattle.takes_rules.specs.Fields.{comma}
 use Rattle.takes_rules.specs.Output.{digits_before, decimal, fields_text, line_text}
-use Rattle.takes_lines.specs.Written.{Spelt, WrittenAt, Written, tenth, more-digits}
+use Rattle.takes_lines.specs.Written.{WrittenAt, Written, tenth, more-digits, decimal-most}
 
 -- ---- digits
 
--- the digits from place i on are written; `rest` stands before them
-pub record Spelling (n rest i : ℕ) (digits : List ℕ) : Type 0 where
-  pub twenty : length digits ≡ 20
-  pub some : 0 < i
-  pub inside : i ≤ 20
-  pub fits : rest < 10 ^ i
-  pub left : digits_before i rest (drop i digits) ≡ decimal n
+digits_split : (k n : ℕ) (s : List ℕ) → digits_before k n s ≡ digits_before k n [] ++ s
+unfolding digits_before
+digits_split zero n s = refl
+digits_split (suc k) n s =
+    split (ltb n 10)
+    (λ t. rw t)
+    (λ t. rw t
+    (digits_split k (n / 10) ((48 + n % 10) ∷ s)
+    ∙ sym (rw (digits_split k (n / 10) ((48 + n % 10) ∷ []), append_assoc))))
 
--- one place more is written
-drop-written : (j : ℕ) (digits : List ℕ) (v : ℕ) → j < length digits → drop j (set digits j v) ≡ v ∷ drop (suc j) digits
-drop-written j digits v h =
-    rw (drop-cons (set digits j v) j 0 (simp length-set h), get_or-set_same digits j v 0 h, drop-set-lt (suc j) digits j v (omega arith))
+-- one more than the most digits makes no difference
+digits_same : (k n : ℕ) (s : List ℕ) → n < 10 ^ k → 0 < k → digits_before k n s ≡ digits_before (suc k) n s
+unfolding digits_before
+digits_same zero n s h p = absurd (omega arith)
+digits_same (suc k) n s h p =
+    split (ltb n 10)
+    (λ t. rw t)
+    (λ t. rw t (digits_same k (n / 10) ((48 + n % 10) ∷ s) (tenth k n h) (more-digits k n h (ltb-false n 10 t))))
 
-module _ (n : ℕ) (digits : List ℕ) where
-  pub spell-start : n < 2 ^ 64 → length digits ≡ 20 → Spelling n n 20 digits
-  unfolding decimal
-  spell-start h e =
-      record { twenty = e; some = omega arith; inside = omega arith; fits = omega arith; left = ap (digits_before 20 n) (rw e at (drop-length digits)) }
+pub decimal_one : (n : ℕ) → n < 10 → decimal n ≡ (48 + n) ∷ []
+unfolding decimal digits_before
+decimal_one n h = rw (lt-ltb n 10 h)
 
-  pub spell-more : (rest i j : ℕ) → i ≡ suc j → 9 < rest → Spelling n rest i digits → Spelling n (rest / 10) j (set digits j (48 + rest % 10))
-  unfolding digits_before
-  spell-more rest i j e t s =
-      let s = rw e at s in
-      record {
-        twenty = simp length-set s.twenty;
-        some = more-digits j rest s.fits t;
-        inside = omega (arith, s.inside);
-        fits = tenth j rest s.fits;
-        left = rw (drop-written j digits (48 + rest % 10) (omega (arith, s.inside, s.twenty))) (rw (le-ltb rest 10 t) at s.left);
-      }
+pub decimal_last : (n : ℕ) → 10 ≤ n → n < 2 ^ 64 → decimal n ≡ decimal (n / 10) ++ ((48 + n % 10) ∷ [])
+unfolding decimal
+decimal_last n h f =
+    unfold digits_before in rw (le-ltb n 10 h) (digits_split 19 (n / 10) ((48 + n % 10) ∷ [])) ∙ ap (λ (l : List ℕ). l ++ ((48 + n % 10) ∷ [])) (digits_same 19 (n / 10) [] (omega arith) (omega arith))
 
-  pub spell-end : (rest i j : ℕ) → i ≡ suc j → rest ≤ 9 → Spelling n rest i digits → Spelt n j (set digits j (48 + rest))
-  unfolding digits_before
-  spell-end rest i j e t s =
-      let s = rw e at s in
-      record {
-        twenty = simp length-set s.twenty;
-        inside = omega (arith, s.inside);
-        spells = rw (drop-written j digits (48 + rest) (omega (arith, s.inside, s.twenty))) (rw (lt-ltb rest 10 (omega arith)) at s.left);
-      }
+module _ (out : List ℕ) (at n : ℕ) where
+  pub digit-written : n < 10 → at < length out → WrittenAt out at (decimal n) (at + 1) (set out at (48 + n))
+  digit-written h f = rw (decimal_one n h) (record { laid = set-put out at (48 + n) f; end = refl })
 
--- ---- a comma and a number
+  -- behind the digits but the last there is room for it
+  pub last-fits : 10 ≤ n → n < 2 ^ 64 → at + length (decimal n) ≤ length out → at + length (decimal (n / 10)) < length out
+  last-fits h f room = omega (arith, simp length-append at (ap length (decimal_last n h f)))
 
-module _ (out : List ℕ) (at n first : ℕ) (digits : List ℕ) (h : at + 21 ≤ length out) (s : Spelt n first digits) where
-  digits-count : length (decimal n) ≡ 20 - first
-  digits-count = rw (← s.spells) (simp length-drop (ap (λ (k : ℕ). k - first) s.twenty))
+  pub digits-length : (last : ℕ) (out₁ : List ℕ) → 10 ≤ n → n < 2 ^ 64 → at + length (decimal n) ≤ length out → WrittenAt out at (decimal (n / 10)) last out₁ → last < length out₁
+  digits-length last out₁ h f room w = rw (w.laid, w.end, length-put out at (decimal (n / 10)) (omega (arith, last-fits h f room))) (last-fits h f room)
 
-  -- the part of the digits that is copied
-  digits-part : take (20 - first) (drop first digits) ≡ decimal n
-  digits-part = take_all (20 - first) (drop first digits) (simp length-drop (omega (arith, s.twenty))) ∙ s.spells
-
-  pub number-written : (out' : List ℕ) → out' ≡ put (set out at comma) (at + 1) (take (20 - first) (drop first digits)) → WrittenAt out at (comma ∷ decimal n) (at + 1 + (20 - first)) out'
-  number-written out' e =
-      record {
-        laid = e ∙ rw (digits-part, set-put out at comma (omega arith)) (sym (put-append out at (comma ∷ []) (decimal n) (omega arith)));
-        end = omega (arith, digits-count);
-      }
-
-  pub number-length : (out' : List ℕ) → out' ≡ put (set out at comma) (at + 1) (take (20 - first) (drop first digits)) → length out' ≡ length out
-  number-length out' e = rw (number-written out' e).laid (length-put out at (comma ∷ decimal n) (omega (arith, digits-count)))
+  pub digits-written : (last : ℕ) (out₁ : List ℕ) → 10 ≤ n → n < 2 ^ 64 → at + length (decimal n) ≤ length out → WrittenAt out at (decimal (n / 10)) last out₁ → WrittenAt out at (decimal n) (last + 1) (set out₁ last (48 + n % 10))
+  digits-written last out₁ h f room w =
+      rw (decimal_last n h f, w.laid, w.end)
+      (record { laid = put-snoc out at (decimal (n / 10)) (48 + n % 10) (last-fits h f room); end = simp length-append (omega arith) })
 
 -- ---- a line
 
@@ -100,21 +78,22 @@ module _ (out ns : List ℕ) (room : 2 + 21 * length ns ≤ length out) where
   writing-length i at out' w =
       rw w.written.laid (length-put out 1 (fields_text (take i ns)) (omega (arith, w.inside, w.written.end, w.bound)))
 
-  pub write-more : (i at : ℕ) (out₁ : List ℕ) (e : ℕ) (out₂ : List ℕ) → i < length ns → Writing out ns i at out₁ → WrittenAt out₁ at (comma ∷ decimal (get_or ns i 0)) e out₂ → e ≤ at + 21 → Writing out ns (i + 1) e out₂
-  write-more i at out₁ e out₂ h w s most =
+  -- a comma and a number
+  pub write-more : (i at : ℕ) (out₁ : List ℕ) (e : ℕ) (out₂ : List ℕ) → i < length ns → Writing out ns i at out₁ → WrittenAt (set out₁ at comma) (at + 1) (decimal (get_or ns i 0)) e out₂ → Writing out ns (i + 1) e out₂
+  write-more i at out₁ e out₂ h w s =
       let number = comma ∷ decimal (get_or ns i 0) in
+      let few : length (decimal (get_or ns i 0)) ≤ 20 = decimal-most (get_or ns i 0) in
+      let fits : at < length out₁ = omega (arith, writing-length i at out₁ w, w.bound) in
+      let here : out₂ ≡ put out₁ at number = s.laid ∙ rw set-put (sym (put-append out₁ at (comma ∷ []) (decimal (get_or ns i 0)) (omega arith))) in
       let same : fields_text (take (i + 1) ns) ≡ fields_text (take i ns) ++ number = rw (add-one i, take-suc ns i 0 h) (fields_snoc (take i ns) (get_or ns i 0)) in
       record {
         inside = omega arith;
         written = record {
-          laid = s.laid ∙ rw (w.written.laid, w.written.end, same) (sym (put-append out 1 (fields_text (take i ns)) number (omega arith)));
-          end = s.end ∙ rw same (simp length-append (omega (arith, w.written.end)));
+          laid = here ∙ rw (w.written.laid, w.written.end, same) (sym (put-append out 1 (fields_text (take i ns)) number (omega arith)));
+          end = rw same (simp length-append (omega (arith, w.written.end, s.end)));
         };
-        bound = omega (arith, w.bound);
+        bound = omega (arith, w.bound, s.end);
       }
-
-  pub write_all : (i at : ℕ) (out₁ : List ℕ) → length ns ≤ i → Writing out ns i at out₁ → WrittenAt out 1 (fields_text ns) at out₁
-  write_all i at out₁ h w = rw (take_all i ns h) at w.written
 
   -- the letter before the numbers, and the newline behind them
   module _ (letter e : ℕ) (out₁ : List ℕ) (w : WrittenAt (set out 0 letter) 1 (fields_text ns) e out₁) (most : e ≤ 1 + 21 * length ns) where

@@ -1,23 +1,22 @@
 -- What a caller learns of a line: bytes that are read in several calls, and an answer in terms of what the line says. Assumes nothing.
 use Rattle.std.specs.Prelude.{Bool, false, List, [], ◌∷◌, ◌++◌, ℕ, eqb, length}
 use Rattle.std.proofs.Math.Path.{◌≡◌, refl, sym}
-use Rattle.std.proofs.Common.{ap, ◌∙◌, arith}
-use Rattle.std.proofs.Math.Option.{Option}
+use Rattle.std.proofs.Common.{ap, ◌∙◌}
+use Rattle.std.specs.Prelude.{Option, Ok, Err}
 use Rattle.maps.specs.Lists.{any}
 use Rattle.pipe_log.specs.declared.FileId.{FileId}
 use Rattle.rules.specs.Items as rules
 use Rattle.rules.specs.Context.{Context}
 use Rattle.rules.specs.Calls.{replay}
 use Rattle.log_batch.specs.Lent.{batch_of}
-use Rattle.takes_lines.specs.declared.reader.Answer.{Answer}
-use Rattle.takes_lines.specs.declared.reader.Answer.TheVariants.{Malformed, NextRun, Batch}
-use Rattle.takes_lines.specs.declared.reader.LineReader.{LineReader}
+use Rattle.takes_lines.specs.declared.line.Line.TheVariants.{NextRun, Batch}
+use Rattle.takes_lines.specs.declared.line.Malformed.{Malformed}
 use Rattle.takes_rules.specs.Lines.{Line, malformed, next_run, batch, line_of}
 use Rattle.takes_lines.specs.Reading.{Reading, read_byte, read_bytes, end_line}
 use Rattle.takes_lines.specs.Kept.{kept_batch, kept_line, or_left, or_right, replay-kept}
 use Rattle.takes_lines.specs.Reads.{line_read}
 use Rattle.takes_rules.specs.Program.{in_first, lines_of, Takes, take_line}
-use Rattle.takes_lines.specs.Views.{read_of, Started, Feeds, answer_line, Finishes}
+use Rattle.takes_lines.specs.Views.{LineReader, read_of, Started, Feeds, Answer, answer_line, Finishes}
 
 -- ---- bytes in several calls
 
@@ -31,7 +30,6 @@ module _ (h k r : LineReader) (rows bytes rows₁ bytes₁ rows₂ bytes₂ : Li
   pub feeds-append : (s t : List ℕ) → Feeds h rows bytes k rows₁ bytes₁ s → Feeds k rows₁ bytes₁ r rows₂ bytes₂ t → Feeds h rows bytes r rows₂ bytes₂ (s ++ t)
   feeds-append s t f g =
       record {
-        sound = g.sound;
         same_rows = g.same_rows ∙ f.same_rows;
         same_bytes = g.same_bytes ∙ f.same_bytes;
         reads = g.reads ∙ ap (read_bytes t) f.reads ∙ sym (read-append s t (read_of h rows bytes));
@@ -48,17 +46,17 @@ module _ (h k : LineReader) (text rows bytes rows₁ bytes₁ items rows₂ : Li
 -- ---- the answer's case is the line's
 
 module _ (items rows bytes : List ℕ) where
-  pub says-malformed : (l : Line) → answer_line Malformed items rows bytes ≡ kept_line l → l ≡ malformed
+  pub says-malformed : (e : Malformed) (l : Line) → answer_line (Err e) items rows bytes ≡ kept_line l → l ≡ malformed
   unfolding answer_line kept_line
-  says-malformed malformed e = refl
-  says-malformed next_run e = absurd (let z : ◌≡◌ {A = ℕ} 0 1 = cc in omega arith)
-  says-malformed (batch b) e = absurd (let z : ◌≡◌ {A = ℕ} 0 1 = cc in omega arith)
+  says-malformed e malformed q = refl
+  says-malformed e next_run q = cc
+  says-malformed e (batch b) q = cc
 
-  pub says-next_run : (l : Line) → answer_line NextRun items rows bytes ≡ kept_line l → l ≡ next_run
+  pub says-next_run : (l : Line) → answer_line (Ok NextRun) items rows bytes ≡ kept_line l → l ≡ next_run
   unfolding answer_line kept_line
-  says-next_run malformed e = absurd (let z : ◌≡◌ {A = ℕ} 0 1 = cc in omega arith)
+  says-next_run malformed e = cc
   says-next_run next_run e = refl
-  says-next_run (batch b) e = absurd (let z : ◌≡◌ {A = ℕ} 0 1 = cc in omega arith)
+  says-next_run (batch b) e = cc
 
   -- the line is a batch, of the same file, for which a replay answers the same as for the lent one
   pub record SaysBatch (f : FileId) (l : Line) : Type 0 where
@@ -67,10 +65,10 @@ module _ (items rows bytes : List ℕ) where
     pub same-file : said.file ≡ f
     pub same-replay : (c : Context) → replay (batch_of f items rows bytes) c ≡ replay said c
 
-  pub says-batch : (f : FileId) (l : Line) → answer_line (Batch f) items rows bytes ≡ kept_line l → SaysBatch f l
+  pub says-batch : (f : FileId) (l : Line) → answer_line (Ok (Batch f)) items rows bytes ≡ kept_line l → SaysBatch f l
   unfolding answer_line kept_line batch_of kept_batch
-  says-batch f malformed e = absurd (let z : ◌≡◌ {A = ℕ} 0 1 = cc in omega arith)
-  says-batch f next_run e = absurd (let z : ◌≡◌ {A = ℕ} 0 1 = cc in omega arith)
+  says-batch f malformed e = cc
+  says-batch f next_run e = cc
   says-batch f (batch b) e =
       let same : batch_of f items rows bytes ≡ kept_batch b = cc in
       record { said = b; is = refl; same-file = sym (ap (λ (x : rules.Batch). x.file) same); same-replay = λ c. rw same (replay-kept b c) }

@@ -1,12 +1,12 @@
 -- What is kept of a line: a list, a key or a value up to one more than the bound of cause 2. A replay answers the same for it.
 use Rattle.std.specs.Prelude.{Bool, true, false, ◌||◌, ◌≡◌, refl, List, [], ◌∷◌, ℕ, suc, min, ltb, eqb, length, take}
 use Rattle.std.proofs.Common.{true≢false, ◌∙◌, arith, length-take, take_all, ltb-true, ltb-false, lt-ltb}
-use Rattle.std.proofs.Math.Option.{Option, none, some}
+use Rattle.std.specs.Prelude.{Option, None, Some}
 use Rattle.maps.specs.Lists.{or_else, find_from}
 use Rattle.maps.specs.OrderLaws.{split}
 use Rattle.rules.specs.Items.{Change, put, del, Content, entries, command, kv, LogItem, Batch, LogQueue, Append, Rewrite, Call, replay_append, replay_rewrite}
 use Rattle.rules.specs.Limits.{max_items}
-use Rattle.rules.specs.Causes.{Result, refused}
+use Rattle.rules.specs.Causes.{TooLong, Result, Err}
 use Rattle.rules.specs.Context.{Context}
 use Rattle.rules.specs.Checks.{long_change, long, or_next, checks}
 use Rattle.rules.specs.Calls.{checked, replay_batch, replay}
@@ -14,8 +14,8 @@ use Rattle.takes_rules.specs.Lines.{Line, malformed, next_run, batch}
 use Rattle.takes_lines.specs.Reading.{kept_most}
 
 unfoldable pub kept_change : Change → Change
-kept_change (put none f) = put none f
-kept_change (put (some v) f) = put (some (take kept_most v)) f
+kept_change (put None f) = put None f
+kept_change (put (Some v) f) = put (Some (take kept_most v)) f
 kept_change del = del
 
 unfoldable pub kept_content : Content → Content
@@ -62,8 +62,8 @@ module _ {A : Type 0} (xs : List A) where
 
 long-change-kept : (c : Change) → long_change (kept_change c) ≡ long_change c
 unfolding long_change kept_change or_else
-long-change-kept (put none f) = refl
-long-change-kept (put (some v) f) = over-kept v
+long-change-kept (put None f) = refl
+long-change-kept (put (Some v) f) = over-kept v
 long-change-kept del = refl
 
 long_kept : (c : Content) → long (kept_content c) ≡ long c
@@ -74,8 +74,8 @@ long_kept (kv k c) = rw (over-kept k, long-change-kept c)
 
 change_same : (c : Change) → long_change c ≡ false → kept_change c ≡ c
 unfolding long_change kept_change or_else
-change_same (put none f) e = refl
-change_same (put (some v) f) e = rw (short-kept v e)
+change_same (put None f) e = refl
+change_same (put (Some v) f) e = rw (short-kept v e)
 change_same del e = refl
 
 content_same : (c : Content) → long c ≡ false → kept_content c ≡ c
@@ -96,7 +96,7 @@ found-kept [] i = refl
 found-kept (it ∷ items) i = rw (long_kept it.content, found-kept items (suc i))
 
 -- a list that does not meet it is kept whole
-items-same : (items : List LogItem) (i : ℕ) → find_from meets2 i items ≡ none → kept_items items ≡ items
+items-same : (items : List LogItem) (i : ℕ) → find_from meets2 i items ≡ None → kept_items items ≡ items
 unfolding find_from kept_items kept_item meets2
 items-same [] i e = refl
 items-same (it ∷ items) i e =
@@ -104,15 +104,15 @@ items-same (it ∷ items) i e =
     (λ t. absurd (some-not-none (rw t at e)))
     (λ t. rw (content_same it.content (or_right (eqb i max_items) (long it.content) t), items-same items (suc i) (rw t at e)))
   where
-    some-not-none : some i ≡ none → ⊥
+    some-not-none : Some i ≡ None → ⊥
     some-not-none z = let y : ◌≡◌ {A = ℕ} 0 1 = cc in omega arith
 
-module _ (b : Batch) (i : ℕ) (met : find_from meets2 0 b.items ≡ some i) where
-  refused-long : (call : Call) (next : Result Context) → checked call b next ≡ refused (record { number = 2; place = some i })
+module _ (b : Batch) (i : ℕ) (met : find_from meets2 0 b.items ≡ Some i) where
+  refused-long : (call : Call) (next : Result Context) → checked call b next ≡ Err (record { cause = TooLong; place = Some i })
   unfolding checked checks or_next or_else meets2
   refused-long call next = rw met
 
-  replay-long : (q : LogQueue) (c : Context) → replay_batch q b c ≡ refused (record { number = 2; place = some i })
+  replay-long : (q : LogQueue) (c : Context) → replay_batch q b c ≡ Err (record { cause = TooLong; place = Some i })
   unfolding replay_batch
   replay-long Append c = refused-long replay_append _
   replay-long Rewrite c = refused-long replay_rewrite _
@@ -123,8 +123,8 @@ unfolding replay kept_batch
 replay-kept b c = by (find_from meets2 0 b.items) refl
   where
     by : (found : Option ℕ) → find_from meets2 0 b.items ≡ found → replay (kept_batch b) c ≡ replay b c
-    by none e = rw (items-same b.items 0 e)
-    by (some i) e = rw (replay-long (kept_batch b) i (found-kept b.items 0 ∙ e) b.file.queue c, replay-long b i e b.file.queue c)
+    by None e = rw (items-same b.items 0 e)
+    by (Some i) e = rw (replay-long (kept_batch b) i (found-kept b.items 0 ∙ e) b.file.queue c, replay-long b i e b.file.queue c)
 
 -- the checks of any call too
 pub checks-kept : (call : Call) (items : List LogItem) → checks call (kept_items items) ≡ checks call items
@@ -132,5 +132,5 @@ unfolding checks or_next meets2
 checks-kept call items = by (find_from meets2 0 items) refl
   where
     by : (found : Option ℕ) → find_from meets2 0 items ≡ found → checks call (kept_items items) ≡ checks call items
-    by none e = rw (items-same items 0 e)
-    by (some i) e = rw (found-kept items 0 ∙ e, e)
+    by None e = rw (items-same items 0 e)
+    by (Some i) e = rw (found-kept items 0 ∙ e, e)

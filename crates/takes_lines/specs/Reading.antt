@@ -1,6 +1,6 @@
 -- A line read byte by byte: what is known of it after each byte. `Reads` has the theorem that this is what the line says.
-use Rattle.std.specs.Prelude.{Bool, true, false, cond, ◌&&◌, ◌||◌, List, [], ◌∷◌, ◌++◌, ℕ, suc, ◌+◌, ◌*◌, ◌-◌, eqb, ltb, take}
-use Rattle.std.proofs.Math.Option.{Option, none, some}
+use Rattle.std.specs.Prelude.{Bool, false, cond, ◌&&◌, ◌||◌, List, [], ◌∷◌, ◌++◌, ℕ, suc, ◌+◌, ◌*◌, ◌-◌, eqb, ltb, take}
+use Rattle.std.specs.Prelude.{Option, None, Some, is_some, unwrap_or}
 use Rattle.rules.specs.Items.{EntryIndex, clean, compact, put, del, entries, command, kv}
 use Rattle.takes_lines.specs.declared.fields.Field.{Field}
 use Rattle.takes_lines.specs.declared.fields.Field.TheVariants.{Letter, Group, First, Index, File, Length, Key, Value, Extra}
@@ -11,11 +11,10 @@ use Rattle.takes_rules.specs.Lines.{length_limit, number_limit, append_file, ent
 abbrev pub kept_most : ℕ
 kept_most = 33
 
--- the open field: whether a number has a digit or the first digit of a byte waits, the number's value so far, the digit that waits
+-- the open field: the value of a number's digits, if it has one; the first digit of a byte, if it waits for the second
 pub record Digits : Type 0 where
-  pub begun : Bool
-  pub number : ℕ
-  pub high : ℕ
+  pub number : Option ℕ
+  pub high : Option ℕ
 
 -- the fields by 01's names; `next` is the index of the next entry, from `first` on
 pub record Named : Type 0 where
@@ -36,7 +35,7 @@ pub record Reading : Type 0 where
 -- ---- changes
 
 abbrev pub no_digits : Digits
-no_digits = record { begun = false; number = 0; high = 0 }
+no_digits = record { number = None; high = None }
 
 abbrev pub nothing : Named
 nothing = record { group = 0; next = 0; index = 0; file = 0; entries = []; key = []; value = [] }
@@ -79,9 +78,14 @@ with_value_byte b n = record { group = n.group; next = n.next; index = n.index; 
 abbrev pub with_digits : Digits → Reading → Reading
 with_digits d r = record { letter = r.letter; field = r.field; digits = d; named = r.named }
 
--- with no open digits
+abbrev pub with_number : Option ℕ → Reading → Reading
+with_number v r = with_digits (record { number = v; high = r.digits.high }) r
+
+abbrev pub with_high : Option ℕ → Reading → Reading
+with_high d r = with_digits (record { number = r.digits.number; high = d }) r
+
 abbrev pub with_named : Named → Reading → Reading
-with_named n r = record { letter = r.letter; field = r.field; digits = no_digits; named = n }
+with_named n r = record { letter = r.letter; field = r.field; digits = r.digits; named = n }
 
 -- ---- one more byte of the open field; none is malformed
 
@@ -89,22 +93,22 @@ unfoldable pub is_letter : ℕ → Bool
 is_letter b = eqb b letter_e || (eqb b letter_p || (eqb b letter_d || (eqb b letter_c || (eqb b letter_x || eqb b letter_m))))
 
 unfoldable pub add_letter : Reading → ℕ → Option Reading
-add_letter r b = cond (eqb r.letter 0 && is_letter b) (some (record { letter = b; field = r.field; digits = r.digits; named = r.named })) none
+add_letter r b = cond (eqb r.letter 0 && is_letter b) (Some (record { letter = b; field = r.field; digits = r.digits; named = r.named })) None
 
+-- a number without a digit counts as 0
 unfoldable pub add_digit : ℕ → Reading → ℕ → Option Reading
 add_digit limit r b =
-    cond (is_digit_byte b && ltb (r.digits.number * 10 + (b - 48)) limit)
-    (some (with_digits (record { begun = true; number = r.digits.number * 10 + (b - 48); high = r.digits.high }) r))
-    none
+    cond (is_digit_byte b && ltb (unwrap_or r.digits.number 0 * 10 + (b - 48)) limit)
+    (Some (with_number (Some (unwrap_or r.digits.number 0 * 10 + (b - 48))) r))
+    None
 
--- the second digit makes a byte, which `with_byte` adds
+-- the digit d behind the one that waits, if one does: the two make a byte, which `with_byte` adds
+unfoldable pub pair : (ℕ → Named → Named) → Option ℕ → ℕ → Reading → Reading
+pair with_byte None d r = with_high (Some d) r
+pair with_byte (Some high) d r = with_named (with_byte (high * 16 + d) r.named) (with_high None r)
+
 unfoldable pub add_hex : (ℕ → Named → Named) → Reading → ℕ → Option Reading
-add_hex with_byte r b =
-    bind (hex_digit b)
-    (λ d.
-    some (cond r.digits.begun
-    (with_named (with_byte (r.digits.high * 16 + d) r.named) r)
-    (with_digits (record { begun = true; number = r.digits.number; high = d }) r)))
+add_hex with_byte r b = bind (hex_digit b) (λ d. Some (pair with_byte r.digits.high d r))
 
 unfoldable pub add_to : Field → Reading → ℕ → Option Reading
 add_to Letter = add_letter
@@ -115,24 +119,24 @@ add_to File = add_digit number_limit
 add_to Length = add_digit length_limit
 add_to Key = add_hex with_key_byte
 add_to Value = add_hex with_value_byte
-add_to Extra = λ r b. none
+add_to Extra = λ r b. None
 
 -- ---- the end of the open field
 
 -- a number has a digit
 unfoldable pub close_number : (ℕ → Named → Named) → Reading → Option Reading
-close_number with_number r = cond r.digits.begun (some (with_named (with_number r.digits.number r.named) r)) none
+close_number with_value r = bind r.digits.number (λ v. Some (with_named (with_value v r.named) (with_number None r)))
 
 -- the index of a length's entry is below 2^64
 unfoldable pub close_length : Reading → Option Reading
-close_length r = cond (ltb r.named.next number_limit) (close_number with_entry r) none
+close_length r = cond (ltb r.named.next number_limit) (close_number with_entry r) None
 
 -- no digit waits
 unfoldable pub close_bytes : Reading → Option Reading
-close_bytes r = cond r.digits.begun none (some r)
+close_bytes r = cond (is_some r.digits.high) None (Some r)
 
 unfoldable pub close_as : Field → Reading → Option Reading
-close_as Letter = some
+close_as Letter = Some
 close_as Group = close_number with_group
 close_as First = close_number with_first
 close_as Index = close_number with_index
@@ -140,7 +144,7 @@ close_as File = close_number with_file
 close_as Length = close_length
 close_as Key = close_bytes
 close_as Value = close_bytes
-close_as Extra = λ r. none
+close_as Extra = λ r. None
 
 unfoldable pub close : Reading → Option Reading
 close r = close_as r.field r
@@ -165,8 +169,8 @@ with_next r = record { letter = r.letter; field = after r.letter r.field; digits
 -- ---- a byte, and all bytes
 
 unfoldable pub next_field : Option Reading → Option Reading
-next_field none = none
-next_field (some r) = some (with_next r)
+next_field None = None
+next_field (Some r) = Some (with_next r)
 
 unfoldable pub add_byte : Reading → ℕ → Option Reading
 add_byte r b = cond (eqb b comma) (next_field (close r)) (add_to r.field r b)
@@ -203,15 +207,15 @@ said_by Index n = batch (batch_of_one n.file n.group (command (compact n.index))
 said_by File n = malformed
 said_by Length n = batch (batch_of_one n.file n.group (entries n.entries))
 said_by Key n = batch (batch_of_one n.file n.group (kv n.key del))
-said_by Value n = batch (batch_of_one n.file n.group (kv n.key (put (some n.value) (some (append_file n.file)))))
+said_by Value n = batch (batch_of_one n.file n.group (kv n.key (put (Some n.value) (Some (append_file n.file)))))
 said_by Extra n = malformed
 
 unfoldable pub whole : Reading → Line
 whole r = cond (is_last r.field r.letter) (said_by r.field r.named) malformed
 
 unfoldable pub whole_line : Option Reading → Line
-whole_line none = malformed
-whole_line (some r) = whole r
+whole_line None = malformed
+whole_line (Some r) = whole r
 
 -- what the bytes read so far say, if the line ends here
 unfoldable pub end_line : Option Reading → Line

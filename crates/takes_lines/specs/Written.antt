@@ -1,19 +1,13 @@
 -- What the functions that write a line promise, and that a number's digits are read as that number. Assumes nothing.
-use Rattle.std.specs.Prelude.{◌≡◌, refl, List, [], ◌∷◌, ℕ, zero, suc, ◌+◌, ◌*◌, ◌-◌, ◌/◌, ◌%◌, ◌^◌, ◌≤◌, ◌<◌, ltb, length, take, drop}
+use Rattle.std.specs.Prelude.{◌≡◌, refl, List, [], ◌∷◌, ℕ, zero, suc, ◌+◌, ◌*◌, ◌-◌, ◌/◌, ◌%◌, ◌^◌, ◌≤◌, ◌<◌, ltb, length, take}
 use Rattle.std.proofs.Common.{◌∙◌, zero-add, pow-suc, div-add-mod'}
-use Rattle.std.proofs.Math.Option.{some}
+use Rattle.std.specs.Prelude.{Some}
 use native.Mathlib.Omega.{arith}
 use borrow.Author.Tests.{lt-ltb, le-leb, ltb-true, ltb-false}
 use Rattle.maps.specs.OrderLaws.{split}
 use Rattle.cells.specs.Part.{put}
 use Rattle.takes_rules.specs.Fields.{bind, is_digit_byte, decimal_from, below, number}
 use Rattle.takes_rules.specs.Output.{digits_before, decimal}
-
--- the digits stand from place i of the slice to its end
-pub record Spelt (n i : ℕ) (digits : List ℕ) : Type 0 where
-  pub twenty : length digits ≡ 20
-  pub inside : i < 20
-  pub spells : drop i digits ≡ decimal n
 
 -- the bytes s are laid in at a place, and e is the place behind them
 pub record WrittenAt (out : List ℕ) (at : ℕ) (s : List ℕ) (e : ℕ) (out' : List ℕ) : Type 0 where
@@ -89,6 +83,6 @@ number_of limit [] h = absurd (omega arith)
 number_of limit (b ∷ s) h = refl
 
 -- a number that was printed is read as itself
-pub decimal-read : (limit n : ℕ) → n < 10 ^ 20 → n < limit → number limit (decimal n) ≡ some n
+pub decimal-read : (limit n : ℕ) → n < 10 ^ 20 → n < limit → number limit (decimal n) ≡ Some n
 unfolding decimal decimal_from below bind
 decimal-read limit n h l = rw (number_of limit (digits_before 20 n []) (some-digit 19 n), digits-read 20 n [] h (omega arith), lt-ltb n limit l)

@@ -1,154 +1,112 @@
 // One more byte of the open field.
-ghost use Rattle.std.specs.Prelude.{true, false, cond, ◌&&◌, ◌≡◌, ◌+◌, ◌*◌, ◌≤◌, ◌<◌, leb, ltb, length};
-ghost use Rattle.std.proofs.Math.Option.{none, some};
-ghost use Rattle.takes_rules.specs.Fields.{hex_digit};
-ghost use Rattle.takes_lines.specs.Reading.{add_letter, add_digit, add_hex, add_to};
-ghost use Rattle.takes_lines.specs.Views.{byte_for, with_byte, Sound, Turns, TurnsBytes};
+ghost use Rattle.std.specs.Prelude.{None, Some, cond, ◌≡◌, ◌+◌, ◌-◌, ◌*◌, ◌≤◌, ◌<◌, length, IfSome, SomeIff};
+ghost use Rattle.cells.specs.Part.{part};
+ghost use Rattle.takes_rules.specs.Fields.{hex_digit, is_digit_byte};
+ghost use Rattle.takes_lines.specs.Reading.{keep, add_letter, add_digit, add_hex, add_to};
+ghost use Rattle.takes_lines.specs.Views.{byte_for, Turns, TurnsBytes};
 
-use crate::close::ruin;
-use crate::fields::{Field, is_letter};
-use crate::reader::{KEPT_MOST, LineReader, MOST_LENGTH};
+use crate::fields::{Field, Letter};
+use crate::line::{LineReader, Malformed, OpenLine};
+use crate::reader::{KEPT_MOST, MOST_LENGTH};
 
-fn add_letter(h: LineReader, b: u8) -> LineReader
-    requires { (h.malformed ≡ false) × Sound h }
-    ensures { Turns h result (λ x. add_letter x b) }
+#[tactic(auto, using(crate::proofs::AddWays::letter_is), unfolding(crate::specs::Reading::add_letter, crate::specs::Views::read_of, crate::specs::Views::reading_of, crate::specs::Views::named_of))]
+fn add_letter(mut line: OpenLine, b: u8) -> LineReader
+    ensures { Turns line result (λ x. add_letter x b) }
 {
-    if !is_letter(b) {
-        return ruin(h);
+    let letter = Letter::try_from(b)?;
+    if line.letter.is_some() {
+        return Err(Malformed);
     }
-    if h.letter == 0 {
-        return LineReader { letter: b, ..h };
-    }
-    ruin(h)
+    line.letter = Some(letter);
+    Ok(line)
 }
 
-// Whether a byte is one of those from `low` to `high`.
-fn between(b: u8, low: u8, high: u8) -> bool
-    ensures { result ≡ leb low b && leb b high }
+// A number with one more digit, if it is at most `most`.
+fn with_digit(number: u64, digit: u64, most: u64) -> Option<u64>
+    ensures { SomeIff result (number * 10 + digit ≤ most) (number * 10 + digit) }
 {
-    if b < low {
-        return false;
-    }
-    b <= high
+    number
+        .checked_mul(10)?
+        .checked_add(digit)
+        .filter(|more| *more <= most)
+}
+
+// The value of a decimal digit.
+#[tactic(auto, using(std::proofs::lemmas::Bool::Decides::nat_tests), unfolding(takes_rules::specs::Fields::is_digit_byte))]
+fn decimal_digit(b: u8) -> Option<u64>
+    ensures { result ≡ cond (is_digit_byte b) (Some (b - 48)) None }
+{
+    let digit = char::from(b).to_digit(10)?;
+    Some(digit as u64)
 }
 
 // A digit of a number of at most `most`.
-fn add_digit(h: LineReader, b: u8, most: u64) -> LineReader
-    requires malformed_value { (h.malformed ≡ false) × Sound h }
-    requires le_most { 9 ≤ most }
-    ensures { Turns h result (λ x. add_digit (most + 1) x b) }
+#[tactic(auto, using(std::proofs::lemmas::Bool::Decides::nat_tests), unfolding(crate::specs::Reading::add_digit, crate::specs::Views::read_of, crate::specs::Views::reading_of, crate::specs::Views::named_of))]
+fn add_digit(mut line: OpenLine, b: u8, most: u64) -> LineReader
+    ensures { Turns line result (λ x. add_digit (most + 1) x b) }
 {
-    if !between(b, b'0', b'9') {
-        return ruin(h);
-    }
-    let digit = (b - b'0') as u64;
-    if (most - digit) / 10 < h.number {
-        return ruin(h);
-    }
-    let number = h.number * 10 + digit;
-    LineReader {
-        begun: true,
-        number,
-        ..h
-    }
+    let digit = decimal_digit(b).ok_or(Malformed)?;
+    let number = with_digit(line.number.unwrap_or(0), digit, most).ok_or(Malformed)?;
+    line.number = Some(number);
+    Ok(line)
 }
 
-// How many hexadecimal digits there are.
-const HEX_DIGITS: u8 = 16;
-
-// What a letter that is a hexadecimal digit is above its value.
-const UPPER_ABOVE: u8 = b'A' - 10;
-
-const LOWER_ABOVE: u8 = b'a' - 10;
-
-// The value of a hexadecimal digit, and 16 for another byte.
-fn hex_digit(b: u8) -> u8
-    ensures { hex_digit b ≡ cond (ltb result 16) (some result) none }
+// The value of a hexadecimal digit, of either case.
+#[tactic(auto, using(std::proofs::lemmas::Bool::Decides::nat_tests), unfolding(takes_rules::specs::Fields::hex_digit, takes_rules::specs::Fields::is_digit_byte))]
+fn hex_digit(b: u8) -> Option<u8>
+    ensures is { result ≡ hex_digit b }
+    ensures small { IfSome result (λ d. d < 16) }
 {
-    if between(b, b'0', b'9') {
-        return b - b'0';
-    }
-    if between(b, b'A', b'F') {
-        return b - UPPER_ABOVE;
-    }
-    if between(b, b'a', b'f') {
-        return b - LOWER_ABOVE;
-    }
-    HEX_DIGITS
+    let digit = char::from(b).to_digit(16)?;
+    Some(digit as u8)
 }
 
-// A byte of the key or of the value, put behind those before it, if it is kept.
-fn add_byte(h: LineReader, byte: u8, is_key: bool, bytes: &mut [u8]) -> LineReader
-    requires malformed_value { (h.malformed ≡ false) × Sound h }
-    requires bytes_len { length bytes.old ≡ 66 }
-    ensures { TurnsBytes h bytes.old result bytes.new (with_byte is_key byte) }
+// Puts a byte behind the `len` that are kept, if more may be; the answer is how many are kept then.
+#[tactic(auto, using(crate::proofs::AddWays::keep_part, crate::proofs::AddWays::keep_full))]
+fn keep(kept: &mut [u8], len: usize, byte: u8) -> usize
+    requires { (length kept.old ≡ 33) × (len ≤ 33) }
+    ensures keeps { part 0 result kept.new ≡ keep (part 0 len kept.old) byte }
+    ensures most { result ≤ 33 }
 {
-    let next = LineReader {
-        begun: false,
-        number: 0,
-        high: 0,
-        ..h
+    if len == kept.len() {
+        return len;
+    }
+    kept[len] = byte;
+    len + 1
+}
+
+// A hexadecimal digit; the second makes a byte of the key or of the value.
+#[tactic(auto, unfolding(crate::specs::Reading::add_hex, crate::specs::Reading::pair, crate::specs::Views::read_of, crate::specs::Views::reading_of, crate::specs::Views::named_of, takes_rules::specs::Fields::bind))]
+fn add_hex(mut line: OpenLine, b: u8, is_key: bool, bytes: &mut [u8]) -> LineReader
+    requires { length bytes.old ≡ 66 }
+    ensures { TurnsBytes line bytes.old result bytes.new (λ x. add_hex (byte_for is_key) x b) }
+{
+    let digit = hex_digit(b).ok_or(Malformed)?;
+    let Some(high) = line.high.take() else {
+        line.high = Some(digit);
+        return Ok(line);
     };
-    let key_len = h.key_len;
-    let value_len = h.value_len;
+    let byte = high * 16 + digit;
     if is_key {
-        if key_len < KEPT_MOST {
-            bytes[key_len] = byte;
-            let more = key_len + 1;
-            return LineReader {
-                key_len: more,
-                ..next
-            };
-        }
-        return next;
+        line.key_len = keep(&mut bytes[..KEPT_MOST], line.key_len, byte);
+        return Ok(line);
     }
-    if value_len < KEPT_MOST {
-        bytes[KEPT_MOST + value_len] = byte;
-        let more = value_len + 1;
-        return LineReader {
-            value_len: more,
-            ..next
-        };
-    }
-    next
-}
-
-// A hexadecimal digit; the second makes a byte.
-fn add_hex(h: LineReader, b: u8, is_key: bool, bytes: &mut [u8]) -> LineReader
-    requires malformed_value { (h.malformed ≡ false) × Sound h }
-    requires bytes_len { length bytes.old ≡ 66 }
-    ensures { TurnsBytes h bytes.old result bytes.new (λ x. add_hex (byte_for is_key) x b) }
-{
-    let digit = hex_digit(b);
-    if 15 < digit {
-        return ruin(h);
-    }
-    if h.begun {
-        return add_byte(h, h.high * HEX_DIGITS + digit, is_key, bytes);
-    }
-    LineReader {
-        begun: true,
-        high: digit,
-        ..h
-    }
+    line.value_len = keep(&mut bytes[KEPT_MOST..], line.value_len, byte);
+    Ok(line)
 }
 
 // Adds a byte that is no comma to the open field.
-pub fn add_to(h: LineReader, b: u8, bytes: &mut [u8]) -> LineReader
-    requires malformed_value { (h.malformed ≡ false) × Sound h }
-    requires bytes_len { length bytes.old ≡ 66 }
-    ensures { TurnsBytes h bytes.old result bytes.new (λ x. add_to x.field x b) }
+#[tactic(auto, unfolding(crate::specs::Reading::add_to, crate::specs::Views::read_of, crate::specs::Views::reading_of))]
+pub fn add_to(line: OpenLine, b: u8, bytes: &mut [u8]) -> LineReader
+    requires { length bytes.old ≡ 66 }
+    ensures { TurnsBytes line bytes.old result bytes.new (λ x. add_to x.field x b) }
 {
-    let field = h.field;
-    match field {
-        Field::Letter => add_letter(h, b),
-        Field::Group => add_digit(h, b, u64::MAX),
-        Field::First => add_digit(h, b, u64::MAX),
-        Field::Index => add_digit(h, b, u64::MAX),
-        Field::File => add_digit(h, b, u64::MAX),
-        Field::Length => add_digit(h, b, MOST_LENGTH),
-        Field::Key => add_hex(h, b, true, bytes),
-        Field::Value => add_hex(h, b, false, bytes),
-        Field::Extra => ruin(h),
+    match line.field {
+        Field::Letter => add_letter(line, b),
+        Field::Group | Field::First | Field::Index | Field::File => { add_digit(line, b, u64::MAX) }
+        Field::Length => add_digit(line, b, MOST_LENGTH),
+        Field::Key => add_hex(line, b, true, bytes),
+        Field::Value => add_hex(line, b, false, bytes),
+        Field::Extra => Err(Malformed),
     }
 }

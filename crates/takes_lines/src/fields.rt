@@ -1,9 +1,42 @@
-// The fields of a line, in the order that its letter gives them.
-ghost use Rattle.std.specs.Prelude.{cond, ◌≡◌};
-ghost use Rattle.takes_lines.specs.Reading.{is_letter, after, is_last};
+// The letters of lines, and the fields of a line in the order that its letter gives them.
+ghost use Rattle.std.specs.Prelude.{◌≡◌};
+ghost use Rattle.takes_lines.specs.Reading.{after, is_last};
+ghost use Rattle.takes_lines.specs.Letters.{letter_number, Decodes};
+
+use crate::line::Malformed;
+
+// What a line says of a group, by its letter; M stands alone, and ends a run.
+#[derive(Clone, Copy, Debug, PartialEq, Eq)]
+pub enum Letter {
+    Entries,
+    Put,
+    Del,
+    Compact,
+    Clean,
+    Merge,
+}
+
+impl TryFrom<u8> for Letter {
+    type Error = Malformed;
+
+    ghost try_from_gives = { Decodes };
+
+    #[tactic(auto, using(std::proofs::lemmas::Bool::Decides::nat_tests), unfolding(crate::specs::Reading::is_letter))]
+    fn try_from(b: u8) -> Result<Self, Malformed> {
+        match b {
+            b'E' => Ok(Letter::Entries),
+            b'P' => Ok(Letter::Put),
+            b'D' => Ok(Letter::Del),
+            b'C' => Ok(Letter::Compact),
+            b'X' => Ok(Letter::Clean),
+            b'M' => Ok(Letter::Merge),
+            _ => Err(Malformed),
+        }
+    }
+}
 
 // The fields by document 01's names, and one that the line's letter does not have.
-#[derive(Clone, Copy)]
+#[derive(Clone, Copy, Debug, PartialEq, Eq)]
 pub enum Field {
     Letter,
     Group,
@@ -16,83 +49,39 @@ pub enum Field {
     Extra,
 }
 
-pub fn is_letter(b: u8) -> bool
-    ensures { result ≡ is_letter b }
+// The field behind `field` in a line of this letter.
+#[tactic(auto, unfolding(crate::specs::Reading::after))]
+pub fn after(letter: Option<Letter>, field: Field) -> Field
+    ensures { result ≡ after (letter_number letter) field }
 {
-    match b {
-        b'E' => true,
-        b'P' => true,
-        b'D' => true,
-        b'C' => true,
-        b'X' => true,
-        b'M' => true,
-        _ => false,
-    }
-}
-
-// The field behind the group.
-fn after_group(letter: u8) -> Field
-    ensures { result ≡ after letter Field.Group }
-{
-    match letter {
-        b'E' => Field::First,
-        b'P' => Field::File,
-        b'D' => Field::Key,
-        b'C' => Field::Index,
+    match (field, letter) {
+        (Field::Letter, None | Some(Letter::Merge)) => Field::Extra,
+        (Field::Letter, Some(_)) => Field::Group,
+        (Field::Group, Some(Letter::Entries)) => Field::First,
+        (Field::Group, Some(Letter::Put)) => Field::File,
+        (Field::Group, Some(Letter::Del)) => Field::Key,
+        (Field::Group, Some(Letter::Compact)) => Field::Index,
+        (Field::First, _) => Field::File,
+        (Field::File, Some(Letter::Entries)) => Field::Length,
+        (Field::File, _) => Field::Key,
+        (Field::Length, _) => Field::Length,
+        (Field::Key, Some(Letter::Put)) => Field::Value,
         _ => Field::Extra,
     }
 }
 
-// The field behind the letter, which is 0 where there is none.
-fn after_letter(letter: u8) -> Field
-    ensures { result ≡ after letter Field.Letter }
-{
-    match letter {
-        0 => Field::Extra,
-        b'M' => Field::Extra,
-        _ => Field::Group,
-    }
-}
-
-fn either(test: bool, yes: Field, no: Field) -> Field
-    ensures { result ≡ cond test yes no }
-{
-    if test {
-        return yes;
-    }
-    no
-}
-
-// The field behind `field` in a line of this letter.
-pub fn after(letter: u8, field: Field) -> Field
-    ensures { result ≡ after letter field }
-{
-    match field {
-        Field::Letter => after_letter(letter),
-        Field::Group => after_group(letter),
-        Field::First => Field::File,
-        Field::Index => Field::Extra,
-        Field::File => either(letter == b'E', Field::Length, Field::Key),
-        Field::Length => Field::Length,
-        Field::Key => either(letter == b'P', Field::Value, Field::Extra),
-        Field::Value => Field::Extra,
-        Field::Extra => Field::Extra,
-    }
-}
-
 // Whether a line of this letter may end with `field`.
-pub fn is_last(letter: u8, field: Field) -> bool
-    ensures { result ≡ is_last field letter }
+#[tactic(auto, unfolding(crate::specs::Reading::is_last))]
+pub fn is_last(letter: Option<Letter>, field: Field) -> bool
+    ensures { result ≡ is_last field (letter_number letter) }
 {
-    match field {
-        Field::Letter => letter == b'M',
-        Field::Group => letter == b'X',
-        Field::First => false,
-        Field::Index => letter == b'C',
-        Field::File => false,
-        Field::Length => letter == b'E',
-        Field::Key => letter == b'D',
-        Field::Value => letter == b'P',
-        Field::Extra => false,
-    }
+    matches!(
+        (field, letter),
+        (Field::Letter, Some(Letter::Merge))
+            | (Field::Group, Some(Letter::Clean))
+            | (Field::Index, Some(Letter::Compact))
+            | (Field::Length, Some(Letter::Entries))
+            | (Field::Key, Some(Letter::Del))
+            | (Field::Value, Some(Letter::Put))
+    )
 }

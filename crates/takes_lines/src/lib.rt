@@ -5,7 +5,9 @@ mod add;
 mod close;
 pub mod fields;
 mod items;
+pub mod line;
 pub mod output;
 pub mod reader;
 
-pub use reader::{Answer, LineReader, feed, feed_all, finish, read_line, start};
+pub use line::{Lent, Line, LineReader, Malformed, OpenLine};
+pub use reader::{feed, feed_all, finish, read_line, start};

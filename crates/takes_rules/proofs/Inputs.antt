@@ -1,7 +1,7 @@
 -- Lines as 01 has them, malformed ones of every kind, and refusals, each list at once. Assumes nothing.
 use mathlib.Core.Path.{◌≡◌, refl}
 use mathlib.Core.List.{List, [], ◌∷◌, map}
-use mathlib.Core.Option.{some}
+use Rattle.std.specs.Prelude.{Some}
 use Prim.Native.Nat.{ℕ}
 use Rattle.rules.specs.Items.{clean, compact, put, del, entries, command, kv}
 use Rattle.takes_rules.specs.Lines.{append_file, entry_at, batch_of_one, Line, malformed, next_run, batch, line_of}
@@ -26,12 +26,12 @@ lines =
 abbrev said : List Line
 said =
     batch (batch_of_one 1 7 (entries (entry_at 1 1 10 ∷ entry_at 2 1 10 ∷ entry_at 3 1 10 ∷ []))) ∷
-    batch (batch_of_one 1 7 (kv (0x6b ∷ []) (put (some (0x76 ∷ [])) (some (append_file 1))))) ∷
+    batch (batch_of_one 1 7 (kv (0x6b ∷ []) (put (Some (0x76 ∷ [])) (Some (append_file 1))))) ∷
     next_run ∷
     batch (batch_of_one 2 7 (entries (entry_at 3 2 20 ∷ entry_at 4 2 20 ∷ []))) ∷
     batch (batch_of_one 0 7 (command (compact 2))) ∷
     batch (batch_of_one 0 7 (kv (0x6b ∷ []) del)) ∷
-    batch (batch_of_one 2 9 (kv (0x61 ∷ []) (put (some []) (some (append_file 2))))) ∷
+    batch (batch_of_one 2 9 (kv (0x61 ∷ []) (put (Some []) (Some (append_file 2))))) ∷
     batch (batch_of_one 1 7 (entries (entry_at 18446744073709551615 1 4294967295 ∷ []))) ∷
     batch (batch_of_one 0 7 (kv (0x6b ∷ 0x6b ∷ []) del)) ∷
     batch (batch_of_one 0 7 (command clean)) ∷

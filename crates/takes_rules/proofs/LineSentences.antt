@@ -1,11 +1,11 @@
 -- 01's sentences on the lines that `takes` reads, one by one; each group of facts begins with the sentence that it shows. Assumes nothing.
 use mathlib.Core.Path.{◌≡◌, refl}
 use mathlib.Core.List.{List, [], ◌∷◌, map}
-use mathlib.Core.Option.{some}
+use Rattle.std.specs.Prelude.{Some}
 use Prim.Native.Nat.{ℕ}
 use Prim.Native.String.{String}
-use Rattle.pipe_log.specs.declared.CompressionType.{TheVariants.None}
-use Rattle.rules.specs.Items.{FileId, Append, EntryIndex, At, clean, compact, put, del, entries, command, kv}
+use Rattle.pipe_log.specs.declared.CompressionType.TheVariants as compression
+use Rattle.rules.specs.Items.{FileId, Append, EntryIndex, clean, compact, put, del, entries, command, kv}
 use Rattle.takes_rules.specs.Lines.{append_file, entry_at, batch_of_one, Line, malformed, batch, line_of}
 use Rattle.takes_rules.proofs.Texts.{bytes, lines}
 use Rattle.takes_rules.proofs.Opened.{takes_opened}
@@ -22,8 +22,8 @@ abbrev entry : ℕ → ℕ → EntryIndex
 entry index length =
     record {
       index = index;
-      entries = At (record { id = file3; offset = 0; len = 0 });
-      compression_type = None;
+      entries = Some (record { id = file3; offset = 0; len = 0 });
+      compression_type = compression.None;
       entry_offset = 0;
       entry_len = length;
     }
@@ -32,7 +32,7 @@ entries-said : line_of (bytes "E,7,5,3,9,8") ≡ batch (record { file = file3; i
 unfolding takes_opened
 entries-said = refl
 
-put-said : line_of (bytes "P,7,3,6b,76") ≡ batch (record { file = file3; items = record { group = 7; content = kv (0x6b ∷ []) (put (some (0x76 ∷ [])) (some file3)) } ∷ [] })
+put-said : line_of (bytes "P,7,3,6b,76") ≡ batch (record { file = file3; items = record { group = 7; content = kv (0x6b ∷ []) (put (Some (0x76 ∷ [])) (Some file3)) } ∷ [] })
 unfolding takes_opened
 put-said = refl
 
@@ -59,7 +59,7 @@ other-bytes-malformed = refl
 abbrev greatest : List Line
 greatest =
     batch (batch_of_one 18446744073709551615 18446744073709551615 (entries (entry_at 0 18446744073709551615 4294967295 ∷ entry_at 1 18446744073709551615 0 ∷ []))) ∷
-    batch (batch_of_one 18446744073709551615 18446744073709551615 (kv (0x6b ∷ []) (put (some (0x76 ∷ [])) (some (append_file 18446744073709551615))))) ∷
+    batch (batch_of_one 18446744073709551615 18446744073709551615 (kv (0x6b ∷ []) (put (Some (0x76 ∷ [])) (Some (append_file 18446744073709551615))))) ∷
     batch (batch_of_one 0 18446744073709551615 (kv (0x6b ∷ []) del)) ∷
     batch (batch_of_one 0 18446744073709551615 (command (compact 18446744073709551615))) ∷
     batch (batch_of_one 0 18446744073709551615 (command clean)) ∷
@@ -98,7 +98,7 @@ abbrev hexadecimals : List Line
 hexadecimals =
     batch (batch_of_one 0 7 (kv (0x01 ∷ 0x23 ∷ 0x45 ∷ 0x67 ∷ 0x89 ∷ 0xab ∷ 0xcd ∷ 0xef ∷ []) del)) ∷
     batch (batch_of_one 0 7 (kv (0xab ∷ 0xcd ∷ 0xef ∷ []) del)) ∷
-    batch (batch_of_one 1 7 (kv (0x00 ∷ 0xff ∷ []) (put (some (0x10 ∷ [])) (some (append_file 1))))) ∷
+    batch (batch_of_one 1 7 (kv (0x00 ∷ 0xff ∷ []) (put (Some (0x10 ∷ [])) (Some (append_file 1))))) ∷
     batch (batch_of_one 0 7 (kv (0x6b ∷ 0x6b ∷ []) del)) ∷
     []
 

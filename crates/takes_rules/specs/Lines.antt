@@ -1,8 +1,8 @@
 -- What a line of 01's program `takes` says: the next run, a batch of one item, or nothing, if it is malformed. One definition a letter, in 01's order.
 use Rattle.std.specs.Prelude.{cond, List, [], ◌∷◌, ℕ, suc, ◌^◌, eqb, ltb}
-use Rattle.std.proofs.Math.Option.{Option, none, some}
-use Rattle.pipe_log.specs.declared.CompressionType.{TheVariants.None}
-use Rattle.rules.specs.Items.{FileId, Append, EntryIndex, At, clean, compact, put, del, Content, entries, command, kv, Batch}
+use Rattle.std.specs.Prelude.{Option, None, Some}
+use Rattle.pipe_log.specs.declared.CompressionType.TheVariants as compression
+use Rattle.rules.specs.Items.{FileId, Append, EntryIndex, clean, compact, put, del, Content, entries, command, kv, Batch}
 use Rattle.takes_rules.specs.Fields.{bind, number, hexadecimal, first_field, other_fields}
 
 -- lengths are below 2^32, other numbers below 2^64
@@ -21,8 +21,8 @@ unfoldable pub entry_at : ℕ → ℕ → ℕ → EntryIndex
 entry_at index file length =
     record {
       index = index;
-      entries = At (record { id = append_file file; offset = 0; len = 0 });
-      compression_type = None;
+      entries = Some (record { id = append_file file; offset = 0; len = 0 });
+      compression_type = compression.None;
       entry_offset = 0;
       entry_len = length;
     }
@@ -34,60 +34,60 @@ batch_of_one file group c = record { file = append_file file; items = record { g
 -- ---- E,group,first,file,lengths: entries by consecutive indexes from `first`, none of which passes 2^64−1
 
 unfoldable pub entries_from : ℕ → ℕ → List (List ℕ) → Option (List EntryIndex)
-entries_from index file [] = some []
+entries_from index file [] = Some []
 entries_from index file (length ∷ lengths) =
     bind (number length_limit length)
-    (λ n. cond (ltb index number_limit) (bind (entries_from (suc index) file lengths) (λ es. some (entry_at index file n ∷ es))) none)
+    (λ n. cond (ltb index number_limit) (bind (entries_from (suc index) file lengths) (λ es. Some (entry_at index file n ∷ es))) None)
 
 -- there is at least one length
 unfoldable pub entries_line : List (List ℕ) → Option Batch
-entries_line [] = none
-entries_line (group ∷ []) = none
-entries_line (group ∷ (first ∷ [])) = none
-entries_line (group ∷ (first ∷ (file ∷ []))) = none
+entries_line [] = None
+entries_line (group ∷ []) = None
+entries_line (group ∷ (first ∷ [])) = None
+entries_line (group ∷ (first ∷ (file ∷ []))) = None
 entries_line (group ∷ (first ∷ (file ∷ (length ∷ lengths)))) =
     bind (number number_limit group)
     (λ g. bind (number number_limit first)
     (λ i. bind (number number_limit file)
-    (λ f. bind (entries_from i f (length ∷ lengths)) (λ es. some (batch_of_one f g (entries es))))))
+    (λ f. bind (entries_from i f (length ∷ lengths)) (λ es. Some (batch_of_one f g (entries es))))))
 
 -- ---- P,group,file,key,value
 
 unfoldable pub put_line : List (List ℕ) → Option Batch
-put_line [] = none
-put_line (group ∷ []) = none
-put_line (group ∷ (file ∷ [])) = none
-put_line (group ∷ (file ∷ (key ∷ []))) = none
+put_line [] = None
+put_line (group ∷ []) = None
+put_line (group ∷ (file ∷ [])) = None
+put_line (group ∷ (file ∷ (key ∷ []))) = None
 put_line (group ∷ (file ∷ (key ∷ (value ∷ [])))) =
     bind (number number_limit group)
     (λ g. bind (number number_limit file)
     (λ f. bind (hexadecimal key)
-    (λ k. bind (hexadecimal value) (λ v. some (batch_of_one f g (kv k (put (some v) (some (append_file f)))))))))
-put_line (group ∷ (file ∷ (key ∷ (value ∷ (extra ∷ more))))) = none
+    (λ k. bind (hexadecimal value) (λ v. Some (batch_of_one f g (kv k (put (Some v) (Some (append_file f)))))))))
+put_line (group ∷ (file ∷ (key ∷ (value ∷ (extra ∷ more))))) = None
 
 -- ---- D,group,key. Of a line without a file the batch has file 0, which nothing reads.
 
 unfoldable pub del_line : List (List ℕ) → Option Batch
-del_line [] = none
-del_line (group ∷ []) = none
-del_line (group ∷ (key ∷ [])) = bind (number number_limit group) (λ g. bind (hexadecimal key) (λ k. some (batch_of_one 0 g (kv k del))))
-del_line (group ∷ (key ∷ (extra ∷ more))) = none
+del_line [] = None
+del_line (group ∷ []) = None
+del_line (group ∷ (key ∷ [])) = bind (number number_limit group) (λ g. bind (hexadecimal key) (λ k. Some (batch_of_one 0 g (kv k del))))
+del_line (group ∷ (key ∷ (extra ∷ more))) = None
 
 -- ---- C,group,index
 
 unfoldable pub compact_line : List (List ℕ) → Option Batch
-compact_line [] = none
-compact_line (group ∷ []) = none
+compact_line [] = None
+compact_line (group ∷ []) = None
 compact_line (group ∷ (index ∷ [])) =
-    bind (number number_limit group) (λ g. bind (number number_limit index) (λ i. some (batch_of_one 0 g (command (compact i)))))
-compact_line (group ∷ (index ∷ (extra ∷ more))) = none
+    bind (number number_limit group) (λ g. bind (number number_limit index) (λ i. Some (batch_of_one 0 g (command (compact i)))))
+compact_line (group ∷ (index ∷ (extra ∷ more))) = None
 
 -- ---- X,group
 
 unfoldable pub clean_line : List (List ℕ) → Option Batch
-clean_line [] = none
-clean_line (group ∷ []) = bind (number number_limit group) (λ g. some (batch_of_one 0 g (command clean)))
-clean_line (group ∷ (extra ∷ more)) = none
+clean_line [] = None
+clean_line (group ∷ []) = bind (number number_limit group) (λ g. Some (batch_of_one 0 g (command clean)))
+clean_line (group ∷ (extra ∷ more)) = None
 
 -- ---- a line
 
@@ -97,8 +97,8 @@ pub data Line : Type 0 where
   batch : Batch → Line
 
 unfoldable pub batch_line : Option Batch → Line
-batch_line none = malformed
-batch_line (some b) = batch b
+batch_line None = malformed
+batch_line (Some b) = batch b
 
 -- M
 unfoldable pub merge_line : List (List ℕ) → Line

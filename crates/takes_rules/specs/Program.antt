@@ -3,7 +3,7 @@ use Rattle.std.specs.Prelude.{cond, List, [], ◌∷◌, ◌++◌, ℕ, suc, eqb
 use Rattle.maps.specs.Lists.{or_else}
 use Rattle.maps.specs.Maps.{Map}
 use Rattle.rules.specs.Items.{Append, Rewrite}
-use Rattle.rules.specs.Causes.{Result, ok, refused}
+use Rattle.rules.specs.Causes.{Result, number_of, Ok, Err}
 use Rattle.rules.specs.Table.{Table, first_index_of}
 use Rattle.rules.specs.Context.{Context, fresh}
 use Rattle.rules.specs.Calls.{replay, merge}
@@ -30,13 +30,13 @@ pub record Takes : Type 0 where
 
 -- a refused batch is dropped; line n printed
 unfoldable pub replayed : ℕ → Result Context → Takes → Takes
-replayed n (ok c) t = record { merged = t.merged; run = c; printed = t.printed }
-replayed n (refused r) t = record { merged = t.merged; run = t.run; printed = t.printed ++ refusal_line n r.number }
+replayed n (Ok c) t = record { merged = t.merged; run = c; printed = t.printed }
+replayed n (Err r) t = record { merged = t.merged; run = t.run; printed = t.printed ++ refusal_line n (number_of r.cause) }
 
 -- a refused run is dropped; the next run is fresh
 unfoldable pub merged_as : ℕ → Result Context → Takes → Takes
-merged_as n (ok c) t = record { merged = c; run = fresh Append; printed = t.printed }
-merged_as n (refused r) t = record { merged = t.merged; run = fresh Append; printed = t.printed ++ refusal_line n r.number }
+merged_as n (Ok c) t = record { merged = c; run = fresh Append; printed = t.printed }
+merged_as n (Err r) t = record { merged = t.merged; run = fresh Append; printed = t.printed ++ refusal_line n (number_of r.cause) }
 
 unfoldable pub merge_run : ℕ → Takes → Takes
 merge_run n t = merged_as n (merge t.run t.merged) t

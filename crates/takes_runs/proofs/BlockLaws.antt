@@ -21,50 +21,39 @@ takes-snoc [] b s = refl
 takes-snoc (c ∷ l) b s = takes-snoc l b (take_byte c s)
 
 -- the loop over the bytes: i of them are taken
-pub record Taking (o : Known) (text rows₀ bytes₀ out₀ xs₀ bs₀ ys₀ cs₀ : List ℕ) (k : Known) (n i : ℕ) (items rows bytes out xs bs ys cs : List ℕ) : Type 0 where
+pub record Taking (o : Known) (text rows₀ bytes₀ out₀ xs₀ bs₀ ys₀ cs₀ : List ℕ) (k : Known) (n i : ℕ) (rows bytes out xs bs ys cs : List ℕ) : Type 0 where
   pub steps : Stepped (take_bytes (take i text)) o rows₀ bytes₀ xs₀ bs₀ ys₀ cs₀ (record { known = k; printed = n }) rows bytes out xs bs ys cs
   pub inside : i ≤ length text
   pub lines-few : k.lines ≤ o.lines + i
   pub bound : n ≤ 44 * i
-  pub items-are : length items ≡ 9
-  pub rows_are : length rows ≡ 264
-  pub bytes-are : length bytes ≡ 66
   pub out-is : length out ≡ length out₀
   pub out-fits : length out₀ < 2 ^ 64
 
 module _ (o : Known) (text rows₀ bytes₀ out₀ xs₀ bs₀ ys₀ cs₀ : List ℕ) where
-  pub taking-none : (items : List ℕ) → Fit o items rows₀ bytes₀ xs₀ bs₀ ys₀ cs₀ → length out₀ < 2 ^ 64 → Taking o text rows₀ bytes₀ out₀ xs₀ bs₀ ys₀ cs₀ o 0 0 items rows₀ bytes₀ out₀ xs₀ bs₀ ys₀ cs₀
-  taking-none items f small =
+  pub taking-none : Fit xs₀ bs₀ ys₀ cs₀ → length out₀ < 2 ^ 64 → Taking o text rows₀ bytes₀ out₀ xs₀ bs₀ ys₀ cs₀ o 0 0 rows₀ bytes₀ out₀ xs₀ bs₀ ys₀ cs₀
+  taking-none f small =
       record {
         steps = record {
           goes = λ s h. unfold take_bytes in h;
           prints = λ s h. unfold take_bytes in sym (append-nil s.takes.printed);
           few = omega arith;
-          sound = f.sound;
           merged-area = f.merged-area;
           run-area = f.run-area;
         };
         inside = omega arith;
         lines-few = omega arith;
         bound = omega arith;
-        items-are = f.items-are;
-        rows_are = f.rows_are;
-        bytes-are = f.bytes-are;
         out-is = refl;
         out-fits = small;
       }
 
-  module _ (room : 44 * length text ≤ length out₀) (k : Known) (n i : ℕ) (items rows bytes out xs bs ys cs : List ℕ) (t : Taking o text rows₀ bytes₀ out₀ xs₀ bs₀ ys₀ cs₀ k n i items rows bytes out xs bs ys cs) where
+  module _ (room : 44 * length text ≤ length out₀) (k : Known) (n i : ℕ) (rows bytes out xs bs ys cs : List ℕ) (t : Taking o text rows₀ bytes₀ out₀ xs₀ bs₀ ys₀ cs₀ k n i rows bytes out xs bs ys cs) where
     pub taking-room : i < length text → n + 44 ≤ length out
     taking-room l = omega (arith, t.bound, t.out-is)
 
-    pub taking-fits : Fit k items rows bytes xs bs ys cs
+    pub taking-fits : Fit xs bs ys cs
     taking-fits =
         record {
-          sound = t.steps.sound;
-          items-are = t.items-are;
-          rows_are = t.rows_are;
-          bytes-are = t.bytes-are;
           merged-area = t.steps.merged-area;
           run-area = t.steps.run-area;
         }
@@ -72,7 +61,7 @@ module _ (o : Known) (text rows₀ bytes₀ out₀ xs₀ bs₀ ys₀ cs₀ : Lis
     pub taking_all : length text ≤ i → Stepped (take_bytes text) o rows₀ bytes₀ xs₀ bs₀ ys₀ cs₀ (record { known = k; printed = n }) rows bytes out xs bs ys cs
     taking_all e = rw (take_all i text e) at t.steps
 
-    module _ (r : Step) (items' rows' bytes' p xs' bs' ys' cs' : List ℕ) (more : i < length text)
+    module _ (r : Step) (rows' bytes' p xs' bs' ys' cs' : List ℕ) (more : i < length text)
         (one : Stepped (take_byte (get_or text i 0)) k rows bytes xs bs ys cs r rows' bytes' p xs' bs' ys' cs') (same : length p ≡ length (take (n + 44 - n) (drop n out))) where
       abbrev out' : List ℕ
       out' = put_mid n (n + 44 - n) out p
@@ -97,23 +86,19 @@ module _ (o : Known) (text rows₀ bytes₀ out₀ xs₀ bs₀ ys₀ cs₀ : Lis
       more-goes : (s : Reached) → Holds s o rows₀ bytes₀ xs₀ bs₀ ys₀ cs₀ → Holds (take_bytes (take (i + 1) text) s) r.known rows' bytes' xs' bs' ys' cs'
       more-goes s h = rw (one_more_lem s) (one.goes (take_bytes (take i text) s) (t.steps.goes s h))
 
-      pub taking-more : r.known.lines ≤ k.lines + 1 → length items' ≡ length items → length rows' ≡ length rows → length bytes' ≡ length bytes → Taking o text rows₀ bytes₀ out₀ xs₀ bs₀ ys₀ cs₀ r.known (n + r.printed) (i + 1) items' rows' bytes' out' xs' bs' ys' cs'
-      taking-more a d e f =
+      pub taking-more : r.known.lines ≤ k.lines + 1 → Taking o text rows₀ bytes₀ out₀ xs₀ bs₀ ys₀ cs₀ r.known (n + r.printed) (i + 1) rows' bytes' out' xs' bs' ys' cs'
+      taking-more a =
           record {
             steps = record {
               goes = more-goes;
               prints = more-printed;
               few = omega (arith, one.few, len, lent, length_lent n (n + 44 - n) out p len lent);
-              sound = one.sound;
               merged-area = one.merged-area;
               run-area = one.run-area;
             };
             inside = omega arith;
             lines-few = omega (arith, t.lines-few);
             bound = omega (arith, t.bound, one.few, len);
-            items-are = d ∙ t.items-are;
-            rows_are = e ∙ t.rows_are;
-            bytes-are = f ∙ t.bytes-are;
             out-is = length_lent n (n + 44 - n) out p len lent ∙ t.out-is;
             out-fits = t.out-fits;
           }

@@ -40,19 +40,17 @@ module _ (o : Known) (rows bytes xs bs ys cs : List ℕ) where
         goes = λ s a. rw (last-open s.text s (sym a.begun-is ∙ e)) (h.goes s a);
         prints = λ s a. rw (last-open s.text s (sym a.begun-is ∙ e)) (h.prints s a);
         few = h.few;
-        sound = h.sound;
         merged-area = h.merged-area;
         run-area = h.run-area;
       }
 
   -- it has none
-  pub line_empty : (items out : List ℕ) → o.begun ≡ false → Fit o items rows bytes xs bs ys cs → Stepped end_of_input o rows bytes xs bs ys cs (record { known = o; printed = 0 }) rows bytes out xs bs ys cs
-  line_empty items out e f =
+  pub line_empty : (out : List ℕ) → o.begun ≡ false → Fit xs bs ys cs → Stepped end_of_input o rows bytes xs bs ys cs (record { known = o; printed = 0 }) rows bytes out xs bs ys cs
+  line_empty out e f =
       record {
         goes = λ s a. rw (last_none s.text s (sym a.begun-is ∙ e)) a;
         prints = λ s a. rw (last_none s.text s (sym a.begun-is ∙ e)) (sym (append-nil s.takes.printed));
         few = omega arith;
-        sound = f.sound;
         merged-area = f.merged-area;
         run-area = f.run-area;
       }

@@ -5,15 +5,12 @@ use Prim.Native.Nat.{ℕ, ◌≤◌}
 use native.Mathlib.Omega.{arith}
 use lib.ListN.{length, length-take}
 use Rattle.pipe_log.specs.declared.FileId.{FileId}
-use Rattle.rules.specs.Causes.{Refusal, Result, ok, refused, left}
+use Rattle.rules.specs.Causes.{number_of, Refusal, Result, Ok, Err, left}
 use Rattle.rules.specs.Items.{Append, Batch}
 use Rattle.rules.specs.Context.{Context, fresh}
 use Rattle.rules.specs.Calls.{replay, merge}
 use Rattle.log_batch.specs.Lent.{batch_of}
-use Rattle.contexts.specs.declared.Answer.{Answer}
-use Rattle.contexts.specs.declared.Answer.TheVariants.{Accepted, Refused}
-use Rattle.contexts.specs.declared.Position.{Position}
-use Rattle.contexts.specs.Contexts.{context_of, answer_as, position_of, Called, FreshArea}
+use Rattle.contexts.specs.Contexts.{context_of, answer_as, Called, FreshArea}
 use Rattle.takes_rules.specs.Lines.{malformed, next_run, batch}
 use Rattle.takes_rules.specs.Output.{refusal_line, malformed_line}
 use Rattle.takes_rules.specs.Program.{replayed, merged_as, merge_run, take_line}
@@ -32,60 +29,58 @@ written-few out s r out' w =
     omega (arith, l, m, c)
 
 -- nothing is printed of a call that was accepted
-pub says_nothing : (n : ℕ) (out : List ℕ) → Says (said_of n Accepted) 0 out
+pub says_nothing : (n : ℕ) (out : List ℕ) → Says (said_of n (Ok _)) 0 out
 unfolding said_of
 says_nothing n out = record { said = refl; few = omega arith }
 
-pub says-refusal : (n k : ℕ) (p : Position) (out : List ℕ) (r : ℕ) (out' : List ℕ) → Written out (refusal_line n k) r out' → Says (said_of n (Refused k p)) r out'
+pub says-refusal : (n : ℕ) (x : Refusal) (out : List ℕ) (r : ℕ) (out' : List ℕ) → Written out (refusal_line n (number_of x.cause)) r out' → Says (said_of n (Err x)) r out'
 unfolding said_of
-says-refusal n k p out r out' w = record { said = w.front; few = written-few out (refusal_line n k) r out' w }
+says-refusal n x out r out' w = record { said = w.front; few = written-few out (refusal_line n (number_of x.cause)) r out' w }
 
 -- a refused call left the context as it was
-left-refused : (c : Context) (r : Result Context) (x : Refusal) → r ≡ refused x → left c r ≡ c
+left-refused : (c : Context) (r : Result Context) (x : Refusal) → r ≡ Err x → left c r ≡ c
 unfolding left
 left-refused c r x e = rw e
 
 -- ---- a batch
 
 module _ (n : ℕ) (b : Batch) (c d : Context) where
-  replay-accepted : (d' : Context) → replay b d ≡ ok d' → Takes-line n (batch b) c d [] c d'
+  replay-accepted : (d' : Context) → replay b d ≡ Ok d' → Takes-line n (batch b) c d [] c d'
   unfolding take_line replayed
   replay-accepted d' e = record { takes = λ p. rw (e, append-nil p) }
 
-  replay-refused : (x : Refusal) → replay b d ≡ refused x → Takes-line n (batch b) c d (refusal_line n x.number) c d
+  replay-refused : (x : Refusal) → replay b d ≡ Err x → Takes-line n (batch b) c d (refusal_line n (number_of x.cause)) c d
   unfolding take_line replayed
   replay-refused x e = record { takes = λ p. rw e }
 
-replay-line : (n : ℕ) (b : Batch) (c : Context) (ys cs : List ℕ) (a : Answer) (ys' cs' : List ℕ) → Called (replay b) ys cs a ys' cs' → Takes-line n (batch b) c (context_of ys cs) (said_of n a) c (context_of ys' cs')
+replay-line : (n : ℕ) (b : Batch) (c : Context) (ys cs : List ℕ) (a : Result (Unit {0})) (ys' cs' : List ℕ) → Called (replay b) ys cs a ys' cs' → Takes-line n (batch b) c (context_of ys cs) (said_of n a) c (context_of ys' cs')
 unfolding said_of answer_as
-replay-line n b c ys cs Accepted ys' cs' h = replay-accepted n b c (context_of ys cs) (context_of ys' cs') (sym h.answers)
-replay-line n b c ys cs (Refused k p) ys' cs' h =
-    let x : Refusal = record { number = k; place = position_of p } in
-    let e : replay b (context_of ys cs) ≡ refused x = sym h.answers in
+replay-line n b c ys cs (Ok _) ys' cs' h = replay-accepted n b c (context_of ys cs) (context_of ys' cs') (sym h.answers)
+replay-line n b c ys cs (Err x) ys' cs' h =
+    let e : replay b (context_of ys cs) ≡ Err x = sym h.answers in
     rw (h.leaves ∙ left-refused (context_of ys cs) (replay b (context_of ys cs)) x e) (replay-refused n b c (context_of ys cs) x e)
 
 -- ---- the next run
 
 module _ (n : ℕ) (c d : Context) where
-  merge-accepted : (c' : Context) → merge d c ≡ ok c' → Takes-line n next_run c d [] c' (fresh Append)
+  merge-accepted : (c' : Context) → merge d c ≡ Ok c' → Takes-line n next_run c d [] c' (fresh Append)
   unfolding take_line merge_run merged_as
   merge-accepted c' e = record { takes = λ p. rw (e, append-nil p) }
 
-  merge-refused : (x : Refusal) → merge d c ≡ refused x → Takes-line n next_run c d (refusal_line n x.number) c (fresh Append)
+  merge-refused : (x : Refusal) → merge d c ≡ Err x → Takes-line n next_run c d (refusal_line n (number_of x.cause)) c (fresh Append)
   unfolding take_line merge_run merged_as
   merge-refused x e = record { takes = λ p. rw e }
 
-merge-line : (n : ℕ) (xs bs : List ℕ) (d : Context) (a : Answer) (xs' bs' : List ℕ) → Called (merge d) xs bs a xs' bs' → Takes-line n next_run (context_of xs bs) d (said_of n a) (context_of xs' bs') (fresh Append)
+merge-line : (n : ℕ) (xs bs : List ℕ) (d : Context) (a : Result (Unit {0})) (xs' bs' : List ℕ) → Called (merge d) xs bs a xs' bs' → Takes-line n next_run (context_of xs bs) d (said_of n a) (context_of xs' bs') (fresh Append)
 unfolding said_of answer_as
-merge-line n xs bs d Accepted xs' bs' h = merge-accepted n (context_of xs bs) d (context_of xs' bs') (sym h.answers)
-merge-line n xs bs d (Refused k p) xs' bs' h =
-    let x : Refusal = record { number = k; place = position_of p } in
-    let e : merge d (context_of xs bs) ≡ refused x = sym h.answers in
+merge-line n xs bs d (Ok _) xs' bs' h = merge-accepted n (context_of xs bs) d (context_of xs' bs') (sym h.answers)
+merge-line n xs bs d (Err x) xs' bs' h =
+    let e : merge d (context_of xs bs) ≡ Err x = sym h.answers in
     rw (h.leaves ∙ left-refused (context_of xs bs) (merge d (context_of xs bs)) x e) (merge-refused n (context_of xs bs) d x e)
 
 -- ---- the functions
 
-pub replayed_run : (file : FileId) (items rows bytes : List ℕ) (n : ℕ) (ys cs : List ℕ) (a : Answer) (r : ℕ) (ys' cs' out' : List ℕ) → AppendArea ys cs → Called (replay (batch_of file items rows bytes)) ys cs a ys' cs' → Says (said_of n a) r out' → ReplayedRun file items rows bytes n ys cs r ys' cs' out'
+pub replayed_run : (file : FileId) (items rows bytes : List ℕ) (n : ℕ) (ys cs : List ℕ) (a : Result (Unit {0})) (r : ℕ) (ys' cs' out' : List ℕ) → AppendArea ys cs → Called (replay (batch_of file items rows bytes)) ys cs a ys' cs' → Says (said_of n a) r out' → ReplayedRun file items rows bytes n ys cs r ys' cs' out'
 replayed_run file items rows bytes n ys cs a r ys' cs' out' k h s xs bs w =
     record {
       line-is = rw s.said (replay-line n (batch_of file items rows bytes) (context_of xs bs) ys cs a ys' cs' h);
@@ -94,7 +89,7 @@ replayed_run file items rows bytes n ys cs a r ys' cs' out' k h s xs bs w =
       few = s.few;
     }
 
-pub merged_run : (n : ℕ) (xs bs ys cs : List ℕ) (a : Answer) (r : ℕ) (xs' bs' ys' cs' out' : List ℕ) → AppendArea xs bs → AppendArea ys cs → Called (merge (context_of ys cs)) xs bs a xs' bs' → FreshArea Append ys' cs' → Says (said_of n a) r out' → MergedRun n xs bs ys cs r xs' bs' ys' cs' out'
+pub merged_run : (n : ℕ) (xs bs ys cs : List ℕ) (a : Result (Unit {0})) (r : ℕ) (xs' bs' ys' cs' out' : List ℕ) → AppendArea xs bs → AppendArea ys cs → Called (merge (context_of ys cs)) xs bs a xs' bs' → FreshArea Append ys' cs' → Says (said_of n a) r out' → MergedRun n xs bs ys cs r xs' bs' ys' cs' out'
 merged_run n xs bs ys cs a r xs' bs' ys' cs' out' k l h f s =
     record {
       line-is = rw (s.said, f.context-is) (merge-line n xs bs (context_of ys cs) a xs' bs' h);

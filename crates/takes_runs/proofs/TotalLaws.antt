@@ -1,5 +1,6 @@
 -- A group's line, by the contracts of the queries. Assumes nothing.
-use mathlib.Core.Option.{Option, none, some}
+use Rattle.std.specs.Prelude.{Option, None, Some, unwrap_or}
+use Rattle.std.specs.Result.{result_unwrap_or}
 use mathlib.Core.List.{List, [], ◌∷◌, ◌++◌, append_assoc, append-nil, map}
 use mathlib.Core.Path.{◌≡◌, refl, sym, ap, ◌∙◌}
 use Prim.Native.Nat.{ℕ, ◌+◌, ◌*◌, ◌-◌, ◌≤◌, ◌<◌}
@@ -13,7 +14,7 @@ use Rattle.maps.specs.Lists.{or_else}
 use Rattle.maps.specs.Maps.{Map, Pair, lookup, numbers}
 use Rattle.maps.specs.OrderLaws.{numbers_lawful}
 use Rattle.maps.specs.MapLaws.{Ascending, lookup-get_or}
-use Rattle.rules.specs.Causes.{Result, ok, refuse, and_then}
+use Rattle.rules.specs.Causes.{by_cause, GroupAbsent, ByCause, Err, Ok, refuse, and_then}
 use Rattle.rules.specs.Items.{Append, Rewrite}
 use Rattle.rules.specs.Table.{Table, made, first_index_of}
 use Rattle.rules.specs.Context.{Context, with_groups}
@@ -21,65 +22,41 @@ use Rattle.rules.specs.Queries.{in_group, answered, lent_after, group_numbers, l
 use Rattle.rules_by_group.proofs.ResultLaws.{ok_inj, refused_not_ok}
 use Rattle.groups.specs.Laws.{groups-fit}
 use Rattle.contexts.specs.Contexts.{context_of, Wf}
-use Rattle.queries.specs.Answers.{number_as, count_as, fetched_as}
 use Rattle.queries.specs.Fetches.{NumbersFetched}
-use Rattle.queries.specs.declared.FoundNumber as number
-use Rattle.queries.specs.declared.Counted as count
-use Rattle.queries.specs.declared.Fetched as fetch
 use Rattle.takes_rules.specs.Output.{group_line, live_line}
 use Rattle.takes_rules.specs.Program.{groups_text}
 use Rattle.takes_lines.specs.Written.{Written}
 use Rattle.takes_runs.specs.Steps.{Says}
-use Rattle.takes_runs.specs.Totals.{number_or0, count_or0, filled_or0, first_of, group_text}
+use Rattle.takes_runs.specs.Totals.{first_of, group_text}
 use Rattle.takes_runs.proofs.StepLaws.{written-few}
 use Rattle.takes_runs.proofs.OutLaws.{take-front, length_lent, printed-behind, lent_length}
 
-option_or-0 : (o : Option ℕ) (r : number.FoundNumber) → number_as r ≡ ok o → number_or0 r ≡ or_else 0 (λ (i : ℕ). i) o
+-- what a query of a group's table answers, or d of an absent group
+answered-or : {A : Type 0} (f : Table → A) (d : A) (r : ByCause A) (o : Option Table) → by_cause r ≡ or_else (refuse GroupAbsent) (λ t. Ok (f t)) o → result_unwrap_or r d ≡ or_else d f o
 unfolding or_else
-option_or-0 o number.TheVariants.GroupAbsent e = absurd (refused_not_ok e)
-option_or-0 o number.TheVariants.Absent e = rw (← (ok_inj e)) refl
-option_or-0 o (number.TheVariants.At n) e = rw (← (ok_inj e)) refl
+answered-or f d (Ok a) None e = absurd (refused_not_ok (sym e))
+answered-or f d (Ok a) (Some t) e = ok_inj e
+answered-or f d (Err x) None e = refl
+answered-or f d (Err x) (Some t) e = absurd (refused_not_ok e)
 
-number-absent : (x : Result (Option ℕ)) (r : number.FoundNumber) → refuse Rattle.rules.specs.Causes.group_absent ≡ x → number_as r ≡ x → number_or0 r ≡ 0
-number-absent x number.TheVariants.GroupAbsent a e = refl
-number-absent x number.TheVariants.Absent a e = refl
-number-absent x (number.TheVariants.At n) a e = absurd (refused_not_ok (a ∙ sym e))
+or-0 : (o : Option ℕ) → unwrap_or o 0 ≡ or_else 0 (λ (i : ℕ). i) o
+unfolding or_else
+or-0 None = refl
+or-0 (Some n) = refl
 
-module _ (f : Table → Option ℕ) (r : number.FoundNumber) where
-  found_or-0 : (o : Option Table) → number_as r ≡ or_else (refuse Rattle.rules.specs.Causes.group_absent) (λ t. ok (f t)) o → number_or0 r ≡ or_else 0 (λ t. or_else 0 (λ (i : ℕ). i) (f t)) o
-  unfolding or_else
-  found_or-0 none e = number-absent _ r refl e
-  found_or-0 (some t) e = option_or-0 (f t) r e
+first-or-0 : (o : Option Table) → unwrap_or (or_else None (λ (t : Table). first_index_of t.entries) o) 0 ≡ or_else 0 first_of o
+unfolding or_else first_of
+first-or-0 None = refl
+first-or-0 (Some t) = or-0 (first_index_of t.entries)
 
-count-absent : (r : count.Counted) → count_as r ≡ refuse Rattle.rules.specs.Causes.group_absent → count_or0 r ≡ 0
-count-absent count.TheVariants.GroupAbsent e = refl
-count-absent (count.TheVariants.Is n) e = absurd (refused_not_ok (sym e))
-
-count_held : (n : ℕ) (r : count.Counted) → count_as r ≡ ok n → count_or0 r ≡ n
-count_held n count.TheVariants.GroupAbsent e = absurd (refused_not_ok e)
-count_held n (count.TheVariants.Is m) e = ok_inj e
-
-module _ (f : Table → ℕ) (r : count.Counted) where
-  counted_or-0 : (o : Option Table) → count_as r ≡ or_else (refuse Rattle.rules.specs.Causes.group_absent) (λ t. ok (f t)) o → count_or0 r ≡ or_else 0 f o
-  unfolding or_else
-  counted_or-0 none e = count-absent r e
-  counted_or-0 (some t) e = count_held (f t) r e
-
-same_line : (g first entries keys first₂ entries₂ keys₂ : ℕ) → first ≡ first₂ → entries ≡ entries₂ → keys ≡ keys₂ → group_line g first entries keys ≡ group_line g first₂ entries₂ keys₂
-same_line g first entries keys first₂ entries₂ keys₂ x y z = rw (x, y, z)
-
-module _ (c : Context) (g : ℕ) (a : number.FoundNumber) (b d : count.Counted) where
-  pub group-says : number_as a ≡ in_group g (λ t. ok (first_index_of t.entries)) c → count_as b ≡ in_group g (λ t. ok (length t.entries)) c → count_as d ≡ in_group g (λ t. ok (length t.keys)) c → (first entries keys : ℕ) → first ≡ number_or0 a → entries ≡ count_or0 b → keys ≡ count_or0 d → (out : List ℕ) (r : ℕ) (out' : List ℕ) → Written out (group_line g first entries keys) r out' → Says (group_text g (lookup numbers g c.groups)) r out'
-  unfolding in_group group_text first_of
-  group-says h k l first entries keys x y z out r out' w =
-      let o = lookup numbers g c.groups in
-      let f = x ∙ found_or-0 (λ (t : Table). first_index_of t.entries) a o h in
-      let n = y ∙ counted_or-0 (λ (t : Table). length t.entries) b o k in
-      let m = z ∙ counted_or-0 (λ (t : Table). length t.keys) d o l in
-      record {
-        said = w.front ∙ same_line g first entries keys _ _ _ f n m;
-        few = written-few out (group_line g first entries keys) r out' w;
-      }
+pub group-says : (c : Context) (g : ℕ) (a : ByCause (Option ℕ)) (b d : ByCause ℕ) (first entries keys : ℕ) → by_cause a ≡ in_group g (λ t. Ok (first_index_of t.entries)) c → by_cause b ≡ in_group g (λ t. Ok (length t.entries)) c → by_cause d ≡ in_group g (λ t. Ok (length t.keys)) c → first ≡ unwrap_or (result_unwrap_or a None) 0 → entries ≡ result_unwrap_or b 0 → keys ≡ result_unwrap_or d 0 → (out : List ℕ) (r : ℕ) (out' : List ℕ) → Written out (group_line g first entries keys) r out' → Says (group_text g (lookup numbers g c.groups)) r out'
+unfolding in_group group_text
+group-says c g a b d first entries keys h k l x y z out r out' w =
+    let o = lookup numbers g c.groups in
+    let f = x ∙ ap (λ n. unwrap_or n 0) (answered-or (λ (t : Table). first_index_of t.entries) None a o h) ∙ first-or-0 o in
+    let n = y ∙ answered-or (λ (t : Table). length t.entries) 0 b o k in
+    let m = z ∙ answered-or (λ (t : Table). length t.keys) 0 d o l in
+    record { said = w.front ∙ rw (f, n, m); few = written-few out _ r out' w }
 
 -- ---- all groups
 
@@ -92,12 +69,12 @@ unfolding groups_text
 text-append [] n = refl
 text-append (p ∷ m) n = ap (λ l. line_for p ++ l) (text-append m n) ∙ sym (append_assoc (line_for p) (groups_text m) (groups_text n))
 
-text-one : (p : Pair ℕ Table) → groups_text (p ∷ []) ≡ group_text p.key (some p.val)
+text-one : (p : Pair ℕ Table) → groups_text (p ∷ []) ≡ group_text p.key (Some p.val)
 unfolding groups_text group_text first_of or_else
 text-one p = append-nil (line_for p)
 
 abbrev no_pair : Pair ℕ Table
-no_pair = record { key = 0; val = made none }
+no_pair = record { key = 0; val = made None }
 
 abbrev keys_of : Map ℕ Table → List ℕ
 keys_of m = map (λ (p : Pair ℕ Table). p.key) m
@@ -126,78 +103,80 @@ pub record Printing (m : Map ℕ Table) (out₀ out : List ℕ) (at i : ℕ) : T
   pub bound : at ≤ 86 * i
   pub same : length out ≡ length out₀
 
-module _ (c : Context) (list out₀ : List ℕ) (are : list ≡ group_numbers c) (room : 86 * length list ≤ length out₀) where
-  abbrev m : Map ℕ Table
-  m = c.groups
-
-  pub listed : length list ≡ length m
-  listed = ap length (are ∙ numbers-are c) ∙ length-keys m
-
-  pub printing-none : Printing m out₀ out₀ 0 0
-  printing-none = record { said = unfold groups_text in refl; inside = omega arith; bound = omega arith; same = refl }
-
-  module _ (out : List ℕ) (at i : ℕ) (h : Printing m out₀ out at i) where
-    pub printing-room : i < length list → at + 86 ≤ length out
-    printing-room l = omega (arith, h.bound, h.same)
-
-    pub printing-more : Ascending numbers m → (l : i < length list) (r : ℕ) (p : List ℕ) → length p ≡ length (take (at + 86 - at) (drop at out)) → Says (group_text (get_or list i 0) (lookup numbers (get_or list i 0) m)) r p → Printing m out₀ (put_mid at (at + 86 - at) out p) (at + r) (i + 1)
-    printing-more a l r p same s =
-        let len : length p ≡ at + 86 - at = omega (arith, same, lent_length at 86 out (printing-room l)) in
-        let inside : at + (at + 86 - at) ≤ length out = omega (arith, printing-room l) in
-        let n : i < length m = omega (arith, listed) in
-        record {
-          said = printed-behind at (at + 86 - at) out p len inside r (omega (arith, s.few, len)) ∙ ap (λ x. x ++ take r p) h.said ∙ ap (λ x. groups_text (take i m) ++ x) s.said ∙ ap (λ ns. groups_text (take i m) ++ group_text (get_or ns i 0) (lookup numbers (get_or ns i 0) m)) (are ∙ numbers-are c) ∙ text-more m i a n;
-          inside = omega arith;
-          bound = omega (arith, s.few, len, h.bound);
-          same = length_lent at (at + 86 - at) out p len inside ∙ h.same;
-        }
-
-    pub printing_all : length list ≤ i → Says (groups_text m) at out
-    printing_all e =
-        let n : length m ≤ i = omega (arith, listed) in
-        record { said = h.said ∙ ap groups_text (take_all i m n); few = omega (arith, h.bound, h.same, h.inside, listed) }
-
--- ---- the numbers of all groups
-
-filled_is : (n : ℕ) (r : fetch.Fetched) → fetched_as r ≡ ok n → filled_or0 r ≡ n
-filled_is n (fetch.TheVariants.Done k) e = ok_inj e
-filled_is n fetch.TheVariants.GroupAbsent e = absurd (refused_not_ok e)
-filled_is n fetch.TheVariants.BadRange e = absurd (refused_not_ok e)
-filled_is n fetch.TheVariants.EntryCompacted e = absurd (refused_not_ok e)
-filled_is n fetch.TheVariants.EntryNotFound e = absurd (refused_not_ok e)
-filled_is n fetch.TheVariants.ListTooShort e = absurd (refused_not_ok e)
-
 module _ (xs bs : List ℕ) (w : Wf xs bs) where
   few-groups : length (group_numbers (context_of xs bs)) ≤ 8
   unfolding context_of with_groups
   few-groups = omega (arith, ap length (numbers-are (context_of xs bs)) ∙ length-keys (context_of xs bs).groups, (groups-fit xs bs w.groups).0)
 
-  module _ (list list' : List ℕ) (len : length list ≡ 8) (r : fetch.Fetched) (f : NumbersFetched (answered list (ok (group_numbers (context_of xs bs)))) list r list') where
-    abbrev ns : List ℕ
-    ns = group_numbers (context_of xs bs)
+  module _ (list out₀ : List ℕ) (are : list ≡ group_numbers (context_of xs bs)) (room : 688 ≤ length out₀) where
+    abbrev m : Map ℕ Table
+    m = (context_of xs bs).groups
 
-    taken : answered list (ok ns) ≡ ok ns
-    unfolding answered and_then
-    taken = rw (le-leb (length ns) (length list) (omega (arith, few-groups, len)))
+    listed : length list ≡ length m
+    listed = ap length (are ∙ numbers-are (context_of xs bs)) ∙ length-keys m
 
-    filled : filled_or0 r ≡ length ns
-    filled = filled_is (length ns) r (f.number ∙ ap (λ x. and_then x (λ (rows : List ℕ). ok (length rows))) taken ∙ unfold and_then in refl)
+    listed-few : length list ≤ 8
+    listed-few = omega (arith, ap length are, few-groups)
 
-    list-is : list' ≡ ns ++ drop (length ns) list
-    list-is = f.list-is ∙ ap (lent_after list) taken ∙ unfold lent_after in refl
+    pub printing-none : Printing m out₀ out₀ 0 0
+    printing-none = record { said = unfold groups_text in refl; inside = omega arith; bound = omega arith; same = refl }
 
-    pub filled-few : filled_or0 r ≤ 8
-    filled-few = omega (arith, filled, few-groups)
+    module _ (out : List ℕ) (at i : ℕ) (h : Printing m out₀ out at i) where
+      pub printing-room : i < length list → at + 86 ≤ length out
+      printing-room l = omega (arith, h.bound, h.same, listed-few)
 
-    pub filled-length : length list' ≡ 8
-    filled-length = omega (arith, ap length list-is, length-append ns (drop (length ns) list), length-drop (length ns) list, few-groups, len)
+      pub printing-more : (l : i < length list) (r : ℕ) (p : List ℕ) → length p ≡ length (take (at + 86 - at) (drop at out)) → Says (group_text (get_or list i 0) (lookup numbers (get_or list i 0) m)) r p → Printing m out₀ (put_mid at (at + 86 - at) out p) (at + r) (i + 1)
+      printing-more l r p same s =
+          let len : length p ≡ at + 86 - at = omega (arith, same, lent_length at 86 out (printing-room l)) in
+          let inside : at + (at + 86 - at) ≤ length out = omega (arith, printing-room l) in
+          let n : i < length m = omega (arith, listed) in
+          record {
+            said = printed-behind at (at + 86 - at) out p len inside r (omega (arith, s.few, len)) ∙ ap (λ x. x ++ take r p) h.said ∙ ap (λ x. groups_text (take i m) ++ x) s.said ∙ ap (λ ns. groups_text (take i m) ++ group_text (get_or ns i 0) (lookup numbers (get_or ns i 0) m)) (are ∙ numbers-are (context_of xs bs)) ∙ text-more m i w.kept.groups-ascend n;
+            inside = omega arith;
+            bound = omega (arith, s.few, len, h.bound);
+            same = length_lent at (at + 86 - at) out p len inside ∙ h.same;
+          }
 
-    pub filled_with : take (filled_or0 r) list' ≡ ns
-    filled_with =
-        ap (λ n. take n list') filled
-        ∙ ap (take (length ns)) list-is
-        ∙ take-front (length ns) ns (drop (length ns) list) (omega arith)
-        ∙ take_all (length ns) ns (omega arith)
+      pub printed-few : at ≤ 688
+      printed-few = omega (arith, h.bound, h.inside, listed, listed-few)
+
+      pub printing_all : length list ≤ i → Says (groups_text m) at out
+      printing_all e =
+          let n : length m ≤ i = omega (arith, listed) in
+          record { said = h.said ∙ ap groups_text (take_all i m n); few = omega (arith, printed-few, h.same) }
+
+-- ---- the numbers of all groups
+
+filled_is : (n : ℕ) (r : ByCause ℕ) → by_cause r ≡ Ok n → result_unwrap_or r 0 ≡ n
+filled_is n (Ok k) e = ok_inj e
+filled_is n (Err x) e = absurd (refused_not_ok e)
+
+module _ (xs bs : List ℕ) (w : Wf xs bs) (list list' : List ℕ) (len : length list ≡ 8) (r : ByCause ℕ) (f : NumbersFetched (answered list (Ok (group_numbers (context_of xs bs)))) list r list') where
+  abbrev ns : List ℕ
+  ns = group_numbers (context_of xs bs)
+
+  taken : answered list (Ok ns) ≡ Ok ns
+  unfolding answered and_then
+  taken = rw (le-leb (length ns) (length list) (omega (arith, few-groups xs bs w, len)))
+
+  filled : result_unwrap_or r 0 ≡ length ns
+  filled = filled_is (length ns) r (f.number ∙ ap (λ x. and_then x (λ (rows : List ℕ). Ok (length rows))) taken ∙ unfold and_then in refl)
+
+  list-is : list' ≡ ns ++ drop (length ns) list
+  list-is = f.list-is ∙ ap (lent_after list) taken ∙ unfold lent_after in refl
+
+  pub filled-few : result_unwrap_or r 0 ≤ 8
+  filled-few = omega (arith, filled, few-groups xs bs w)
+
+  pub filled-length : length list' ≡ 8
+  filled-length = omega (arith, ap length list-is, length-append ns (drop (length ns) list), length-drop (length ns) list, few-groups xs bs w, len)
+
+  pub filled_with : take (result_unwrap_or r 0) list' ≡ ns
+  filled_with =
+      ap (λ n. take n list') filled
+      ∙ ap (take (length ns)) list-is
+      ∙ take-front (length ns) ns (drop (length ns) list) (omega arith)
+      ∙ take_all (length ns) ns (omega arith)
 
 -- ---- the groups, and the live counts behind them
 

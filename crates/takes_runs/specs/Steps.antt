@@ -1,20 +1,19 @@
 -- What a line does to the two runs that the program holds, as areas, and what it prints.
+use Rattle.rules.specs.Causes.{number_of, Result, Ok, Err}
 use Rattle.std.specs.Prelude.{List, [], ◌++◌, ◌≡◌, ℕ, ◌≤◌, length, take}
 use Rattle.pipe_log.specs.declared.FileId.{FileId}
 use Rattle.rules.specs.Items.{Append}
 use Rattle.rules.specs.Context.{context, Context}
 use Rattle.log_batch.specs.Lent.{batch_of}
-use Rattle.contexts.specs.declared.Answer.{Answer}
-use Rattle.contexts.specs.declared.Answer.TheVariants.{Accepted, Refused}
 use Rattle.contexts.specs.Contexts.{context_of, Wf}
 use Rattle.takes_rules.specs.Lines.{Line, next_run, batch}
 use Rattle.takes_rules.specs.Output.{refusal_line}
 use Rattle.takes_rules.specs.Program.{take_line}
 
 -- what is printed of an answer to line n
-unfoldable pub said_of : ℕ → Answer → List ℕ
-said_of n Accepted = []
-said_of n (Refused k p) = refusal_line n k
+unfoldable pub said_of : ℕ → Result (Unit {0}) → List ℕ
+said_of n (Ok _) = []
+said_of n (Err r) = refusal_line n (number_of r.cause)
 
 -- the bytes s are the first r of the lent ones at exit
 pub record Says (s : List ℕ) (r : ℕ) (out' : List ℕ) : Type 0 where

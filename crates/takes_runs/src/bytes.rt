@@ -4,7 +4,7 @@ ghost use Rattle.takes_lines.specs.Bytes.{end_of_line, take_byte};
 ghost use Rattle.takes_runs.specs.Reading.{Fit, Stepped};
 
 use crate::runs::take_line;
-use takes_lines::LineReader;
+use takes_lines::{Lent, LineReader};
 
 // What is known between two bytes: the reader of the open line, how many lines have ended, and whether the open one has a byte.
 #[derive(Clone, Copy)]
@@ -25,9 +25,8 @@ pub struct Step {
 pub fn start() -> Known
     ensures { Rattle.takes_runs.specs.Reading.Starts result }
 {
-    let reader = takes_lines::start();
     Known {
-        reader,
+        reader: takes_lines::start(),
         lines: 0,
         begun: false,
     }
@@ -39,24 +38,31 @@ pub fn end_line(
     bs: &mut [u8],
     ys: &mut [u64],
     cs: &mut [u8],
-    items: &mut [u64],
-    rows: &mut [u64],
-    bytes: &mut [u8],
+    lent: &mut Lent,
     known: Known,
     out: &mut [u8],
 ) -> Step
-    requires fit { Fit known items.old rows.old bytes.old xs.old bs.old ys.old cs.old }
+    requires fit { Fit xs.old bs.old ys.old cs.old }
     requires in_bounds { (44 ≤ length out.old) × (known.lines + 1 < 2 ^ 64) }
-    ensures stepped { Stepped end_of_line known rows.old bytes.old xs.old bs.old ys.old cs.old result rows.new bytes.new out.new xs.new bs.new ys.new cs.new }
+    ensures stepped { Stepped end_of_line known lent.old.rows lent.old.bytes xs.old bs.old ys.old cs.old result lent.new.rows lent.new.bytes out.new xs.new bs.new ys.new cs.new }
     ensures lines_bound { result.known.lines ≤ known.lines + 1 }
 {
-    let reader = known.reader;
     let n = known.lines + 1;
-    let line = takes_lines::finish(reader, items, rows);
-    let printed = take_line(xs, bs, ys, cs, line, items, rows, bytes, n, out);
-    let fresh = takes_lines::start();
+    let line = takes_lines::finish(known.reader, lent);
+    let printed = take_line(
+        xs,
+        bs,
+        ys,
+        cs,
+        line,
+        &lent.items,
+        &lent.rows,
+        &lent.bytes,
+        n,
+        out,
+    );
     let next = Known {
-        reader: fresh,
+        reader: takes_lines::start(),
         lines: n,
         begun: false,
     };
@@ -72,25 +78,21 @@ pub fn take_byte(
     bs: &mut [u8],
     ys: &mut [u64],
     cs: &mut [u8],
-    items: &mut [u64],
-    rows: &mut [u64],
-    bytes: &mut [u8],
+    lent: &mut Lent,
     known: Known,
     b: u8,
     out: &mut [u8],
 ) -> Step
-    requires fit { Fit known items.old rows.old bytes.old xs.old bs.old ys.old cs.old }
+    requires fit { Fit xs.old bs.old ys.old cs.old }
     requires in_bounds { (44 ≤ length out.old) × (known.lines + 1 < 2 ^ 64) }
-    ensures stepped { Stepped (take_byte b) known rows.old bytes.old xs.old bs.old ys.old cs.old result rows.new bytes.new out.new xs.new bs.new ys.new cs.new }
+    ensures stepped { Stepped (take_byte b) known lent.old.rows lent.old.bytes xs.old bs.old ys.old cs.old result lent.new.rows lent.new.bytes out.new xs.new bs.new ys.new cs.new }
     ensures lines_bound { result.known.lines ≤ known.lines + 1 }
 {
     if b == b'\n' {
-        return end_line(xs, bs, ys, cs, items, rows, bytes, known, out);
+        return end_line(xs, bs, ys, cs, lent, known, out);
     }
-    let reader = known.reader;
-    let more = takes_lines::feed(reader, b, rows, bytes);
     let next = Known {
-        reader: more,
+        reader: takes_lines::feed(known.reader, b, lent),
         lines: known.lines,
         begun: true,
     };

@@ -4,8 +4,7 @@ ghost use Rattle.log_batch.specs.Lent.{batch_of};
 ghost use Rattle.contexts.specs.Contexts.{context_of, Called};
 ghost use Rattle.takes_runs.specs.Steps.{AppendArea};
 
-use index::Answer;
-use pipe_log::FileId;
+use pipe_log::{FileId, Refusal};
 
 // Replays a batch into an Append context.
 pub fn replay(
@@ -15,7 +14,7 @@ pub fn replay(
     items: &[u64],
     rows: &[u64],
     bytes: &[u8],
-) -> Answer
+) -> Result<(), Refusal>
     requires { AppendArea ys.old cs.old }
     ensures { Called (rules·calls.replay (batch_of file items.now rows.now bytes.now)) ys.old cs.old result ys.new cs.new }
 {
@@ -23,7 +22,7 @@ pub fn replay(
 }
 
 // Merges a newer Append context into an older one.
-pub fn merge(xs: &mut [u64], bs: &mut [u8], ys: &[u64], cs: &[u8]) -> Answer
+pub fn merge(xs: &mut [u64], bs: &mut [u8], ys: &[u64], cs: &[u8]) -> Result<(), Refusal>
     requires append_area { AppendArea xs.old bs.old }
     requires append_area_2 { AppendArea ys.now cs.now }
     ensures { Called (rules·calls.merge (context_of ys.now cs.now)) xs.old bs.old result xs.new bs.new }

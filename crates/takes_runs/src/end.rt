@@ -6,6 +6,7 @@ use crate::blocks::LINE_MOST;
 use crate::bytes::{Known, Step, end_line};
 use crate::runs::merge_run;
 use crate::totals::{TOTALS_MOST, totals};
+use takes_lines::Lent;
 
 // Ends the open line, if it has a byte.
 fn last_line(
@@ -13,18 +14,16 @@ fn last_line(
     bs: &mut [u8],
     ys: &mut [u64],
     cs: &mut [u8],
-    items: &mut [u64],
-    rows: &mut [u64],
-    bytes: &mut [u8],
+    lent: &mut Lent,
     known: Known,
     out: &mut [u8],
 ) -> Step
-    requires fit { Fit known items.old rows.old bytes.old xs.old bs.old ys.old cs.old }
+    requires fit { Fit xs.old bs.old ys.old cs.old }
     requires in_bounds { (44 ≤ length out.old) × (known.lines + 1 < 2 ^ 64) }
-    ensures { Stepped end_of_input known rows.old bytes.old xs.old bs.old ys.old cs.old result rows.new bytes.new out.new xs.new bs.new ys.new cs.new }
+    ensures { Stepped end_of_input known lent.old.rows lent.old.bytes xs.old bs.old ys.old cs.old result lent.new.rows lent.new.bytes out.new xs.new bs.new ys.new cs.new }
 {
     if known.begun {
-        return end_line(xs, bs, ys, cs, items, rows, bytes, known, out);
+        return end_line(xs, bs, ys, cs, lent, known, out);
     }
     Step { known, printed: 0 }
 }
@@ -35,18 +34,16 @@ fn end_input(
     bs: &mut [u8],
     ys: &mut [u64],
     cs: &mut [u8],
-    items: &mut [u64],
-    rows: &mut [u64],
-    bytes: &mut [u8],
+    lent: &mut Lent,
     known: Known,
     out: &mut [u8],
 ) -> usize
-    requires fit { Fit known items.old rows.old bytes.old xs.old bs.old ys.old cs.old }
+    requires fit { Fit xs.old bs.old ys.old cs.old }
     requires in_bounds { (88 ≤ length out.old) × (known.lines + 1 < 2 ^ 64) }
-    ensures { EndedInput known rows.old bytes.old xs.old bs.old ys.old cs.old result out.new xs.new bs.new }
+    ensures { EndedInput known lent.old.rows lent.old.bytes xs.old bs.old ys.old cs.old result out.new xs.new bs.new }
 {
     let e = LINE_MOST;
-    let step = last_line(xs, bs, ys, cs, items, rows, bytes, known, &mut out[..e]);
+    let step = last_line(xs, bs, ys, cs, lent, known, &mut out[..e]);
     let first = step.printed;
     let last = first + LINE_MOST;
     let next = step.known;
@@ -59,18 +56,16 @@ pub fn end_all(
     bs: &mut [u8],
     ys: &mut [u64],
     cs: &mut [u8],
-    items: &mut [u64],
-    rows: &mut [u64],
-    bytes: &mut [u8],
+    lent: &mut Lent,
     known: Known,
     out: &mut [u8],
 ) -> usize
-    requires fit { Fit known items.old rows.old bytes.old xs.old bs.old ys.old cs.old }
+    requires fit { Fit xs.old bs.old ys.old cs.old }
     requires in_bounds { (820 ≤ length out.old) × (known.lines + 1 < 2 ^ 64) }
-    ensures { PrintedAll known rows.old bytes.old xs.old bs.old ys.old cs.old result out.new }
+    ensures { PrintedAll known lent.old.rows lent.old.bytes xs.old bs.old ys.old cs.old result out.new }
 {
     let e = 2 * LINE_MOST;
-    let first = end_input(xs, bs, ys, cs, items, rows, bytes, known, &mut out[..e]);
+    let first = end_input(xs, bs, ys, cs, lent, known, &mut out[..e]);
     let last = first + TOTALS_MOST;
     first + totals(xs, bs, &mut out[first..last])
 }

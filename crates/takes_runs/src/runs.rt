@@ -4,19 +4,19 @@ ghost use Rattle.takes_lines.specs.Views.{answer_line};
 ghost use Rattle.takes_runs.specs.Steps.{AppendArea, said_of, Says, ReplayedRun, MergedRun, TookLine};
 
 use crate::calls::{merge, replay};
-use index::Answer;
-use pipe_log::{FileId, LogQueue};
+use pipe_log::{FileId, LogQueue, Refusal};
 use takes_lines::output::{malformed_line, refusal_line};
+use takes_lines::{Line, Malformed};
 
 // Prints the refusal of line n, if a call was refused; the answer is the number of bytes.
-fn say(answer: Answer, n: u64, out: &mut [u8]) -> usize
+fn say(answer: Result<(), Refusal>, n: u64, out: &mut [u8]) -> usize
     requires { 44 ≤ length out.old }
     ensures { Says (said_of n answer) result out.new }
 {
-    let Answer::Refused { number, place: _ } = answer else {
-        return 0;
-    };
-    refusal_line(out, n, number)
+    match answer {
+        Ok(()) => 0,
+        Err(refusal) => refusal_line(out, n, refusal.cause.number()),
+    }
 }
 
 // Replays the batch of line n into the run that is being read.
@@ -63,7 +63,7 @@ pub fn take_line(
     bs: &mut [u8],
     ys: &mut [u64],
     cs: &mut [u8],
-    line: takes_lines::Answer,
+    line: Result<Line, Malformed>,
     items: &[u64],
     rows: &[u64],
     bytes: &[u8],
@@ -75,9 +75,11 @@ pub fn take_line(
     requires in_bounds { 44 ≤ length out.old }
     ensures { TookLine n (answer_line line items.now rows.now bytes.now) xs.old bs.old ys.old cs.old result xs.new bs.new ys.new cs.new out.new }
 {
-    match line {
-        takes_lines::Answer::Malformed => malformed_line(out, n),
-        takes_lines::Answer::NextRun => merge_run(xs, bs, ys, cs, n, out),
-        takes_lines::Answer::Batch(file) => replay_line(ys, cs, file, items, rows, bytes, n, out),
+    let Ok(said) = line else {
+        return malformed_line(out, n);
+    };
+    match said {
+        Line::NextRun => merge_run(xs, bs, ys, cs, n, out),
+        Line::Batch(file) => replay_line(ys, cs, file, items, rows, bytes, n, out),
     }
 }

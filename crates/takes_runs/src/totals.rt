@@ -1,5 +1,5 @@
 // What is printed at the end: a line for each group, and the live counts.
-ghost use Rattle.std.specs.Prelude.{◌≡◌, ◌++◌, ◌*◌, ◌≤◌, length};
+ghost use Rattle.std.specs.Prelude.{◌≡◌, ◌++◌, ◌≤◌, length};
 ghost use Rattle.maps.specs.Maps as maps;
 ghost use Rattle.rules.specs.Items.{Append, Rewrite};
 ghost use Rattle.rules.specs.Queries.{group_numbers, live_entries};
@@ -7,12 +7,11 @@ ghost use Rattle.contexts.specs.Contexts.{context_of, Wf};
 ghost use Rattle.takes_rules.specs.Output.{live_line};
 ghost use Rattle.takes_rules.specs.Program.{groups_text};
 ghost use Rattle.takes_runs.specs.Steps.{Says};
-ghost use Rattle.takes_runs.specs.Totals.{number_or0, count_or0, filled_or0, group_text};
+ghost use Rattle.takes_runs.specs.Totals.{group_text};
 
 use crate::blocks::LINE_MOST;
 use groups::SLOTS;
 use pipe_log::LogQueue;
-use queries::{Counted, Fetched, FoundNumber};
 use takes_lines::output::{group_line, live_line};
 
 // The most bytes that a line of a group takes.
@@ -21,67 +20,32 @@ pub const GROUP_MOST: usize = 86;
 // The most bytes that the lines of eight groups and of the live counts take.
 pub const TOTALS_MOST: usize = SLOTS * GROUP_MOST + LINE_MOST;
 
-// The number that was found, or 0.
-fn number_or_0(found: FoundNumber) -> u64
-    ensures { result ≡ number_or0 found }
-{
-    match found {
-        FoundNumber::At(i) => i,
-        FoundNumber::Absent => 0,
-        FoundNumber::GroupAbsent => 0,
-    }
-}
-
-// The count, or 0 of an absent group.
-fn count_or_0(counted: Counted) -> u64
-    ensures { result ≡ count_or0 counted }
-{
-    match counted {
-        Counted::Is(n) => n as u64,
-        Counted::GroupAbsent => 0,
-    }
-}
-
-// The line of a group.
+// The line of a group; of an absent one all numbers are 0.
 pub fn group_text(xs: &[u64], bs: &[u8], group: u64, out: &mut [u8]) -> usize
     requires wf { Wf xs.now bs.now }
     requires in_bounds { 86 ≤ length out.old }
     ensures { Says (group_text group (maps.lookup maps.numbers group (context_of xs.now bs.now).groups)) result out.new }
 {
-    let first = number_or_0(queries::first_index(xs, bs, group));
-    let entries = count_or_0(queries::entry_count(xs, bs, group));
-    let keys = count_or_0(queries::key_count(xs, bs, group));
-    group_line(out, group, first, entries, keys)
-}
-
-// How many numbers were filled in, or 0 if the query was refused.
-fn filled_or_0(fetched: Fetched) -> usize
-    ensures { result ≡ filled_or0 fetched }
-{
-    match fetched {
-        Fetched::Done(n) => n,
-        Fetched::GroupAbsent => 0,
-        Fetched::BadRange => 0,
-        Fetched::EntryCompacted => 0,
-        Fetched::EntryNotFound => 0,
-        Fetched::ListTooShort => 0,
-    }
+    let first = queries::first_index(xs, bs, group)
+        .unwrap_or(None)
+        .unwrap_or(0);
+    let entries = queries::entry_count(xs, bs, group).unwrap_or(0);
+    let keys = queries::key_count(xs, bs, group).unwrap_or(0);
+    group_line(out, group, first, entries as u64, keys as u64)
 }
 
 // The lines of the groups with these numbers, which are all of them.
 fn groups_text(xs: &[u64], bs: &[u8], numbers: &[u64], out: &mut [u8]) -> usize
     requires wf { Wf xs.now bs.now }
     requires numbers_value { numbers.now ≡ group_numbers (context_of xs.now bs.now) }
-    requires numbers_in_bounds { 86 * length numbers.now ≤ length out.old }
+    requires in_bounds { 688 ≤ length out.old }
     ensures says { Says (groups_text (context_of xs.now bs.now).groups) result out.new }
-    ensures upper_bound { result ≤ 86 * length numbers.now }
+    ensures upper_bound { result ≤ 688 }
 {
     let mut at = 0;
-    let mut i = 0;
-    while i < numbers.len() {
+    for &group in numbers {
         let e = at + GROUP_MOST;
-        at += group_text(xs, bs, numbers[i], &mut out[at..e]);
-        i += 1;
+        at += group_text(xs, bs, group, &mut out[at..e]);
     }
     at
 }
@@ -104,7 +68,7 @@ pub fn totals(xs: &[u64], bs: &[u8], out: &mut [u8]) -> usize
     ensures { Says (groups_text (context_of xs.now bs.now).groups ++ live_line (live_entries Append (context_of xs.now bs.now)) (live_entries Rewrite (context_of xs.now bs.now))) result out.new }
 {
     let mut list = [0u64; SLOTS];
-    let count = filled_or_0(queries::group_numbers(xs, bs, &mut list));
+    let count = queries::group_numbers(xs, bs, &mut list).unwrap_or(0);
     let at = groups_text(xs, bs, &list[..count], out);
     let e = at + LINE_MOST;
     at + live_text(xs, bs, &mut out[at..e])

@@ -1,24 +1,15 @@
 // Runs document 01's program on each file that an argument names, and writes what it prints behind the file's name.
 #![tactic(auto)]
 
-use std::env::{Env, FillError};
 use std::fs::File;
 use std::rt::Files;
-use std::{io, str};
+use std::{env, io};
 
-// Writes the name of a file behind a mark.
-fn say_name(rt: &impl Print, name: &str) -> io::Result<()> {
-    println!(rt; "# {name}")
-}
-
-// Runs the program on the file that an argument names, or says why it can not be opened.
-fn run_file(rt: &(impl Files + Print + Eprint), path: &[u8]) -> io::Result<()> {
-    let Ok(name) = str::from_utf8(path) else {
-        return eprintln!(rt; "a file's name is not text");
-    };
+// Runs the program on a file, or says why it can not be opened.
+fn run_file(rt: &(impl Files + Print + Eprint), name: &str) -> io::Result<()> {
     match File::open(rt, name) {
         Ok(mut file) => {
-            say_name(rt, name)?;
+            println!(rt; "# {name}")?;
             takes_program::run(&mut file, &mut io::writer(rt))
         }
         Err(e) => eprintln!(rt; "{name}: {e}"),
@@ -26,18 +17,9 @@ fn run_file(rt: &(impl Files + Print + Eprint), path: &[u8]) -> io::Result<()> {
 }
 
 // Each argument behind the program's own name is a file.
-fn run_all(rt: &(impl Env + Files + Print + Eprint)) -> io::Result<()> {
-    let mut path = [0u8; 4096];
-    for i in 1..usize::MAX {
-        match rt.arg(i, &mut path) {
-            Ok(length) => run_file(rt, &path[..length])?,
-            Err(FillError::TooLong) => eprintln!(rt; "argument {i} is too long")?,
-            Err(FillError::NotPresent) => break,
-        }
+fn main(rt: HostRuntime) -> io::Result<()> {
+    for name in env::args(&rt)?.skip(1) {
+        run_file(&rt, name.as_str())?;
     }
     Ok(())
-}
-
-fn main(rt: HostRuntime) -> io::Result<()> {
-    run_all(&rt)
 }

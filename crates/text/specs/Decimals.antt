@@ -1,20 +1,27 @@
--- What the reader of a number says of what it reads. Of a malformed number it says nothing.
-use Rattle.std.specs.Prelude.{◌≡◌, List, ℕ, suc, ◌+◌, ◌*◌, ◌-◌, ◌<◌, length, get_or}
-use Rattle.text.specs.declared.Number.{Number}
-use Rattle.text.specs.declared.Number.TheVariants.{Value, Malformed}
+-- The numbers that words of decimal digits stand for.
+use Rattle.std.specs.Prelude.{List, ℕ, ◌<◌, ◌^◌, ◌==◌, [], ◌∷◌, length, map, take, cond, slice_index, ◌≢◌, All}
+use Rattle.std.specs.List.{slice_split}
+use Rattle.std.specs.Str.Parse.{IsNumeral, digits_value}
 
--- the k bytes of s from `at` on are decimal digits, and v is their value
-pub data Decimal (s : List ℕ) (at : ℕ) : ℕ → ℕ → Type 0 where
-  none : Decimal s at 0 0
-  more : {k v d : ℕ} → Decimal s at k v → d < 10 → get_or s (at + k) 0 ≡ 48 + d → Decimal s at (suc k) (v * 10 + d)
+-- a word is one or more decimal digits, of a value that a u64 holds
+abbrev pub IsNumber : List ℕ → Type 0
+IsNumber word = IsNumeral 10 word × (digits_value 10 word < 2 ^ 64)
 
--- from `at` on stand one or more digits of the value v, up to the byte `end` at the place e
-pub record NumberAt (s : List ℕ) (at end v e : ℕ) : Type 0 where
-  pub digits : Decimal s at (e - at) v
-  pub some : at < e
-  pub inside : e < length s
-  pub ended : get_or s e 0 ≡ end
+-- the words of a line, with a space between each two, and the numbers that they stand for
+abbrev pub words_in : List ℕ → List (List ℕ)
+words_in line = slice_split (λ b. b == 32) line
 
-abbrev pub ReadNumber : List ℕ → ℕ → ℕ → Number → Type 0
-ReadNumber s at end (Value v e) = NumberAt s at end v e
-ReadNumber s at end Malformed = Unit
+abbrev pub numbers_in : List ℕ → List ℕ
+numbers_in line = map (digits_value 10) (words_in line)
+
+-- the lines of a text, each of which a line end ends
+abbrev pub lines_of : List ℕ → List (List ℕ)
+lines_of [] = []
+lines_of (b ∷ bs) = slice_split (λ c. c == 10) (take (length bs) (b ∷ bs))
+
+-- a line that begins with # stands for no numbers, and may have any words
+abbrev pub numbers_told : List ℕ → List ℕ
+numbers_told line = cond (slice_index line 0 == 35) [] (numbers_in line)
+
+abbrev pub IsWellFormed : List ℕ → Type 0
+IsWellFormed line = slice_index line 0 ≢ 35 → All IsNumber (words_in line)

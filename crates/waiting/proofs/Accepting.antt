@@ -1,7 +1,7 @@
 -- A part that comes to the room of a context. Assumes nothing.
 use mathlib.Core.Bool.{true, false, ◌&&◌}
 use mathlib.Core.List.{List, [], ◌∷◌}
-use mathlib.Core.Option.{some}
+use Rattle.std.specs.Prelude.{Some}
 use mathlib.Core.Path.{◌≡◌, refl, sym, ap, ◌∙◌}
 use Prim.Native.Nat.{ℕ, ◌+◌, ◌*◌, ◌≤◌, ◌<◌}
 use native.Mathlib.Omega.{arith}
@@ -13,7 +13,8 @@ use Rattle.maps.specs.Maps.{store, numbers}
 use Rattle.maps.specs.MapLaws.{store-again}
 use Rattle.rules.specs.Items as rules
 use Rattle.rules.specs.Context.{Part, waiting_fits}
-use Rattle.rules.specs.Waiting.{wait, back, accept, some_parts}
+use Rattle.rules.specs.Causes.{FilesGoBack, LimitPassed}
+use Rattle.rules.specs.Waiting.{wait, accept, some_parts}
 use Rattle.stores.specs.declared.Store.{Store}
 use Rattle.stores.specs.Stores.{entries_before}
 use Rattle.room.specs.Rooms.{Room, items_in, head_at, newest_tag, newest, waiting_in, waiting_items, waiting_entries, cell_count}
@@ -28,13 +29,13 @@ use Rattle.room.specs.LimitLaws.{fits-few, room-few}
 use Rattle.waiting.specs.declared.Form as form
 use Rattle.waiting.specs.declared.Step as step
 use Rattle.waiting.specs.Steps.{AtCell, NoCell, step_of, stepped}
-use Rattle.waiting.specs.Accepts.{parts_at, Waited, Passing, Finishing}
+use Rattle.waiting.specs.Accepts.{parts_at, Waited, Finishing, Refusing}
 use Rattle.waiting.specs.Forms.{FormAt, form_parts, with_part, Keeps, used_from, form_groups}
 use Rattle.waiting.specs.FormLaws.{others, cell_here, accept_here, form-accepts}
 use Rattle.waiting.specs.JudgeLaws.{judged, all-used}
 use Rattle.waiting.proofs.Forming.{form_in, part-is}
 
-pub some-parts : (f : form.Form) (ps : List Part) (new : Part) → some_parts (form_parts f ps new) ≡ some (form_parts f ps new)
+pub some-parts : (f : form.Form) (ps : List Part) (new : Part) → some_parts (form_parts f ps new) ≡ Some (form_parts f ps new)
 unfolding form_parts some_parts
 some-parts form.TheVariants.First ps new = refl
 some-parts form.TheVariants.Front ps new = refl
@@ -102,9 +103,13 @@ module _ (ws vs : List ℕ) (w : ContextRoom ws vs) where
             judged s r w.room.wf g new k st seq f left more (form_in 16 ws vs w.room f g k st seq a) kept_in new_items
             ∙ rw (← groups-in)
 
-      pub form-passes : waiting_fits (with_part f g new (waiting_in s r)) ≡ false → Passing g new ws vs
+      pub form-passes : waiting_fits (with_part f g new (waiting_in s r)) ≡ false → Refusing g new ws vs LimitPassed
       unfolding waiting_of
-      form-passes e = record { parts = parts; accepts = accepts_form; passes = rw stored_form e }
+      form-passes e =
+          record {
+            passes = λ p. record { parts = parts; accepts = accepts_form; passes = rw stored_form e };
+            goes_back = λ n. absurd (n refl);
+          }
 
       pub form-fits : waiting_fits (with_part f g new (waiting_in s r)) ≡ true → (waiting_items (with_part f g new (waiting_in s r)) ≤ 16 * 8) × (waiting_entries (with_part f g new (waiting_in s r)) ≤ 16 * 16)
       form-fits e =
@@ -113,7 +118,7 @@ module _ (ws vs : List ℕ) (w : ContextRoom ws vs) where
           let b = few.entries in
           (omega arith, omega arith)
 
-      pub form_waited : waiting_fits (with_part f g new (waiting_in s r)) ≡ true → (ws' vs' : List ℕ) → length ws' ≡ length ws → length vs' ≡ length vs → Became g (some parts) s r (store_of ws') (room_of 16 ws' vs') → Waited g new ws vs ws' vs'
+      pub form_waited : waiting_fits (with_part f g new (waiting_in s r)) ≡ true → (ws' vs' : List ℕ) → length ws' ≡ length ws → length vs' ≡ length vs → Became g (Some parts) s r (store_of ws') (room_of 16 ws' vs') → Waited g new ws vs ws' vs'
       unfolding waiting_of
       form_waited e ws' vs' i j b =
           let becomes : waiting_in (store_of ws') (room_of 16 ws' vs') ≡ with_part f g new (waiting_in s r) = b.waiting ∙ rw (← some-parts f (parts_at g (waiting_in s r)) new) stored_form in
@@ -155,13 +160,13 @@ module _ (ws vs : List ℕ) (w : ContextRoom ws vs) where
             record {
               parts = old ∷ rest;
               accepts = accepted_by step.TheVariants.Drop d;
-              waiting = sym (store-again numbers numbers_lawful g (some (old ∷ rest)) (waiting_in s r) (waiting_at_lem s r w.room.wf k g (old ∷ rest) inside (cell_here s r w.room.wf g k inside at-cell.here)) (waiting-ascends s r));
+              waiting = sym (store-again numbers numbers_lawful g (Some (old ∷ rest)) (waiting_in s r) (waiting_at_lem s r w.room.wf k g (old ∷ rest) inside (cell_here s r w.room.wf g k inside at-cell.here)) (waiting-ascends s r));
               room = w;
             }
 
-        pub went_back : x ≡ step.TheVariants.Back → accept (parts_at g (waiting_of ws vs)) new ≡ back
+        pub went_back : x ≡ step.TheVariants.Back → Refusing g new ws vs FilesGoBack
         unfolding waiting_of stepped
-        went_back d = accepted_by step.TheVariants.Back d
+        went_back d = record { passes = λ p. cc; goes_back = λ n. (refl, accepted_by step.TheVariants.Back d) }
 
         pub finished : x ≡ step.TheVariants.Finish → Finishing g new k ws vs
         unfolding waiting_of stepped

@@ -1,6 +1,6 @@
 -- A part is put into a cell of a room in two slices. Assumes nothing.
 use mathlib.Core.List.{List, [], ◌∷◌}
-use mathlib.Core.Option.{some}
+use Rattle.std.specs.Prelude.{Some}
 use mathlib.Core.Path.{◌≡◌, refl, sym, ◌∙◌}
 use Prim.Native.Nat.{ℕ, ◌+◌, ◌*◌, ◌≤◌, ◌<◌}
 use native.Mathlib.Nat.{add-zero}
@@ -103,7 +103,7 @@ module _ (n : ℕ) (ws vs : List ℕ) (w : RoomWf n ws vs) (f : form.Form) (g k 
         let c1 = c.1 in
         (omega arith, omega arith)
 
-    pub wrote_form : (h : List ℕ) (u : Store) (p : Room) → h ≡ form_head f k g st start last (head_at k (part 2 (n * 10) ws)) → WroteIn k h tag its t q u p → Became g (some (form_parts f (parts_at g (waiting_in s r)) new)) s r u p
+    pub wrote_form : (h : List ℕ) (u : Store) (p : Room) → h ≡ form_head f k g st start last (head_at k (part 2 (n * 10) ws)) → WroteIn k h tag its t q u p → Became g (Some (form_parts f (parts_at g (waiting_in s r)) new)) s r u p
     wrote_form h u p y o =
         let y' : h ≡ form_head f k g st start last (head_at k r.heads) = rw (heads-are n ws vs) y in
         form-waits s r w.wf g k st start last its t q u p f form_in freed-in (rw (y', tag_in) at o)

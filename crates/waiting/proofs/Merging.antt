@@ -1,6 +1,6 @@
 -- A part of another room that comes to the room of a context. Assumes nothing.
 use mathlib.Core.List.{List, ◌∷◌}
-use mathlib.Core.Option.{some}
+use Rattle.std.specs.Prelude.{Some}
 use mathlib.Core.Path.{◌≡◌, refl, sym, ap, ◌∙◌}
 use Prim.Native.Nat.{ℕ, ◌+◌, ◌*◌, ◌≤◌, ◌<◌}
 use native.Mathlib.Omega.{arith}
@@ -69,7 +69,7 @@ module _ (ws vs : List ℕ) (w : RoomWf 16 ws vs) where
           let b1 = b.entries in
           (omega arith, omega arith)
 
-      pub joined_form : (ws' vs' : List ℕ) → length ws' ≡ length ws → length vs' ≡ length vs → Became g (some parts) s r (store_of ws') (room_of 16 ws' vs') → Joined g new ws vs ws' vs'
+      pub joined_form : (ws' vs' : List ℕ) → length ws' ≡ length ws → length vs' ≡ length vs → Became g (Some parts) s r (store_of ws') (room_of 16 ws' vs') → Joined g new ws vs ws' vs'
       unfolding waiting_of
       joined_form ws' vs' i j b =
           record {
@@ -109,7 +109,7 @@ module _ (ws vs : List ℕ) (w : RoomWf 16 ws vs) where
             record {
               parts = old ∷ rest;
               accepts = accepted_by step.TheVariants.Drop d;
-              waiting = sym (store-again numbers numbers_lawful g (some (old ∷ rest)) (waiting_in s r) (waiting_at_lem s r w.wf k g (old ∷ rest) inside (cell_here s r w.wf g k inside at-cell.here)) (waiting-ascends s r));
+              waiting = sym (store-again numbers numbers_lawful g (Some (old ∷ rest)) (waiting_in s r) (waiting_at_lem s r w.wf k g (old ∷ rest) inside (cell_here s r w.wf g k inside at-cell.here)) (waiting-ascends s r));
               room = w;
             }
 

@@ -1,6 +1,6 @@
 -- A newest part that leaves the room of a context. Assumes nothing.
-use Rattle.std.specs.Prelude.{true, List, [], ◌∷◌, ◌≡◌, refl, ℕ, ◌+◌, ◌*◌, ◌≤◌, ◌<◌, length, get_or}
-use Rattle.std.proofs.Math.Option.{some, none-ne-some}
+use Rattle.std.specs.Prelude.{true, List, [], ◌∷◌, ◌≡◌, refl, ℕ, ◌+◌, ◌*◌, ◌≤◌, ◌<◌, length, get_or, Some}
+use Rattle.std.proofs.lemmas.Option.{none-some}
 use Rattle.std.proofs.Common.{sym, ◌∙◌, arith, eq-eqb, ne_eqb}
 use Rattle.std.proofs.Math.Decide.{dec_lt}
 use Rattle.maps.specs.Lists.{or_else}
@@ -30,12 +30,12 @@ finishing-used g new k ws vs w f =
       | yes l ↦ l
       | no l ↦
           let z : get_or ws (2 + k * 10) 0 ≡ 0 = omega arith in
-          absurd (none-ne-some _ (sym (free-cell (head_part k ws vs) (tagged ws vs) (c ∙ z)) ∙ f.cell))
+          absurd (none-some _ (sym (free-cell (head_part k ws vs) (tagged ws vs) (c ∙ z)) ∙ f.cell))
     ]
 
 -- ---- fewer parts fit as well
 
-fewer-groups : (g : ℕ) (p : Part) (ps : List Part) (w : Map ℕ (List Part)) → Ascending numbers w → lookup numbers g w ≡ some (p ∷ ps) → length (store numbers g (some_parts ps) w) ≤ length w
+fewer-groups : (g : ℕ) (p : Part) (ps : List Part) (w : Map ℕ (List Part)) → Ascending numbers w → lookup numbers g w ≡ Some (p ∷ ps) → length (store numbers g (some_parts ps) w) ≤ length w
 unfolding store some_parts
 fewer-groups g p [] w a e = let l = length-remove-some numbers numbers_lawful g (p ∷ []) w e in omega arith
 fewer-groups g p (q ∷ ps) w a e = let l = length-insert-some numbers numbers_lawful g (q ∷ ps) (p ∷ q ∷ ps) w e a in omega arith
@@ -45,7 +45,7 @@ unfolding or_else some_parts
 part-counts [] = let n = counts-nil in (sym n.0, sym n.1)
 part-counts (p ∷ ps) = (refl, refl)
 
-fewer-fit : (s : Store) (r : Room) → Wf s r → (g : ℕ) (p : Part) (ps : List Part) → lookup numbers g (waiting_in s r) ≡ some (p ∷ ps) → waiting_fits (waiting_in s r) ≡ true → waiting_fits (store numbers g (some_parts ps) (waiting_in s r)) ≡ true
+fewer-fit : (s : Store) (r : Room) → Wf s r → (g : ℕ) (p : Part) (ps : List Part) → lookup numbers g (waiting_in s r) ≡ Some (p ∷ ps) → waiting_fits (waiting_in s r) ≡ true → waiting_fits (store numbers g (some_parts ps) (waiting_in s r)) ≡ true
 unfolding or_else
 fewer-fit s r w g p ps e f =
     let few = fits-few (waiting_in s r) f in

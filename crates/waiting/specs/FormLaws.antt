@@ -1,6 +1,5 @@
 -- What waits after a part is put into a cell, and its counts. Assumes nothing.
-use Rattle.std.specs.Prelude.{Bool, true, false, cond, not, List, [], ◌∷◌, ◌++◌, ◌≡◌, ℕ, zero, suc, ◌*◌, ◌≤◌, ◌<◌, eqb, ltb, leb, get_or}
-use Rattle.std.proofs.Math.Option.{none, some}
+use Rattle.std.specs.Prelude.{Bool, true, false, cond, not, List, [], ◌∷◌, ◌++◌, ◌≡◌, ℕ, zero, suc, ◌*◌, ◌≤◌, ◌<◌, eqb, ltb, leb, get_or, None, Some}
 use Rattle.std.proofs.Math.Path.{refl}
 use Rattle.std.proofs.Common.{sym, ap, ◌∙◌, arith}
 use borrow.Author.Tests.{ne_eqb, eqb-true, eqb-false, ltb-false, not-true}
@@ -131,7 +130,7 @@ module _ (s : Store) (r : Room) (w : Wf s r) (g k : ℕ) (l : k < cell_count r.h
     pub used-count : 0 < count_in h
     used-count = let d = eqb-false (count_in h) 0 used_here in omega (arith, d)
 
-    pub cell_here : cell_of h xs ≡ some (pair g (newest h xs ∷ others))
+    pub cell_here : cell_of h xs ≡ Some (pair g (newest h xs ∷ others))
     unfolding cell_of parts_of
     cell_here = rw (used_here, group_here)
 
@@ -158,7 +157,7 @@ module _ (s : Store) (r : Room) (w : Wf s r) (g k : ℕ) (l : k < cell_count r.h
 
     -- the newest part is renewed
     module _ (st start last : ℕ) (its : List rules.LogItem) (t : Store) (q : Room) (o : Retagged k (renewed_head st start last h) (newest_tag h) its s r t q) where
-      renewed_here : (count_in h ≡ 2 → st ≡ 0) → Became g (some (part_with st its start last ∷ others)) s r t q
+      renewed_here : (count_in h ≡ 2 → st ≡ 0) → Became g (Some (part_with st its start last ∷ others)) s r t q
       renewed_here b =
           by_parts
           (λ z. rw (others-one z) (rw group_here at (renewed-one k st start last its s r t q w l o z)))
@@ -192,7 +191,7 @@ holds_not g h xs e =
     rw z (ne_eqb g (group_in h) (λ y. eqb-false (group_in h) g d (sym y))))
 
 module _ (s : Store) (r : Room) (g : ℕ) (absent : (j : ℕ) → j < cell_count r.heads → is_of g (head_at j r.heads) ≡ false) where
-  pub waits-not : lookup numbers g (waiting_in s r) ≡ none
+  pub waits-not : lookup numbers g (waiting_in s r) ≡ None
   waits-not =
       let n = length-cells r.heads (items_in s r) in
       rw (waiting-map_of s r)
@@ -231,14 +230,14 @@ module _ (s : Store) (r : Room) (w : Wf s r) (g k st start last : ℕ) (its : Li
     abbrev Wrote : form.Form → Type 0
     Wrote f = WroteIn k (form_head f k g st start last head) (form_tag f k head) its t q u p
 
-    first_form : FormAt form.TheVariants.First g (cell_count r.heads) r.heads k st start → Freed form.TheVariants.First s r (form_tag form.TheVariants.First k head) t q → Wrote form.TheVariants.First → Became g (some (parts form.TheVariants.First)) s r u p
+    first_form : FormAt form.TheVariants.First g (cell_count r.heads) r.heads k st start → Freed form.TheVariants.First s r (form_tag form.TheVariants.First k head) t q → Wrote form.TheVariants.First → Became g (Some (parts form.TheVariants.First)) s r u p
     unfolding form_parts form_head form_tag is_free_cell
     first_form a e o =
         let o' : WroteIn k (first_head k g st start last) (k * 2) its s r u p = rw (← e.0, ← e.1) o in
         rw (parts_none s r g a.absent)
         (first-waits k g st start last its s r u p w a.inside (eqb-true (count_in head) 0 a.free) o' (waits-not s r g a.absent))
 
-    front_form : FormAt form.TheVariants.Front g (cell_count r.heads) r.heads k st start → Freed form.TheVariants.Front s r (form_tag form.TheVariants.Front k head) t q → Wrote form.TheVariants.Front → Became g (some (parts form.TheVariants.Front)) s r u p
+    front_form : FormAt form.TheVariants.Front g (cell_count r.heads) r.heads k st start → Freed form.TheVariants.Front s r (form_tag form.TheVariants.Front k head) t q → Wrote form.TheVariants.Front → Became g (Some (parts form.TheVariants.Front)) s r u p
     unfolding form_parts form_head form_tag
     front_form a e o =
         let m = front-means st start head a.1 in
@@ -252,7 +251,7 @@ module _ (s : Store) (r : Room) (w : Wf s r) (g k st start last : ℕ) (its : Li
         (λ one. rw (others-one s r w g k in_Cell here one) (rw (group_here s r w g k in_Cell here) at (front-waits k start last its s r u p w in_Cell one ends o')))
         (λ two. let b = (two-parts k head (items_in s r) two (w.cells k in_Cell)).begins in absurd (omega arith)))
 
-    replace_form : FormAt form.TheVariants.Replace g (cell_count r.heads) r.heads k st start → Freed form.TheVariants.Replace s r (form_tag form.TheVariants.Replace k head) t q → Wrote form.TheVariants.Replace → Became g (some (parts form.TheVariants.Replace)) s r u p
+    replace_form : FormAt form.TheVariants.Replace g (cell_count r.heads) r.heads k st start → Freed form.TheVariants.Replace s r (form_tag form.TheVariants.Replace k head) t q → Wrote form.TheVariants.Replace → Became g (Some (parts form.TheVariants.Replace)) s r u p
     unfolding form_parts form_head form_tag
     replace_form a e o =
         let z = replace-means st start head a.1 in
@@ -260,7 +259,7 @@ module _ (s : Store) (r : Room) (w : Wf s r) (g k st start last : ℕ) (its : Li
         (renewed_here s r w g k a.0.inside a.0.here st start last its u p
         (retagged-other s r (newest_tag head) t q w e k (renewed_head st start last head) its u p o) (λ two. z))
 
-    join_form : FormAt form.TheVariants.Join g (cell_count r.heads) r.heads k st start → Freed form.TheVariants.Join s r (form_tag form.TheVariants.Join k head) t q → Wrote form.TheVariants.Join → Became g (some (parts form.TheVariants.Join)) s r u p
+    join_form : FormAt form.TheVariants.Join g (cell_count r.heads) r.heads k st start → Freed form.TheVariants.Join s r (form_tag form.TheVariants.Join k head) t q → Wrote form.TheVariants.Join → Became g (Some (parts form.TheVariants.Join)) s r u p
     unfolding form_parts form_head form_tag
     join_form a e o =
         let m = join-means st start head a.1 in
@@ -273,7 +272,7 @@ module _ (s : Store) (r : Room) (w : Wf s r) (g k st start last : ℕ) (its : Li
         (retagged-more k again (newest_tag head) its s r u p w o')
         (λ two. joined-begins (get_or head 3 0) st (two-parts k head (items_in s r) two (w.cells k in_Cell)).begins m.1))
 
-    pub form-waits : (f : form.Form) → FormAt f g (cell_count r.heads) r.heads k st start → Freed f s r (form_tag f k head) t q → Wrote f → Became g (some (parts f)) s r u p
+    pub form-waits : (f : form.Form) → FormAt f g (cell_count r.heads) r.heads k st start → Freed f s r (form_tag f k head) t q → Wrote f → Became g (Some (parts f)) s r u p
     form-waits form.TheVariants.First = first_form
     form-waits form.TheVariants.Front = front_form
     form-waits form.TheVariants.Replace = replace_form

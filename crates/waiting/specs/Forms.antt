@@ -1,6 +1,5 @@
 -- How a part that waits is put into a cell: as the first of its group, in front of the newest part, in its place, or joined to it.
-use Rattle.std.specs.Prelude.{cond, List, [], ◌∷◌, ◌≡◌, ℕ, zero, suc, ◌+◌, ◌*◌, ◌≤◌, eqb, get_or}
-use Rattle.std.proofs.Math.Option.{some}
+use Rattle.std.specs.Prelude.{cond, List, [], ◌∷◌, ◌≡◌, ℕ, zero, suc, ◌+◌, ◌*◌, ◌≤◌, eqb, get_or, Some}
 use Rattle.maps.specs.Maps.{Map, store, numbers}
 use Rattle.rules.specs.Items as rules
 use Rattle.rules.specs.Items.{status_of}
@@ -33,7 +32,7 @@ form_parts form.TheVariants.Join (p ∷ ps) new = joined_part p new ∷ ps
 
 -- what waits with it
 unfoldable pub with_part : form.Form → ℕ → Part → Map ℕ (List Part) → Map ℕ (List Part)
-with_part f g new w = store numbers g (some (form_parts f (parts_at g w) new)) w
+with_part f g new w = store numbers g (Some (form_parts f (parts_at g w) new)) w
 
 -- ---- the tag and the head that it gets; h is the head of the cell
 

@@ -1,6 +1,5 @@
 -- The counts of what waits with a part that is put into a cell, and the limits by them. Assumes nothing.
-use Rattle.std.specs.Prelude.{false, ◌&&◌, List, [], ◌∷◌, ◌++◌, ◌≡◌, eqb, leb, length}
-use Rattle.std.proofs.Math.Option.{Option, none, some}
+use Rattle.std.specs.Prelude.{false, ◌&&◌, List, [], ◌∷◌, ◌++◌, ◌≡◌, eqb, leb, length, Option, None, Some}
 use Rattle.std.proofs.Math.Path.{refl, sym, ap}
 use Rattle.std.proofs.Common.{◌∙◌, zero-add, eqb-true}
 use Prim.Native.Nat.{ℕ, zero, suc, ◌+◌, ◌<◌}
@@ -100,8 +99,8 @@ unfolding parts_at or_else
 old-counts g w = go (lookup numbers g w)
   where
     go : (x : Option (List Part)) → (or_else 0 item_count x ≡ item_count (or_else [] (λ (ps : List Part). ps) x)) × (or_else 0 entry_count x ≡ entry_count (or_else [] (λ (ps : List Part). ps) x))
-    go none = let n = counts-nil in (sym n.0, sym n.1)
-    go (some ps) = (refl, refl)
+    go None = let n = counts-nil in (sym n.0, sym n.1)
+    go (Some ps) = (refl, refl)
 
 abbrev pub waiting_counts : Map ℕ (List Part) → Store
 waiting_counts w = record { items = waiting_items w; entries = waiting_entries w }
@@ -114,7 +113,7 @@ module _ (s : Store) (r : Room) (w : Wf s r) (f : form.Form) (g : ℕ) (new : Pa
   unfolding with_part or_else
   counts-after =
       let ps = parts_at g (waiting_in s r) in
-      let c = would-wait s r w g (some (form_parts f ps new)) in
+      let c = would-wait s r w g (Some (form_parts f ps new)) in
       let c0 = c.0 in
       let c1 = c.1 in
       let o = old-counts g (waiting_in s r) in
@@ -190,7 +189,7 @@ module _ (hs : List ℕ) (xs : List Tagged) where
   abbrev cell : ℕ → Cell (List Part)
   cell j = cell_of (head_at j hs) xs
 
-  used-cell : (k : ℕ) → eqb (count_in (head_at k hs)) 0 ≡ false → cell k ≡ some (pair (group_in (head_at k hs)) (parts_of (head_at k hs) xs))
+  used-cell : (k : ℕ) → eqb (count_in (head_at k hs)) 0 ≡ false → cell k ≡ Some (pair (group_in (head_at k hs)) (parts_of (head_at k hs) xs))
   unfolding cell_of
   used-cell k e = rw e
 
@@ -215,11 +214,11 @@ unfolding waiting_in cells_of
 groups-waiting s r w = groups-used r.heads (items_in s r) (cell_count r.heads) 0 w.distinct
 
 module _ (s : Store) (r : Room) (w : Wf s r) (g : ℕ) (new : Part) where
-  groups-more : (f : form.Form) → lookup numbers g (waiting_in s r) ≡ none → length (with_part f g new (waiting_in s r)) ≡ suc (length (waiting_in s r))
+  groups-more : (f : form.Form) → lookup numbers g (waiting_in s r) ≡ None → length (with_part f g new (waiting_in s r)) ≡ suc (length (waiting_in s r))
   unfolding with_part store
   groups-more f e = length-insert-none numbers numbers_lawful g (form_parts f (parts_at g (waiting_in s r)) new) (waiting_in s r) e
 
-  groups_same : (f : form.Form) (old : List Part) → lookup numbers g (waiting_in s r) ≡ some old → length (with_part f g new (waiting_in s r)) ≡ length (waiting_in s r)
+  groups_same : (f : form.Form) (old : List Part) → lookup numbers g (waiting_in s r) ≡ Some old → length (with_part f g new (waiting_in s r)) ≡ length (waiting_in s r)
   unfolding with_part store
   groups_same f old e =
       length-insert-some numbers numbers_lawful g (form_parts f (parts_at g (waiting_in s r)) new) old (waiting_in s r) e (waiting-ascends s r)

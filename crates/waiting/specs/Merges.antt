@@ -1,6 +1,6 @@
 -- A part that comes from another room of a context, as a merge has it: no limit is judged on the way.
-use Rattle.std.specs.Prelude.{List, [], ◌∷◌, ◌≡◌, ℕ, ◌+◌, ◌*◌, ◌≤◌, ◌<◌, length, get_or}
-use Rattle.std.proofs.Math.Option.{none}
+use Rattle.rules.specs.Causes.{FilesGoBack, ByCause, Ok, Err}
+use Rattle.std.specs.Prelude.{Option, None, Some, List, [], ◌∷◌, ◌≡◌, ℕ, ◌+◌, ◌*◌, ◌≤◌, ◌<◌, length, get_or}
 use Rattle.maps.specs.Maps.{lookup, store, numbers}
 use Rattle.rules.specs.Items as rules
 use Rattle.rules.specs.Context.{Part}
@@ -10,7 +10,6 @@ use Rattle.stores.specs.Tags.{Tagged, items_with}
 use Rattle.room.specs.Rooms.{waiting_items, waiting_entries}
 use Rattle.room.specs.Layout.{context_cells, waiting_of, tagged, RoomWf}
 use Rattle.room.specs.Batches.{counts_for}
-use Rattle.waiting.specs.declared.Accepted as accepted
 use Rattle.waiting.specs.Accepts.{parts_at}
 
 -- ---- items of a tag
@@ -41,14 +40,13 @@ pub record Finished (g : ℕ) (new : Part) (ws vs ws' vs' : List ℕ) : Type 0 w
   pub waiting : waiting_of ws' vs' ≡ store numbers g (some_parts others) (waiting_of ws vs)
   pub room : RoomWf context_cells ws' vs'
 
-abbrev pub MergedAs : ℕ → Part → List ℕ → List ℕ → accepted.Accepted → List ℕ → List ℕ → Type 0
-MergedAs g new ws vs accepted.TheVariants.Waits ws' vs' = Joined g new ws vs ws' vs'
-MergedAs g new ws vs accepted.TheVariants.Passed ws' vs' = ⊥
-MergedAs g new ws vs accepted.TheVariants.Back ws' vs' = (accept (parts_at g (waiting_of ws vs)) new ≡ back) × (ws' ≡ ws) × (vs' ≡ vs)
-MergedAs g new ws vs (accepted.TheVariants.Finishes k) ws' vs' = Finished g new ws vs ws' vs'
+abbrev pub MergedAs : ℕ → Part → List ℕ → List ℕ → ByCause (Option ℕ) → List ℕ → List ℕ → Type 0
+MergedAs g new ws vs (Ok None) ws' vs' = Joined g new ws vs ws' vs'
+MergedAs g new ws vs (Ok (Some k)) ws' vs' = Finished g new ws vs ws' vs'
+MergedAs g new ws vs (Err e) ws' vs' = (e ≡ FilesGoBack) × (accept (parts_at g (waiting_of ws vs)) new ≡ back) × (ws' ≡ ws) × (vs' ≡ vs)
 
 -- there are rows for a part of group g with these items, and a cell if the group has none
 pub record RoomFor (g : ℕ) (its : List rules.LogItem) (ws vs : List ℕ) : Type 0 where
-  pub groups : lookup numbers g (waiting_of ws vs) ≡ none → length (waiting_of ws vs) < context_cells
+  pub groups : lookup numbers g (waiting_of ws vs) ≡ None → length (waiting_of ws vs) < context_cells
   pub items : waiting_items (waiting_of ws vs) + (counts_for its).items ≤ context_cells * 8
   pub entries : waiting_entries (waiting_of ws vs) + (counts_for its).entries ≤ context_cells * 16

@@ -1,6 +1,5 @@
 // A marked batch's part that comes to the room of a context.
-ghost use Rattle.std.proofs.Math.Option.{none};
-ghost use Rattle.std.specs.Prelude.{◌≡◌, ◌+◌, ◌*◌, ◌<◌, get_or};
+ghost use Rattle.std.specs.Prelude.{None, ◌≡◌, ◌+◌, ◌*◌, ◌<◌, get_or};
 ghost use Rattle.cells.specs.Part.{part};
 ghost use Rattle.rules.specs.Items.{replay_rewrite};
 ghost use Rattle.rules.specs.Checks.{checks};
@@ -15,7 +14,8 @@ ghost use Rattle.waiting.specs.Forms.{FormAt};
 use crate::find::{find, step_at};
 use crate::forms::write_form;
 use crate::limits::{counts_left, groups_with, within_limits};
-use crate::{Accepted, Form, Place, Step};
+use crate::{Form, Place, Step};
+use pipe_log::Cause;
 use room::{CELLS, count_batch, take_part};
 
 // Puts the part of a batch into cell `k`, unless a limit would be passed.
@@ -30,22 +30,22 @@ fn accept_form(
     items: &[u64],
     entries: &[u64],
     bytes: &[u8],
-) -> Accepted
+) -> Result<Option<usize>, Cause>
     requires context_room { ContextRoom ws.old vs.old }
     requires form_at { FormAt form group context_cells (part 2 (context_cells * 10) ws.old) k status seq }
-    requires bytes_value { checks replay_rewrite (items_of items.now entries.now bytes.now) ≡ none }
+    requires bytes_value { checks replay_rewrite (items_of items.now entries.now bytes.now) ≡ None }
     ensures { AcceptedAs group (part_for status seq (unmarked (items_of items.now entries.now bytes.now))) ws.old vs.old result ws.new vs.new }
 {
     let groups = groups_with(ws, CELLS, form);
     let left = counts_left(ws, CELLS, k, form);
     let more = count_batch(items, entries, bytes);
     if !within_limits(groups, left, more) {
-        return Accepted::Passed;
+        return Err(Cause::LimitPassed);
     }
     write_form(
         ws, vs, CELLS, k, form, group, status, seq, items, entries, bytes,
     );
-    Accepted::Waits
+    Ok(None)
 }
 
 // The part of a batch comes to cell `k`, which has parts of its group.
@@ -59,10 +59,10 @@ fn accept_at(
     items: &[u64],
     entries: &[u64],
     bytes: &[u8],
-) -> Accepted
+) -> Result<Option<usize>, Cause>
     requires context_room { ContextRoom ws.old vs.old }
     requires at_cell { AtCell group context_cells (part 2 (context_cells * 10) ws.old) k }
-    requires bytes_value { checks replay_rewrite (items_of items.now entries.now bytes.now) ≡ none }
+    requires bytes_value { checks replay_rewrite (items_of items.now entries.now bytes.now) ≡ None }
     ensures { AcceptedAs group (part_for status seq (unmarked (items_of items.now entries.now bytes.now))) ws.old vs.old result ws.new vs.new }
 {
     let step = step_at(ws, CELLS, k, status, seq);
@@ -109,9 +109,9 @@ fn accept_at(
                 bytes,
             )
         }
-        Step::Drop => Accepted::Waits,
-        Step::Finish => Accepted::Finishes(k),
-        Step::Back => Accepted::Back,
+        Step::Drop => Ok(None),
+        Step::Finish => Ok(Some(k)),
+        Step::Back => Err(Cause::FilesGoBack),
     }
 }
 
@@ -125,9 +125,9 @@ pub fn accept_batch(
     items: &[u64],
     entries: &[u64],
     bytes: &[u8],
-) -> Accepted
+) -> Result<Option<usize>, Cause>
     requires context_room { ContextRoom ws.old vs.old }
-    requires bytes_value { checks replay_rewrite (items_of items.now entries.now bytes.now) ≡ none }
+    requires bytes_value { checks replay_rewrite (items_of items.now entries.now bytes.now) ≡ None }
     ensures { AcceptedAs group (part_for status seq (unmarked (items_of items.now entries.now bytes.now))) ws.old vs.old result ws.new vs.new }
 {
     let place = find(ws, CELLS, group);
@@ -147,7 +147,7 @@ pub fn accept_batch(
                 bytes,
             )
         }
-        Place::Full => Accepted::Passed,
+        Place::Full => Err(Cause::LimitPassed),
     }
 }
 

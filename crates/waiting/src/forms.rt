@@ -1,6 +1,5 @@
 // How a part that waits is put into a cell: the tag and the head that it gets, and the items that leave for it.
-ghost use Rattle.std.specs.Prelude.{List, ◌≡◌, ℕ, ◌+◌, ◌*◌, ◌≤◌, ◌<◌, length, get_or};
-ghost use Rattle.std.proofs.Math.Option.{none, some};
+ghost use Rattle.std.specs.Prelude.{List, ◌≡◌, ℕ, ◌+◌, ◌*◌, ◌≤◌, ◌<◌, length, get_or, None, Some};
 ghost use Rattle.cells.specs.Part.{part};
 ghost use Rattle.rules.specs.Items.{replay_rewrite};
 ghost use Rattle.rules.specs.Checks.{checks};
@@ -164,9 +163,9 @@ pub fn write_form(
 )
     requires room_wf { RoomWf cells ws.old vs.old }
     requires form_at { FormAt form group cells (part 2 (cells * 10) ws.old) k status seq }
-    requires bytes_value { checks replay_rewrite (items_of items.now entries.now bytes.now) ≡ none }
+    requires bytes_value { checks replay_rewrite (items_of items.now entries.now bytes.now) ≡ None }
     requires vs_bound { (waiting_items (with_part form group (part_for status seq (unmarked (items_of items.now entries.now bytes.now))) (waiting_in (store_of ws.old) (room_of cells ws.old vs.old))) ≤ cells * 8) × (waiting_entries (with_part form group (part_for status seq (unmarked (items_of items.now entries.now bytes.now))) (waiting_in (store_of ws.old) (room_of cells ws.old vs.old))) ≤ cells * 16) }
-    ensures { Became group (some (form_parts form (parts_at group (waiting_in (store_of ws.old) (room_of cells ws.old vs.old))) (part_for status seq (unmarked (items_of items.now entries.now bytes.now))))) (store_of ws.old) (room_of cells ws.old vs.old) (store_of ws.new) (room_of cells ws.new vs.new) }
+    ensures { Became group (Some (form_parts form (parts_at group (waiting_in (store_of ws.old) (room_of cells ws.old vs.old))) (part_for status seq (unmarked (items_of items.now entries.now bytes.now))))) (store_of ws.old) (room_of cells ws.old vs.old) (store_of ws.new) (room_of cells ws.new vs.new) }
 {
     let tag = form_tag(ws, cells, k, form);
     let head = form_head(ws, cells, k, form, tag, group, status, seq, seq);
@@ -192,7 +191,7 @@ pub fn move_form(
     requires form_at { FormAt form group context_cells (part 2 (context_cells * 10) ws.old) k status start }
     requires room_wf_2 { RoomWf context_cells us.now ds.now }
     requires vs_bound { (waiting_items (with_part form group (part_with status (items_from us.now ds.now its) start end) (waiting_in (store_of ws.old) (room_of context_cells ws.old vs.old))) ≤ context_cells * 8) × (waiting_entries (with_part form group (part_with status (items_from us.now ds.now its) start end) (waiting_in (store_of ws.old) (room_of context_cells ws.old vs.old))) ≤ context_cells * 16) }
-    ensures { Became group (some (form_parts form (parts_at group (waiting_in (store_of ws.old) (room_of context_cells ws.old vs.old))) (part_with status (items_from us.now ds.now its) start end))) (store_of ws.old) (room_of context_cells ws.old vs.old) (store_of ws.new) (room_of context_cells ws.new vs.new) }
+    ensures { Became group (Some (form_parts form (parts_at group (waiting_in (store_of ws.old) (room_of context_cells ws.old vs.old))) (part_with status (items_from us.now ds.now its) start end))) (store_of ws.old) (room_of context_cells ws.old vs.old) (store_of ws.new) (room_of context_cells ws.new vs.new) }
 {
     let tag = form_tag(ws, CELLS, k, form);
     let head = form_head(ws, CELLS, k, form, tag, group, status, start, end);

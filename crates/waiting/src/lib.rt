@@ -58,16 +58,3 @@ pub enum Form {
     // joined to the newest part
     Join,
 }
-
-// What becomes of a part that comes to a room.
-#[derive(Clone, Copy)]
-pub enum Accepted {
-    // it waits, or is dropped
-    Waits,
-    // a limit would be passed
-    Passed,
-    // files go back
-    Back,
-    // it finishes the newest part of this cell
-    Finishes(usize),
-}

@@ -8,7 +8,8 @@ ghost use Rattle.waiting.specs.Merges.{items_from, MergedAs, RoomFor};
 
 use crate::find::{find, step_at};
 use crate::forms::move_form;
-use crate::{Accepted, Form, Place, Step};
+use crate::{Form, Place, Step};
+use pipe_log::Cause;
 use room::{CELLS, take_part};
 
 // Puts the part into cell `k`.
@@ -24,7 +25,7 @@ fn join_form(
     us: &[u64],
     ds: &[u8],
     its: u64,
-) -> Accepted
+) -> Result<Option<usize>, Cause>
     requires room_wf { RoomWf context_cells ws.old vs.old }
     requires form_at { FormAt form group context_cells (part 2 (context_cells * 10) ws.old) k status start }
     requires room_wf_2 { RoomWf context_cells us.now ds.now }
@@ -32,7 +33,7 @@ fn join_form(
     ensures { MergedAs group (part_with status (items_from us.now ds.now its) start end) ws.old vs.old result ws.new vs.new }
 {
     move_form(ws, vs, k, form, group, status, start, end, us, ds, its);
-    Accepted::Waits
+    Ok(None)
 }
 
 // The part comes to cell `k`, which has parts of its group.
@@ -47,7 +48,7 @@ fn join_at(
     us: &[u64],
     ds: &[u8],
     its: u64,
-) -> Accepted
+) -> Result<Option<usize>, Cause>
     requires room_wf { RoomWf context_cells ws.old vs.old }
     requires at_cell { AtCell group context_cells (part 2 (context_cells * 10) ws.old) k }
     requires room_wf_2 { RoomWf context_cells us.now ds.now }
@@ -101,12 +102,12 @@ fn join_at(
                 its,
             )
         }
-        Step::Drop => Accepted::Waits,
+        Step::Drop => Ok(None),
         Step::Finish => {
             take_part(ws, vs, CELLS, k);
-            Accepted::Finishes(k)
+            Ok(Some(k))
         }
-        Step::Back => Accepted::Back,
+        Step::Back => Err(Cause::FilesGoBack),
     }
 }
 
@@ -122,7 +123,7 @@ pub fn accept_part(
     us: &[u64],
     ds: &[u8],
     its: u64,
-) -> Accepted
+) -> Result<Option<usize>, Cause>
     requires room_wf { RoomWf context_cells ws.old vs.old }
     requires room_wf_2 { RoomWf context_cells us.now ds.now }
     requires room_for { RoomFor group (items_from us.now ds.now its) ws.old vs.old }
@@ -146,6 +147,6 @@ pub fn accept_part(
                 its,
             )
         }
-        Place::Full => Accepted::Passed,
+        Place::Full => Err(Cause::LimitPassed),
     }
 }

@@ -1,14 +1,14 @@
 -- Each way through the end of the work on a group. Assumes nothing.
 use mathlib.Core.Bool.{true, false, ◌&&◌}
 use mathlib.Core.List.{List}
-use mathlib.Core.Option.{some}
+use Rattle.std.specs.Prelude.{Some}
 use mathlib.Core.Path.{◌≡◌, refl}
 use Prim.Native.Nat.{ℕ, ◌≤◌, ◌<◌}
 use native.Mathlib.Omega.{arith}
 use lib.Dec.{leb}
 use lib.ListN.{length, get_or}
 use borrow.Author.Tests.{le-leb, lt-leb}
-use Rattle.rules.specs.Causes.{ok, and_then}
+use Rattle.rules.specs.Causes.{ByCause, Ok, and_then}
 use Rattle.rules.specs.Table.{Span, Table, made, spanned}
 use Rattle.rules.specs.Context.{table_fits}
 use Rattle.rules_by_group.specs.Kept.{Within}
@@ -16,7 +16,6 @@ use Rattle.rules_by_group.specs.Group.{spanned_by}
 use Rattle.kvs.specs.RowLaws as rows
 use Rattle.memtable.specs.Views.{table_of}
 use Rattle.memtable.specs.WindowLaws.{length-window}
-use Rattle.stretch.specs.declared.Outcome.{Outcome}
 use Rattle.stretch.specs.Stretch.{is_used, head_part, key_count, entry_rows_at, key_rows_at, table_at}
 use Rattle.stretch.specs.StretchLaws.{length-entries, length-keys}
 use Rattle.stretch.specs.Changes.{ChangedAt}
@@ -47,17 +46,17 @@ own-few p b s =
     let f = s.wf.keys.rows_fit in
     (omega (arith, l, e, r), omega (arith, l, k, f))
 
-own_room : (t : Table) (p b : List ℕ) → Stands t p b → Within long_entries long_keys (some t)
+own_room : (t : Table) (p b : List ℕ) → Stands t p b → Within long_entries long_keys (Some t)
 own_room t p b s =
     let c = own-few p b (record { numbers-are = s.numbers-are; bytes-are = s.bytes-are; used = s.used; table = refl; wf = s.wf }) in
     let e = count_entries p b in
     let k = count-keys p b in
     rw (← s.table) (within_of (table_at long_keys_at p b) (omega (arith, c, e)) (omega (arith, c, k)))
 
-pub span_set : (s : Span) (t : Table) (p b : List ℕ) → Stands t p b → (r : Outcome) (p' : List ℕ) → ChangedAt long_keys_at (spanned s) p b r p' b → length p' ≡ length p → Ends (and_then (spanned s t) (λ u. ok (some u))) r p' b
+pub span_set : (s : Span) (t : Table) (p b : List ℕ) → Stands t p b → (r : ByCause (Unit {0})) (p' : List ℕ) → ChangedAt long_keys_at (spanned s) p b r p' b → length p' ≡ length p → Ends (and_then (spanned s t) (λ u. Ok (Some u))) r p' b
 span_set s t p b st r p' c k =
-    let few : (u : Table) → spanned s t ≡ ok u → Within long_entries long_keys (some u) =
-    λ u e. room-beside t u (own_room t p b st) (span-beside mode.Rewrite (some s) t u (unfold span_laid spanned_by in e)) in
+    let few : (u : Table) → spanned s t ≡ Ok u → Within long_entries long_keys (Some u) =
+    λ u e. room-beside t u (own_room t p b st) (span-beside mode.Rewrite (Some s) t u (unfold span_laid spanned_by in e)) in
     ends (spanned s t) r p' b
     (record { rule = step-rule t p b st (spanned s) r p' b c k refl few; stands = step-stands t p b st (spanned s) r p' b c k refl few })
 

@@ -1,21 +1,19 @@
 -- Each way through laying a newer table over: entries that are refused, all steps taken, and a table that is adopted. Assumes nothing.
 use mathlib.Core.Bool.{true, false}
 use mathlib.Core.List.{List, [], ◌∷◌}
-use mathlib.Core.Option.{none, some}
+use Rattle.std.specs.Prelude.{None, Some}
 use mathlib.Core.Path.{◌≡◌, refl, sym, ap, ◌∙◌}
 use Prim.Native.Nat.{ℕ, ◌+◌, ◌-◌, ◌*◌, ◌≤◌}
 use native.Mathlib.Omega.{arith}
 use lib.ListN.{length, get_or, set, take, drop}
 use Rattle.cells.specs.Part.{part, put}
 use Rattle.cells.specs.PartLaws.{length_part, length-put, set-put}
-use Rattle.rules.specs.Causes.{ok, refused, and_then}
+use Rattle.rules.specs.Causes.{Cause, ByCause, Ok, Err, and_then}
 use Rattle.rules.specs.Table.{Table, uncounted}
 use Rattle.rules_by_group.proofs.RoomLaws.{table-room}
 use Rattle.rules_by_group.specs.Kept.{Within}
 use Rattle.rules_by_group.specs.Group.{keys_over, span_over, spanned_by}
 use Rattle.memtable.specs.Views.{table_of}
-use Rattle.stretch.specs.declared.Outcome.{Outcome}
-use Rattle.stretch.specs.declared.Outcome.TheVariants.{Done, Refused}
 use Rattle.stretch.specs.Stretch.{is_used, head_part, key_count, is_counted, entry_rows_at, key_rows_at, table_at, WfAt, entry_rows, key_rows, table_in}
 use Rattle.stretch.specs.Stretch as stretch
 use Rattle.stretch.specs.StretchLaws.{Holds, own, with-counted, table_of_lem, wf_of, front-put}
@@ -33,8 +31,8 @@ use Rattle.worktable.specs.LayLaws.{entries-grown, span-beside, room-entries, ro
 pub newer-few : (q d : List ℕ) → stretch.Wf q d → (length (table_in q d).entries ≤ 64) × (length (table_in q d).keys ≤ 16)
 newer-few q d w = few_of 64 16 (table_in q d) (table-room (table_in q d) (wf-fits q d w))
 
-module _ (m : Mode) (newer t : Table) (p b : List ℕ) (s : Stands t p b) (few : (length newer.entries ≤ 64) × (length newer.keys ≤ 16)) (room : Within 320 144 (some t))
-    (r : Outcome) (p₁ : List ℕ) (c : ChangedAt long_keys_at (entries_over m newer.entries) p b r p₁ b) (k : length p₁ ≡ length p) where
+module _ (m : Mode) (newer t : Table) (p b : List ℕ) (s : Stands t p b) (few : (length newer.entries ≤ 64) × (length newer.keys ≤ 16)) (room : Within 320 144 (Some t))
+    (r : ByCause (Unit {0})) (p₁ : List ℕ) (c : ChangedAt long_keys_at (entries_over m newer.entries) p b r p₁ b) (k : length p₁ ≡ length p) where
   entries-rule : outcome_as r (table_at long_keys_at p₁ b) ≡ entries_over m newer.entries t
   entries-rule =
       step-rule t p b s (entries_over m newer.entries) r p₁ b c k refl (λ u e. room-entries newer t u few room (entries-grown m newer.entries t u e))
@@ -43,33 +41,33 @@ module _ (m : Mode) (newer t : Table) (p b : List ℕ) (s : Stands t p b) (few :
   entries_stand =
       step-stands t p b s (entries_over m newer.entries) r p₁ b c k refl (λ u e. room-entries newer t u few room (entries-grown m newer.entries t u e))
 
-  pub lay-refused : (n : ℕ) → r ≡ Refused n → TableEnds (table_over m newer t) r p₁ b
+  pub lay-refused : (n : Cause) → r ≡ Err n → TableEnds (table_over m newer t) r p₁ b
   unfolding table_over and_then
   lay-refused n e =
-      let f : refused (record { number = n; place = none }) ≡ entries_over m newer.entries t = ap (λ (x : Outcome). outcome_as x (table_at long_keys_at p₁ b)) (sym e) ∙ entries-rule in
+      let f : Err (record { cause = n; place = None }) ≡ entries_over m newer.entries t = ap (λ (x : ByCause (Unit {0})). outcome_as x (table_at long_keys_at p₁ b)) (sym e) ∙ entries-rule in
       record { rule = rw (e, ← f) refl; stands = entries_stand }
 
-  module _ (e : r ≡ Done) where
+  module _ (e : r ≡ (Ok tt)) where
     abbrev after : Table
     after = table_at long_keys_at p₁ b
 
-    after_is : entries_over m newer.entries t ≡ ok after
-    after_is = sym (ap (λ (x : Outcome). outcome_as x (table_at long_keys_at p₁ b)) (sym e) ∙ entries-rule)
+    after_is : entries_over m newer.entries t ≡ Ok after
+    after_is = sym (ap (λ (x : ByCause (Unit {0})). outcome_as x (table_at long_keys_at p₁ b)) (sym e) ∙ entries-rule)
 
-    keys-room : Within long_entries long_keys (some (keys_over newer after))
+    keys-room : Within long_entries long_keys (Some (keys_over newer after))
     keys-room = room-keys newer t after few room (entries-grown m newer.entries t after after_is)
 
     -- the keys, and then the span
-    module _ (r₂ : Outcome) (p₂ b₂ : List ℕ) (c₂ : ChangedAt long_keys_at (keys_laid newer.keys) p₁ b r₂ p₂ b₂) (k₂ : length p₂ ≡ length p₁) (l₂ : length b₂ ≡ length b) where
+    module _ (r₂ : ByCause (Unit {0})) (p₂ b₂ : List ℕ) (c₂ : ChangedAt long_keys_at (keys_laid newer.keys) p₁ b r₂ p₂ b₂) (k₂ : length p₂ ≡ length p₁) (l₂ : length b₂ ≡ length b) where
       pub keys_stand : Stands (keys_over newer after) p₂ b₂
       unfolding keys_laid keys_over
       keys_stand =
           step_to after p₁ b entries_stand (keys_laid newer.keys) r₂ p₂ b₂ c₂ k₂ l₂ (λ u d. (let h : keys_over newer after ≡ u = cc in rw (← h) keys-room)) (keys_over newer after) refl
 
-      pub lay_done : (r₃ : Outcome) (p₃ : List ℕ) → ChangedAt long_keys_at (span_laid m newer.span) p₂ b₂ r₃ p₃ b₂ → length p₃ ≡ length p₂ → TableEnds (table_over m newer t) r₃ p₃ b₂
+      pub lay_done : (r₃ : ByCause (Unit {0})) (p₃ : List ℕ) → ChangedAt long_keys_at (span_laid m newer.span) p₂ b₂ r₃ p₃ b₂ → length p₃ ≡ length p₂ → TableEnds (table_over m newer t) r₃ p₃ b₂
       unfolding table_over and_then
       lay_done r₃ p₃ c₃ k₃ =
-          let fits : (u : Table) → span_laid m newer.span (keys_over newer after) ≡ ok u → Within long_entries long_keys (some u) =
+          let fits : (u : Table) → span_laid m newer.span (keys_over newer after) ≡ Ok u → Within long_entries long_keys (Some u) =
           λ u d. room-beside (keys_over newer after) u keys-room (span-beside m newer.span (keys_over newer after) u d) in
           record {
             rule = step-rule (keys_over newer after) p₂ b₂ keys_stand (span_laid m newer.span) r₃ p₃ b₂ c₃ k₃ refl fits ∙ rw after_is refl;
@@ -78,7 +76,7 @@ module _ (m : Mode) (newer t : Table) (p b : List ℕ) (s : Stands t p b) (few :
 
 -- ---- the span
 
-pub span_none : (m : Mode) (p b : List ℕ) → WfAt long_keys_at p b → ChangedAt long_keys_at (span_laid m none) p b Done p b
+pub span_none : (m : Mode) (p b : List ℕ) → WfAt long_keys_at p b → ChangedAt long_keys_at (span_laid m None) p b (Ok tt) p b
 unfolding span_laid span_over spanned_by
 span_none mode.Append p b w = unchanged long_keys_at p b w
 span_none mode.Rewrite p b w = unchanged long_keys_at p b w
@@ -159,13 +157,13 @@ module _ (p b q d : List ℕ) (l : length p ≡ long_numbers) (m : length b ≡ 
       }
 
   adopted-parts : (p₁ p₂ b₁ : List ℕ) → p₁ ≡ put p 0 (part 0 (10 + (head_part q).len * 8) q) → p₂ ≡ put p₁ long_keys_at (part 522 (key_count q * 4) q) → b₁ ≡ put b 0 (part 0 (key_count q * 64) d)
-      → Becomes (some (uncounted (table_in q d))) (set p₂ 9 0) b₁
+      → Becomes (Some (uncounted (table_in q d))) (set p₂ 9 0) b₁
   adopted-parts p₁ p₂ b₁ e f g =
       let n = numbers-are in
       rw (f, e, g, set-put numbers 9 0 (omega arith)) (becomes (uncounted (table_in q d)) (put numbers 9 (0 ∷ [])) bytes stands)
 
   pub adopted : (p₁ p₂ b₁ : List ℕ) → p₁ ≡ put p 0 (take (10 + get_or q 3 0 * 8 - 0) (drop 0 q)) → p₂ ≡ put p₁ 3082 (take (522 + get_or q 8 0 * 4 - 522) (drop 522 q)) → b₁ ≡ put b 0 (take (get_or q 8 0 * 64 - 0) (drop 0 d))
-      → Becomes (some (uncounted (table_in q d))) (set p₂ 9 0) b₁
+      → Becomes (Some (uncounted (table_in q d))) (set p₂ 9 0) b₁
   unfolding head_part key_count
   adopted p₁ p₂ b₁ e f g =
       let x = lent-part 0 (10 + (head_part q).len * 8) (10 + (head_part q).len * 8) q (omega arith) in

@@ -2,7 +2,7 @@
 -- Assumes nothing.
 use Rattle.std.specs.Prelude.{true, false, ◌≡◌, refl, ℕ, ◌+◌, ◌*◌, ◌/◌, ◌≤◌, ◌<◌, get_or}
 use mathlib.Core.List.{List, [], ◌∷◌}
-use Rattle.std.proofs.Math.Option.{Option, none, some}
+use Rattle.std.specs.Prelude.{Option, None, Some}
 use Rattle.std.proofs.Math.Path.{sym, ap}
 use Rattle.std.proofs.Common.{◌∙◌}
 use Rattle.std.proofs.Math.Decide.{dec_lt}
@@ -17,7 +17,7 @@ use Rattle.maps.specs.MapLaws.{laid}
 use Rattle.maps.specs.OrderLaws.{split}
 use Rattle.pipe_log.specs.Numbers.{queue_number}
 use Rattle.pipe_log.specs.Rows.{queue_at, window}
-use Rattle.rules.specs.Causes.{Result, ok, refused, and_then}
+use Rattle.rules.specs.Causes.{ByCause, Result, Ok, Err, and_then}
 use Rattle.rules.specs.Items.{LogQueue, Append, Rewrite, EntryIndex, file_of, same_queue, is_rewrite}
 use Rattle.rules.specs.Table.{Held, Span, Table, made, with_entries, with_keys, with_span, uncounted, is_above_last, over, over_gap, over_keys, appended, replayed_rewrite, span_goes_back, spanned}
 use Rattle.rules.specs.Calls.{over_of, merge_table, join_table}
@@ -32,8 +32,6 @@ use Rattle.memtable.specs.Views as memtable
 use Rattle.memtable.specs.RowLaws.{row_moved, row_at-queue}
 use Rattle.memtable.specs.SameLaws.{all-rewritten}
 use Rattle.memtable.specs.WindowLaws.{window_same, window-every}
-use Rattle.stretch.specs.declared.Outcome.{Outcome}
-use Rattle.stretch.specs.declared.Outcome.TheVariants.{Done, Refused}
 use Rattle.stretch.specs.Stretch.{head_part, entry_rows, table_at, NumbersWf}
 use Rattle.stretch.specs.Changes.{outcome_as}
 use Rattle.worktable.specs.declared.Mode.{Mode}
@@ -104,33 +102,33 @@ module _ (s : List ℕ) (w : NumbersWf s) where
 -- ---- room
 
 abbrev only : List EntryIndex → Map (List ℕ) Held → Table
-only es ks = record { entries = es; keys = ks; span = none; counted = true }
+only es ks = record { entries = es; keys = ks; span = None; counted = true }
 
-self-within : (t : Table) → Within (length t.entries) (length t.keys) (some t)
+self-within : (t : Table) → Within (length t.entries) (length t.keys) (Some t)
 unfolding made or_else
 self-within t = record { few-entries = omega arith; few-keys = omega arith }
 
 over-few : (t : Table) (es : List EntryIndex) → length (over t.entries es) ≤ length t.entries + length es
 over-few t es =
     unfold made or_else merge_table with_span with_keys over_of with_entries in
-    (laid-room Append (length t.entries) (length t.keys) (some t) (only es []) (self-within t)).few-entries
+    (laid-room Append (length t.entries) (length t.keys) (Some t) (only es []) (self-within t)).few-entries
 
 gap-few : (t : Table) (es : List EntryIndex) → length (over_gap t.entries es) ≤ length t.entries + length es
 gap-few t es =
     unfold made or_else merge_table with_span with_keys over_of with_entries in
-    (laid-room Rewrite (length t.entries) (length t.keys) (some t) (only es []) (self-within t)).few-entries
+    (laid-room Rewrite (length t.entries) (length t.keys) (Some t) (only es []) (self-within t)).few-entries
 
 keys-few : (t : Table) (ks : Map (List ℕ) Held) → length (over_keys t.keys ks) ≤ length t.keys + length ks
 keys-few t ks =
     unfold made or_else merge_table with_span with_keys over_of with_entries in
-    (laid-room Append (length t.entries) (length t.keys) (some t) (only [] ks) (self-within t)).few-keys
+    (laid-room Append (length t.entries) (length t.keys) (Some t) (only [] ks) (self-within t)).few-keys
 
 -- entries laid over add no more than they are, and leave the keys
 pub record Grown (es : List EntryIndex) (t u : Table) : Type 0 where
   pub entries : length u.entries ≤ length t.entries + length es
   pub keys : u.keys ≡ t.keys
 
-appended-grown : (es : List EntryIndex) (t u : Table) → appended false es t ≡ ok u → Grown es t u
+appended-grown : (es : List EntryIndex) (t u : Table) → appended false es t ≡ Ok u → Grown es t u
 unfolding appended with_entries
 appended-grown [] t u e = let h = same_ok t u e in rw (← h) (record { entries = omega arith; keys = refl })
 appended-grown (x ∷ es) t u e =
@@ -138,12 +136,12 @@ appended-grown (x ∷ es) t u e =
     (λ y. absurd (not-ok (rw y at e)))
     (λ y. let h = same_ok (with_entries (over t.entries (x ∷ es)) t) u (rw y at e) in rw (← h) (record { entries = over-few t (x ∷ es); keys = refl }))
 
-replayed-grown : (es : List EntryIndex) (t u : Table) → ok (replayed_rewrite es t) ≡ ok u → Grown es t u
+replayed-grown : (es : List EntryIndex) (t u : Table) → ◌≡◌ {A = Result Table} (Ok (replayed_rewrite es t)) (Ok u) → Grown es t u
 unfolding replayed_rewrite with_entries
 replayed-grown es t u e =
     let h = same_ok (with_entries (over_gap t.entries es) t) u e in rw (← h) (record { entries = gap-few t es; keys = refl })
 
-pub entries-grown : (m : Mode) (es : List EntryIndex) (t u : Table) → entries_over m es t ≡ ok u → Grown es t u
+pub entries-grown : (m : Mode) (es : List EntryIndex) (t u : Table) → entries_over m es t ≡ Ok u → Grown es t u
 unfolding entries_over
 entries-grown mode.Append es t u e = appended-grown es t u e
 entries-grown mode.Rewrite es t u e = replayed-grown es t u e
@@ -156,37 +154,37 @@ pub record Beside (t u : Table) : Type 0 where
 
 span_same : (s : Option Span) (t : Table) → Beside t (span_over s t)
 unfolding span_over with_span
-span_same none t = record { entries = refl; keys = refl }
-span_same (some s) t = record { entries = refl; keys = refl }
+span_same None t = record { entries = refl; keys = refl }
+span_same (Some s) t = record { entries = refl; keys = refl }
 
-spanned_same : (s : Option Span) (t u : Table) → spanned_by s t ≡ ok u → Beside t u
+spanned_same : (s : Option Span) (t u : Table) → spanned_by s t ≡ Ok u → Beside t u
 unfolding spanned_by spanned with_span
-spanned_same none t u e = let h = same_ok t u e in rw (← h) (record { entries = refl; keys = refl })
-spanned_same (some s) t u e =
+spanned_same None t u e = let h = same_ok t u e in rw (← h) (record { entries = refl; keys = refl })
+spanned_same (Some s) t u e =
     split (span_goes_back t.span s)
     (λ y. absurd (not-ok (rw y at e)))
-    (λ y. let h = same_ok (with_span (some s) t) u (rw y at e) in rw (← h) (record { entries = refl; keys = refl }))
+    (λ y. let h = same_ok (with_span (Some s) t) u (rw y at e) in rw (← h) (record { entries = refl; keys = refl }))
 
-pub span-beside : (m : Mode) (s : Option Span) (t u : Table) → span_laid m s t ≡ ok u → Beside t u
+pub span-beside : (m : Mode) (s : Option Span) (t u : Table) → span_laid m s t ≡ Ok u → Beside t u
 unfolding span_laid
 span-beside mode.Append s t u e = let h = same_ok (span_over s t) u e in rw (← h) (span_same s t)
 span-beside mode.Rewrite s t u e = spanned_same s t u e
 span-beside mode.Join s t u e = let h = same_ok t u e in rw (← h) (record { entries = refl; keys = refl })
 
-pub within_of : (t : Table) → length t.entries ≤ long_entries → length t.keys ≤ long_keys → Within long_entries long_keys (some t)
+pub within_of : (t : Table) → length t.entries ≤ long_entries → length t.keys ≤ long_keys → Within long_entries long_keys (Some t)
 unfolding made or_else
 within_of t a b = record { few-entries = a; few-keys = b }
 
 -- there is room for each step
-module _ (newer t u : Table) (few : (length newer.entries ≤ 64) × (length newer.keys ≤ 16)) (room : Within 320 144 (some t)) (g : Grown newer.entries t u) where
-  pub room-entries : Within long_entries long_keys (some u)
+module _ (newer t u : Table) (few : (length newer.entries ≤ 64) × (length newer.keys ≤ 16)) (room : Within 320 144 (Some t)) (g : Grown newer.entries t u) where
+  pub room-entries : Within long_entries long_keys (Some u)
   room-entries =
       let f = few_of 320 144 t room in
       let e = g.entries in
       let k : length u.keys ≡ length t.keys = ap length g.keys in
       within_of u (omega (arith, few, f, e)) (omega (arith, f, k))
 
-  pub room-keys : Within long_entries long_keys (some (keys_over newer u))
+  pub room-keys : Within long_entries long_keys (Some (keys_over newer u))
   unfolding keys_over with_keys
   room-keys =
       let f = few_of 320 144 t room in
@@ -195,7 +193,7 @@ module _ (newer t u : Table) (few : (length newer.entries ≤ 64) × (length new
       let l = keys-few u newer.keys in
       within_of (keys_over newer u) (omega (arith, few, f, e)) (omega (arith, few, f, k, l))
 
-pub room-beside : (t u : Table) → Within long_entries long_keys (some t) → Beside t u → Within long_entries long_keys (some u)
+pub room-beside : (t u : Table) → Within long_entries long_keys (Some t) → Beside t u → Within long_entries long_keys (Some u)
 room-beside t u w b =
     let f = few_of long_entries long_keys t w in
     let e : length u.entries ≡ length t.entries = ap length b.entries in
@@ -204,19 +202,19 @@ room-beside t u w b =
 
 -- ---- the steps are the rules'
 
-pub head_for : (m : Mode) (h : Head) (xs : List ℕ) → memtable.Wf h xs → (t : Table) → t.entries ≡ window h.first_index h.len xs → OlderFor m (some t) → HeadFor m h
+pub head_for : (m : Mode) (h : Head) (xs : List ℕ) → memtable.Wf h xs → (t : Table) → t.entries ≡ window h.first_index h.len xs → OlderFor m (Some t) → HeadFor m h
 unfolding HeadFor OlderFor made or_else
 head_for mode.Append h xs w t e o = tt
 head_for mode.Rewrite h xs w t e o = all-rewritten h xs w (rw e at o)
 head_for mode.Join h xs w t e o = tt
 
-older-made : (m : Mode) (o : Option Table) → OlderFor m o → OlderFor m (some (made o))
+older-made : (m : Mode) (o : Option Table) → OlderFor m o → OlderFor m (Some (made o))
 unfolding OlderFor made or_else
 older-made mode.Append o a = tt
 older-made mode.Rewrite o a = a
 older-made mode.Join o a = tt
 
-pub layable-made : (m : Mode) (newer : Table) (o : Option Table) → Layable m newer o → Layable m newer (some (made o))
+pub layable-made : (m : Mode) (newer : Table) (o : Option Table) → Layable m newer o → Layable m newer (Some (made o))
 unfolding made or_else
 layable-made m newer o l =
     record {
@@ -225,49 +223,49 @@ layable-made m newer o l =
       room = record { few-entries = l.room.few-entries; few-keys = l.room.few-keys };
     }
 
-some_of : (x : Result Table) (r : Outcome) (p b : List ℕ) → work_in p b ≡ some (table_at long_keys_at p b) → outcome_as r (table_at long_keys_at p b) ≡ x → outcome_as r (work_in p b) ≡ and_then x (λ t. ok (some t))
+some_of : (x : Result Table) (r : ByCause (Unit {0})) (p b : List ℕ) → work_in p b ≡ Some (table_at long_keys_at p b) → outcome_as r (table_at long_keys_at p b) ≡ x → outcome_as r (work_in p b) ≡ and_then x (λ t. Ok (Some t))
 unfolding and_then
-some_of x Done p b w e = rw (← e) (ap ok w)
-some_of x (Refused n) p b w e = rw (← e) refl
+some_of x (Ok _) p b w e = rw (← e) (ap Ok w)
+some_of x (Err n) p b w e = rw (← e) refl
 
-pub ends : (x : Result Table) (r : Outcome) (p b : List ℕ) → TableEnds x r p b → Ends (and_then x (λ t. ok (some t))) r p b
+pub ends : (x : Result Table) (r : ByCause (Unit {0})) (p b : List ℕ) → TableEnds x r p b → Ends (and_then x (λ t. Ok (Some t))) r p b
 ends x r p b t =
     let c = becomes (table_at long_keys_at p b) p b t.stands in
     record { rule = some_of x r p b c.is t.rule; wf = c.wf }
 
-then_same : {A B : Type 0} (x : Result A) (f : A → B) (g : B → Option Table) → and_then (and_then x (λ a. ok (f a))) (λ b. ok (g b)) ≡ and_then x (λ a. ok (g (f a)))
+then_same : {A B : Type 0} (x : Result A) (f : A → B) (g : B → Option Table) → and_then (and_then x (λ a. Ok (f a))) (λ b. Ok (g b)) ≡ and_then x (λ a. Ok (g (f a)))
 unfolding and_then
-then_same (ok a) f g = refl
-then_same (refused r) f g = refl
+then_same (Ok a) f g = refl
+then_same (Err r) f g = refl
 
-over-append : (newer : Table) (o : Option Table) → and_then (table_over mode.Append newer (made o)) (λ t. ok (some t)) ≡ laid_over mode.Append newer o
+over-append : (newer : Table) (o : Option Table) → and_then (table_over mode.Append newer (made o)) (λ t. Ok (Some t)) ≡ laid_over mode.Append newer o
 unfolding table_over entries_over span_laid laid_over
 over-append newer o =
-    then_same (appended false newer.entries (made o)) (λ u. span_over newer.span (keys_over newer u)) (λ t. some t) ∙ sym (lay-append newer o)
+    then_same (appended false newer.entries (made o)) (λ u. span_over newer.span (keys_over newer u)) (λ t. Some t) ∙ sym (lay-append newer o)
 
-over-rewrite : (newer : Table) (o : Option Table) → and_then (table_over mode.Rewrite newer (made o)) (λ t. ok (some t)) ≡ laid_over mode.Rewrite newer o
+over-rewrite : (newer : Table) (o : Option Table) → and_then (table_over mode.Rewrite newer (made o)) (λ t. Ok (Some t)) ≡ laid_over mode.Rewrite newer o
 unfolding table_over entries_over span_laid laid_over and_then
 over-rewrite newer o = sym (lay-rewrite newer o)
 
-over-join : (newer older : Table) → and_then (table_over mode.Join newer (made (some older))) (λ t. ok (some t)) ≡ laid_over mode.Join newer (some older)
+over-join : (newer older : Table) → and_then (table_over mode.Join newer (made (Some older))) (λ t. Ok (Some t)) ≡ laid_over mode.Join newer (Some older)
 unfolding table_over entries_over span_laid laid_over and_then made or_else laid
-over-join newer older = ap (λ t. ok (some t)) (sym (join-over newer older))
+over-join newer older = ap (λ t. Ok (Some t)) (sym (join-over newer older))
 
 -- a merge lays over what may be absent, the join what is there
-pub ends-append : (newer : Table) (o : Option Table) (r : Outcome) (p b : List ℕ) → TableEnds (table_over mode.Append newer (made o)) r p b → Ends (laid_over mode.Append newer o) r p b
+pub ends-append : (newer : Table) (o : Option Table) (r : ByCause (Unit {0})) (p b : List ℕ) → TableEnds (table_over mode.Append newer (made o)) r p b → Ends (laid_over mode.Append newer o) r p b
 ends-append newer o r p b t = rw (← over-append newer o) (ends (table_over mode.Append newer (made o)) r p b t)
 
-pub ends-rewrite : (newer : Table) (o : Option Table) (r : Outcome) (p b : List ℕ) → TableEnds (table_over mode.Rewrite newer (made o)) r p b → Ends (laid_over mode.Rewrite newer o) r p b
+pub ends-rewrite : (newer : Table) (o : Option Table) (r : ByCause (Unit {0})) (p b : List ℕ) → TableEnds (table_over mode.Rewrite newer (made o)) r p b → Ends (laid_over mode.Rewrite newer o) r p b
 ends-rewrite newer o r p b t = rw (← over-rewrite newer o) (ends (table_over mode.Rewrite newer (made o)) r p b t)
 
-pub ends_there : (m : Mode) (newer older : Table) (r : Outcome) (p b : List ℕ) → TableEnds (table_over m newer (made (some older))) r p b → Ends (laid_over m newer (some older)) r p b
-ends_there mode.Append newer older r p b t = ends-append newer (some older) r p b t
-ends_there mode.Rewrite newer older r p b t = ends-rewrite newer (some older) r p b t
-ends_there mode.Join newer older r p b t = rw (← over-join newer older) (ends (table_over mode.Join newer (made (some older))) r p b t)
+pub ends_there : (m : Mode) (newer older : Table) (r : ByCause (Unit {0})) (p b : List ℕ) → TableEnds (table_over m newer (made (Some older))) r p b → Ends (laid_over m newer (Some older)) r p b
+ends_there mode.Append newer older r p b t = ends-append newer (Some older) r p b t
+ends_there mode.Rewrite newer older r p b t = ends-rewrite newer (Some older) r p b t
+ends_there mode.Join newer older r p b t = rw (← over-join newer older) (ends (table_over mode.Join newer (made (Some older))) r p b t)
 
-adopts : (newer : Table) → laid_over mode.Join newer none ≡ ok (some (uncounted newer))
+adopts : (newer : Table) → laid_over mode.Join newer None ≡ Ok (Some (uncounted newer))
 unfolding laid_over laid join_table
 adopts newer = refl
 
-pub ends-adopted : (newer : Table) (p b : List ℕ) → Becomes (some (uncounted newer)) p b → Ends (laid_over mode.Join newer none) Done p b
-ends-adopted newer p b c = record { rule = ap ok c.is ∙ sym (adopts newer); wf = c.wf }
+pub ends-adopted : (newer : Table) (p b : List ℕ) → Becomes (Some (uncounted newer)) p b → Ends (laid_over mode.Join newer None) (Ok tt) p b
+ends-adopted newer p b c = record { rule = ap Ok c.is ∙ sym (adopts newer); wf = c.wf }

@@ -1,6 +1,6 @@
 -- Where the long stretch stands in an area, and what copying a group's stretch to it and back promises.
 use Rattle.std.specs.Prelude.{true, List, ◌≡◌, ℕ, ◌+◌}
-use Rattle.std.proofs.Math.Option.{some}
+use Rattle.std.specs.Prelude.{Some}
 use Rattle.cells.specs.Part.{part, put}
 use Rattle.maps.specs.MapLaws.{pair}
 use Rattle.rules.specs.Table.{made}
@@ -47,6 +47,6 @@ pub record Fitting (xs bs : List ℕ) : Type 0 where
 
 -- the work table has become group g's at spare stretch k
 pub record Unloaded (k g : ℕ) (xs bs xs' bs' : List ℕ) : Type 0 where
-  pub cell : cell_at (slots + k) xs' bs' ≡ some (pair g (made (work_in (long_in xs) (long_bytes_in bs))))
+  pub cell : cell_at (slots + k) xs' bs' ≡ Some (pair g (made (work_in (long_in xs) (long_bytes_in bs))))
   pub wf : stretch.Wf (stretch_at (slots + k) xs') (bytes_at (slots + k) bs')
   pub only : Only (slots + k) xs bs xs' bs'

@@ -1,7 +1,7 @@
 -- The table of one group that a merge or a join works on, in a long stretch: a header of 10 numbers, 384 rows of entries and 160 rows of
 -- keys; beside it 160 rows of bytes. It may be absent.
 use Rattle.std.specs.Prelude.{cond, true, List, ◌≡◌, ℕ, length}
-use Rattle.std.proofs.Math.Option.{Option, none, some}
+use Rattle.std.specs.Prelude.{Option, None, Some}
 use Rattle.rules.specs.Table.{Table}
 use Rattle.stretch.specs.Stretch.{is_used, table_at, WfAt}
 
@@ -24,7 +24,7 @@ long_keys = 160
 
 -- the table, or none
 unfoldable pub work_in : List ℕ → List ℕ → Option Table
-work_in p b = cond (is_used p) (some (table_at long_keys_at p b)) none
+work_in p b = cond (is_used p) (Some (table_at long_keys_at p b)) None
 
 -- what holds of it between calls
 pub record Wf (p b : List ℕ) : Type 0 where

@@ -1,6 +1,6 @@
 // What an item's deed does to the work table.
 ghost use Rattle.std.specs.Prelude.{List, ◌≡◌, ℕ, length};
-ghost use Rattle.std.proofs.Math.Option.{none};
+ghost use Rattle.std.specs.Prelude.{None};
 ghost use Rattle.rules.specs.Causes.{left};
 ghost use Rattle.rules.specs.Table.{made};
 ghost use Rattle.worktable.specs.Work.{work_in, Wf, Stands};
@@ -13,7 +13,7 @@ use stretch::Change;
 // Makes the table absent.
 pub fn clear(p: &mut [u64])
     requires { length p.old ≡ 3722 }
-    ensures { (b : List ℕ) → length b ≡ 10240 → Becomes none p.new b }
+    ensures { (b : List ℕ) → length b ≡ 10240 → Becomes None p.new b }
 {
     p[0] = 0;
 }
@@ -36,7 +36,8 @@ fn change_table(p: &mut [u64], b: &mut [u8], change: Change, rows: &[u64], key: 
     ensures { Becomes (left (work_in p.old b.old) (deed_to (Deed.Change change) rows.now key.now value.now (work_in p.old b.old))) p.new b.new }
 {
     provide(p);
-    stretch::apply(p, b, KEYS_AT, change, rows, key, value);
+    // the caller has seen to it that nothing is refused
+    let _ = stretch::apply(p, b, KEYS_AT, change, rows, key, value);
 }
 
 // Carries out a deed that is not refused, and whose result there is room for.

@@ -1,7 +1,7 @@
 // How the work on a group ends: the span of a finished part, and whether the table is within the limits.
 ghost use Rattle.std.specs.Prelude.{true, List, ◌≡◌, ℕ, ◌≤◌, length};
-ghost use Rattle.std.proofs.Math.Option.{some};
-ghost use Rattle.rules.specs.Causes.{ok, and_then};
+ghost use Rattle.std.specs.Prelude.{Some};
+ghost use Rattle.rules.specs.Causes.{Ok, and_then};
 ghost use Rattle.rules.specs.Table.{made, spanned};
 ghost use Rattle.rules.specs.Context.{table_fits};
 ghost use Rattle.stretch.specs.Stretch.{is_used};
@@ -9,7 +9,8 @@ ghost use Rattle.worktable.specs.Work.{work_in, Wf};
 ghost use Rattle.worktable.specs.Calls.{Ends};
 
 use crate::acts::provide;
-use stretch::{ENTRY_COUNT, KEY_COUNT, MAX_ENTRIES, MAX_KEYS, Outcome};
+use pipe_log::Cause;
+use stretch::{ENTRY_COUNT, KEY_COUNT, MAX_ENTRIES, MAX_KEYS};
 
 // The limits of a group, as the header's numbers are compared with them.
 const MOST_ENTRIES: u64 = MAX_ENTRIES as u64;
@@ -17,9 +18,9 @@ const MOST_ENTRIES: u64 = MAX_ENTRIES as u64;
 const MOST_KEYS: u64 = MAX_KEYS as u64;
 
 // Sets the span of a finished atomic group, whose table is made if it is absent; files may not go back.
-pub fn set_span(p: &mut [u64], start: u64, end: u64) -> Outcome
+pub fn set_span(p: &mut [u64], start: u64, end: u64) -> Result<(), Cause>
     requires { length p.old ≡ 3722 }
-    ensures { (b : List ℕ) → Wf p.old b → Ends (and_then (spanned (record { start = start; end = end }) (made (work_in p.old b))) (λ t. ok (some t))) result p.new b }
+    ensures { (b : List ℕ) → Wf p.old b → Ends (and_then (spanned (record { start = start; end = end }) (made (work_in p.old b))) (λ t. Ok (Some t))) result p.new b }
 {
     provide(p);
     stretch::set_span(p, start, end)

@@ -1,9 +1,8 @@
 // A newer group's table laid over the work table: its entries as one replayed list, its keys, its span.
 ghost use Rattle.std.specs.Prelude.{true, false, List, ◌≡◌, ℕ, ◌*◌, ◌≤◌, length};
-ghost use Rattle.std.proofs.Math.Option.{some};
+ghost use Rattle.std.specs.Prelude.{Some};
 ghost use Rattle.cells.specs.Part.{part};
 ghost use Rattle.rules.specs.Table.{made, uncounted};
-ghost use Rattle.memtable.specs.Views.{span_of};
 ghost use Rattle.stretch.specs.Stretch.{is_used, head_part, NumbersAt, WfAt, table_at, table_in, NumbersWf};
 ghost use Rattle.stretch.specs.Stretch as held;
 ghost use Rattle.stretch.specs.Changes.{ChangedAt};
@@ -13,9 +12,8 @@ ghost use Rattle.worktable.specs.Calls.{Becomes, Ends, AllOf, newer_queue, laid_
 use crate::acts::provide;
 use crate::{KEYS_AT, Mode};
 use kvs::rows::{ROW_BYTES, ROW_WIDTH};
-use memtable::AtomicGroup;
-use pipe_log::ENTRY_WIDTH;
-use stretch::{COUNTED, ENTRIES_AT, ENTRY_COUNT, KEY_COUNT, Outcome};
+use pipe_log::{Cause, ENTRY_WIDTH, Span};
+use stretch::{COUNTED, ENTRIES_AT, ENTRY_COUNT, KEY_COUNT};
 
 // The rows of entries in use of a group's stretch.
 fn rows_of(q: &[u64], count: usize) -> &[u64]
@@ -28,7 +26,7 @@ fn rows_of(q: &[u64], count: usize) -> &[u64]
 }
 
 // Lays the entries of a newer group's stretch over those of the table.
-fn lay_entries(p: &mut [u64], q: &[u64], mode: Mode) -> Outcome
+fn lay_entries(p: &mut [u64], q: &[u64], mode: Mode) -> Result<(), Cause>
     requires numbers_at { NumbersAt 3082 p.old }
     requires numbers_wf { NumbersWf q.now }
     requires all_of { AllOf (newer_queue mode) (entries_held q.now) }
@@ -48,35 +46,33 @@ fn lay_entries(p: &mut [u64], q: &[u64], mode: Mode) -> Outcome
 
 // Lays a newer table's span over that of the table: a merge of Append tables replaces it, one of Rewrite tables sets it, and the join
 // leaves it.
-fn lay_span(p: &mut [u64], span: AtomicGroup, mode: Mode) -> Outcome
+fn lay_span(p: &mut [u64], span: Option<Span>, mode: Mode) -> Result<(), Cause>
     requires { 10 ≤ length p.old }
-    ensures { (b : List ℕ) → WfAt 3082 p.old b → ChangedAt 3082 (span_laid mode (span_of span)) p.old b result p.new b }
+    ensures { (b : List ℕ) → WfAt 3082 p.old b → ChangedAt 3082 (span_laid mode span) p.old b result p.new b }
 {
-    let AtomicGroup::Span { start, end } = span else {
-        return Outcome::Done;
+    let Some(Span { start, end }) = span else {
+        return Ok(());
     };
     match mode {
         Mode::Append => {
-            stretch::write_span(p, AtomicGroup::Span { start, end });
-            Outcome::Done
+            stretch::write_span(p, Some(Span { start, end }));
+            Ok(())
         }
         Mode::Rewrite => stretch::set_span(p, start, end),
-        Mode::Join => Outcome::Done,
+        Mode::Join => Ok(()),
     }
 }
 
 // Lays a newer group's stretch over the table that is there.
-fn lay_table(p: &mut [u64], b: &mut [u8], q: &[u64], d: &[u8], mode: Mode) -> Outcome
+fn lay_table(p: &mut [u64], b: &mut [u8], q: &[u64], d: &[u8], mode: Mode) -> Result<(), Cause>
     requires stands { Stands (table_at long_keys_at p.old b.old) p.old b.old }
     requires wf { held.Wf q.now d.now }
-    requires layable { Layable mode (table_in q.now d.now) (some (table_at long_keys_at p.old b.old)) }
+    requires layable { Layable mode (table_in q.now d.now) (Some (table_at long_keys_at p.old b.old)) }
     ensures { TableEnds (table_over mode (table_in q.now d.now) (table_at long_keys_at p.old b.old)) result p.new b.new }
 {
-    let answer = lay_entries(p, q, mode);
-    let Outcome::Done = answer else {
-        return answer;
-    };
-    stretch::lay_keys(p, b, KEYS_AT, q, d);
+    lay_entries(p, q, mode)?;
+    // a long stretch has room for the keys of two tables
+    let _ = stretch::lay_keys(p, b, KEYS_AT, q, d);
     let head = stretch::head_in(q);
     let span = head.atomic_group;
     lay_span(p, span, mode)
@@ -86,23 +82,23 @@ fn lay_table(p: &mut [u64], b: &mut [u8], q: &[u64], d: &[u8], mode: Mode) -> Ou
 fn adopt(p: &mut [u64], b: &mut [u8], q: &[u64], d: &[u8])
     requires p_len { (length p.old ≡ 3722) × (length b.old ≡ 10240) }
     requires wf { held.Wf q.now d.now × (is_used q.now ≡ true) }
-    ensures { Becomes (some (uncounted (table_in q.now d.now))) p.new b.new }
+    ensures { Becomes (Some (uncounted (table_in q.now d.now))) p.new b.new }
 {
     let entries = q[ENTRY_COUNT] as usize;
     let keys = q[KEY_COUNT] as usize;
     let start = 0;
     let e = ENTRIES_AT + entries * ENTRY_WIDTH;
-    cells::copy_in_u64(p, 0, &q[start..e]);
+    cells::copy_in(p, 0, &q[start..e]);
     let a = stretch::KEYS_AT;
     let z = a + keys * ROW_WIDTH;
-    cells::copy_in_u64(p, KEYS_AT, &q[a..z]);
+    cells::copy_in(p, KEYS_AT, &q[a..z]);
     let n = keys * ROW_BYTES;
-    cells::copy_in_u8(b, 0, &d[start..n]);
+    cells::copy_in(b, 0, &d[start..n]);
     p[COUNTED] = 0;
 }
 
 // Lays a newer group's stretch over the table, which is made if it is absent.
-fn lay_made(p: &mut [u64], b: &mut [u8], q: &[u64], d: &[u8], mode: Mode) -> Outcome
+fn lay_made(p: &mut [u64], b: &mut [u8], q: &[u64], d: &[u8], mode: Mode) -> Result<(), Cause>
     requires wf { Wf p.old b.old }
     requires wf_2 { held.Wf q.now d.now }
     requires layable { Layable mode (table_in q.now d.now) (work_in p.old b.old) }
@@ -113,7 +109,7 @@ fn lay_made(p: &mut [u64], b: &mut [u8], q: &[u64], d: &[u8], mode: Mode) -> Out
 }
 
 // Lays a newer group's stretch q, with its bytes d, over the table; the join adopts it if there is none.
-pub fn lay_over(p: &mut [u64], b: &mut [u8], q: &[u64], d: &[u8], mode: Mode) -> Outcome
+pub fn lay_over(p: &mut [u64], b: &mut [u8], q: &[u64], d: &[u8], mode: Mode) -> Result<(), Cause>
     requires wf { Wf p.old b.old }
     requires wf_2 { held.Wf q.now d.now × (is_used q.now ≡ true) }
     requires layable { Layable mode (table_in q.now d.now) (work_in p.old b.old) }
@@ -127,7 +123,7 @@ pub fn lay_over(p: &mut [u64], b: &mut [u8], q: &[u64], d: &[u8], mode: Mode) ->
         Mode::Rewrite => lay_made(p, b, q, d, Mode::Rewrite),
         Mode::Join => {
             adopt(p, b, q, d);
-            Outcome::Done
+            Ok(())
         }
     }
 }

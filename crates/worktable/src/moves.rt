@@ -21,14 +21,14 @@ pub fn load(xs: &mut [u64], bs: &mut [u8], k: usize)
     let from = k * STRETCH;
     let entries = xs[from + ENTRY_COUNT] as usize;
     let keys = xs[from + KEY_COUNT] as usize;
-    cells::shift_up_u64(xs, from, WORK_AT, ENTRIES_AT + entries * ENTRY_WIDTH);
-    cells::shift_up_u64(
+    cells::shift(xs, from, WORK_AT, ENTRIES_AT + entries * ENTRY_WIDTH);
+    cells::shift(
         xs,
         from + stretch::KEYS_AT,
         WORK_AT + KEYS_AT,
         keys * ROW_WIDTH,
     );
-    cells::shift_up_u8(bs, k * BYTES, WORK_BYTES_AT, keys * ROW_BYTES);
+    cells::shift(bs, k * BYTES, WORK_BYTES_AT, keys * ROW_BYTES);
 }
 
 // Copies the work table, which fits, to spare stretch k, as that of a group.
@@ -40,13 +40,13 @@ pub fn unload(xs: &mut [u64], bs: &mut [u8], k: usize, group: u64)
     let to = (SLOTS + k) * STRETCH;
     let entries = xs[WORK_AT + ENTRY_COUNT] as usize;
     let keys = xs[WORK_AT + KEY_COUNT] as usize;
-    cells::shift_down_u64(xs, WORK_AT, to, ENTRIES_AT + entries * ENTRY_WIDTH);
-    cells::shift_down_u64(
+    cells::shift(xs, WORK_AT, to, ENTRIES_AT + entries * ENTRY_WIDTH);
+    cells::shift(
         xs,
         WORK_AT + KEYS_AT,
         to + stretch::KEYS_AT,
         keys * ROW_WIDTH,
     );
-    cells::shift_down_u8(bs, WORK_BYTES_AT, (SLOTS + k) * BYTES, keys * ROW_BYTES);
+    cells::shift(bs, WORK_BYTES_AT, (SLOTS + k) * BYTES, keys * ROW_BYTES);
     xs[to + 1] = group;
 }

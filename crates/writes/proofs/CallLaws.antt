@@ -1,4 +1,5 @@
 -- The live calls of a batch: the wrong kind, and a batch that is written. Assumes nothing.
+use Rattle.std.specs.Prelude.{None}
 use mathlib.Core.Bool.{true, false, ◌&&◌}
 use mathlib.Core.List.{List}
 use mathlib.Core.Path.{◌≡◌, refl, sym, ap, ◌∙◌}
@@ -6,7 +7,7 @@ use Prim.Native.Nat.{ℕ, ◌-◌, ◌<◌}
 use native.Mathlib.Omega.{arith}
 use lib.ListN.{length, get_or, take, drop}
 use borrow.Author.Rules.{part_to_end}
-use Rattle.rules.specs.Causes.{Refusal, Result, ok, refused, left}
+use Rattle.rules.specs.Causes.{WrongKind, Refusal, Result, Ok, Err, left}
 use Rattle.rules.specs.Items.{FileId, Append, Rewrite, same_queue, Batch, Call, live_append, live_rewrite}
 use Rattle.rules.specs.Context.{Context, Kind, is_index, with_groups, with_waiting}
 use Rattle.rules.specs.Calls.{checked, run_batch, write, append, rewrite}
@@ -16,28 +17,25 @@ use Rattle.rules_by_group.proofs.KeptLaws.{append-kept, rewrite-kept}
 use Rattle.log_batch.specs.Lent.{batch_of}
 use Rattle.lists.specs.Rest.{kind_of}
 use Rattle.lists.specs.Laws.{rest-kind}
-use Rattle.contexts.specs.declared.Answer.{Answer}
-use Rattle.contexts.specs.declared.Answer.TheVariants as answer
-use Rattle.contexts.specs.declared.Position.TheVariants as position
-use Rattle.contexts.specs.Contexts.{rest_at, context_of, Formed, Wf, answer_as, position_of, Answered, Called}
+use Rattle.contexts.specs.Contexts.{rest_at, context_of, Formed, Wf, answer_as, Answered, Called}
 use Rattle.contexts.specs.AreaLaws.{formed_of, answered-called}
 
 -- a call that refuses at once
-pub refused-answered : (to : Context → Result Context) (xs bs : List ℕ) (r : Answer) (f : Refusal) → Formed xs bs → to (context_of xs bs) ≡ refused f → answer_as r (context_of xs bs) ≡ refused f → Answered to xs bs r xs bs
+pub refused-answered : (to : Context → Result Context) (xs bs : List ℕ) (r : Result (Unit {0})) (f : Refusal) → Formed xs bs → to (context_of xs bs) ≡ Err f → answer_as r (context_of xs bs) ≡ Err f → Answered to xs bs r xs bs
 unfolding left
 refused-answered to xs bs r f w e a =
     record { answers = a ∙ sym e; leaves = sym (ap (left (context_of xs bs)) e); formed = w }
 
 -- a call that is another one on this area
-pub same-answered : (to as' : Context → Result Context) (xs bs : List ℕ) (r : Answer) (ys ds : List ℕ) → to (context_of xs bs) ≡ as' (context_of xs bs) → Answered as' xs bs r ys ds → Answered to xs bs r ys ds
+pub same-answered : (to as' : Context → Result Context) (xs bs : List ℕ) (r : Result (Unit {0})) (ys ds : List ℕ) → to (context_of xs bs) ≡ as' (context_of xs bs) → Answered as' xs bs r ys ds → Answered to xs bs r ys ds
 same-answered to as' xs bs r ys ds e k =
     record { answers = k.answers ∙ sym e; leaves = k.leaves ∙ ap (left (context_of xs bs)) (sym e); formed = k.formed }
 
-pub refused-called : (to : Context → Result Context) (xs bs : List ℕ) (r : Answer) (f : Refusal) → Wf xs bs → to (context_of xs bs) ≡ refused f → answer_as r (context_of xs bs) ≡ refused f → Called to xs bs r xs bs
+pub refused-called : (to : Context → Result Context) (xs bs : List ℕ) (r : Result (Unit {0})) (f : Refusal) → Wf xs bs → to (context_of xs bs) ≡ Err f → answer_as r (context_of xs bs) ≡ Err f → Called to xs bs r xs bs
 refused-called to xs bs r f w e a =
     answered-called to xs bs r xs bs w (λ d k. absurd (refused_not_ok (sym e ∙ k))) (refused-answered to xs bs r f (formed_of xs bs w) e a)
 
-pub same-called : (to as' : Context → Result Context) (xs bs : List ℕ) (r : Answer) (ys ds : List ℕ) → Wf xs bs → ((d : Context) → to (context_of xs bs) ≡ ok d → Kept d) → to (context_of xs bs) ≡ as' (context_of xs bs) → Answered as' xs bs r ys ds → Called to xs bs r ys ds
+pub same-called : (to as' : Context → Result Context) (xs bs : List ℕ) (r : Result (Unit {0})) (ys ds : List ℕ) → Wf xs bs → ((d : Context) → to (context_of xs bs) ≡ Ok d → Kept d) → to (context_of xs bs) ≡ as' (context_of xs bs) → Answered as' xs bs r ys ds → Called to xs bs r ys ds
 same-called to as' xs bs r ys ds w k e a = answered-called to xs bs r ys ds w k (same-answered to as' xs bs r ys ds e a)
 
 -- ---- the batch
@@ -57,23 +55,23 @@ module _ (xs bs : List ℕ) (k : Kind) (e : k ≡ kind_of (get_or (take (length 
   kind-is = rest-kind (drop 9376 xs) (drop 16384 bs) ∙ sym (rw (part_to_end xs 9376) at e)
 
   module _ (file : FileId) (items es ds : List ℕ) where
-    pub append_wrong : Wf xs bs → (is_index k && same_queue file.queue Append) ≡ false → Called (append (batch_of file items es ds)) xs bs (answer.Refused 1 position.None) xs bs
-    unfolding append write batch_of answer_as position_of
+    pub append_wrong : Wf xs bs → (is_index k && same_queue file.queue Append) ≡ false → Called (append (batch_of file items es ds)) xs bs (Err (record { cause = WrongKind; place = None })) xs bs
+    unfolding append write batch_of answer_as
     append_wrong w f =
-        refused-called (append (batch_of file items es ds)) xs bs (answer.Refused 1 position.None) _ w (rw (kind-is, f)) refl
+        refused-called (append (batch_of file items es ds)) xs bs (Err (record { cause = WrongKind; place = None })) _ w (rw (kind-is, f)) refl
 
-    pub append_right : (r : Answer) (ys fs : List ℕ) → Wf xs bs → (is_index k && same_queue file.queue Append) ≡ true → Answered (writes_it live_append file items es ds xs bs) xs bs r ys fs → Called (append (batch_of file items es ds)) xs bs r ys fs
+    pub append_right : (r : Result (Unit {0})) (ys fs : List ℕ) → Wf xs bs → (is_index k && same_queue file.queue Append) ≡ true → Answered (writes_it live_append file items es ds xs bs) xs bs r ys fs → Called (append (batch_of file items es ds)) xs bs r ys fs
     unfolding append write batch_of
     append_right r ys fs w y c =
         same-called _ (writes_it live_append file items es ds xs bs) xs bs r ys fs w (λ d e. append-kept (batch_of file items es ds) (context_of xs bs) d w.kept e) (rw (kind-is, y)) c
 
     module _ (gate : _) where
-      pub rewrite_wrong : Wf xs bs → (is_index k && same_queue file.queue Rewrite) ≡ false → Called (rewrite gate (batch_of file items es ds)) xs bs (answer.Refused 1 position.None) xs bs
-      unfolding rewrite write batch_of answer_as position_of
+      pub rewrite_wrong : Wf xs bs → (is_index k && same_queue file.queue Rewrite) ≡ false → Called (rewrite gate (batch_of file items es ds)) xs bs (Err (record { cause = WrongKind; place = None })) xs bs
+      unfolding rewrite write batch_of answer_as
       rewrite_wrong w f =
-          refused-called (rewrite gate (batch_of file items es ds)) xs bs (answer.Refused 1 position.None) _ w (rw (kind-is, f)) refl
+          refused-called (rewrite gate (batch_of file items es ds)) xs bs (Err (record { cause = WrongKind; place = None })) _ w (rw (kind-is, f)) refl
 
-      pub rewrite-right : (r : Answer) (ys fs : List ℕ) → Wf xs bs → (is_index k && same_queue file.queue Rewrite) ≡ true → Answered (writes_it (live_rewrite gate file.seq) file items es ds xs bs) xs bs r ys fs → Called (rewrite gate (batch_of file items es ds)) xs bs r ys fs
+      pub rewrite-right : (r : Result (Unit {0})) (ys fs : List ℕ) → Wf xs bs → (is_index k && same_queue file.queue Rewrite) ≡ true → Answered (writes_it (live_rewrite gate file.seq) file items es ds xs bs) xs bs r ys fs → Called (rewrite gate (batch_of file items es ds)) xs bs r ys fs
       unfolding rewrite write batch_of
       rewrite-right r ys fs w y c =
           same-called _ (writes_it (live_rewrite gate file.seq) file items es ds xs bs) xs bs r ys fs w (λ d e. rewrite-kept gate (batch_of file items es ds) (context_of xs bs) d w.kept e) (rw (kind-is, y)) c

@@ -1,7 +1,7 @@
 -- A finished atomic group, as the loans of an area give it. Assumes nothing.
 use mathlib.Core.Bool.{true}
 use mathlib.Core.List.{List, ◌∷◌}
-use mathlib.Core.Option.{some}
+use Rattle.std.specs.Prelude.{Option, Some}
 use mathlib.Core.Path.{◌≡◌, refl, sym, ap, ◌∙◌}
 use Prim.Native.Nat.{ℕ, ◌+◌, ◌-◌, ◌*◌, ◌≤◌, ◌<◌}
 use native.Mathlib.Omega.{arith}
@@ -12,7 +12,7 @@ use Rattle.cells.specs.Part.{part}
 use Rattle.cells.specs.PartLaws.{get_or-part, loan-put}
 use Rattle.maps.specs.Lists.{every}
 use Rattle.maps.specs.MapLaws.{pair}
-use Rattle.rules.specs.Causes.{Result}
+use Rattle.rules.specs.Causes.{Cause, ByCause, Ok, Err, Result}
 use Rattle.rules.specs.Items.{LogItem, placed_from}
 use Rattle.rules.specs.Checks.{Mark}
 use Rattle.rules.specs.Context.{Part, Context}
@@ -24,10 +24,7 @@ use Rattle.room.specs.Batches.{unmarked}
 use Rattle.room.specs.Parts.{part_for, TookPart}
 use Rattle.room.specs.Layout.{context_cells, tagged, head_part}
 use Rattle.room.specs.HeadLaws.{heads-are, head_number}
-use Rattle.waiting.specs.declared.Accepted as accepted
 use Rattle.waiting.specs.Accepts.{Finishing, AcceptedAs}
-use Rattle.contexts.specs.declared.Answer.TheVariants as answer
-use Rattle.contexts.specs.declared.Position.{Position}
 use Rattle.contexts.specs.Contexts.{waiting_numbers, waiting_bytes, context_of, Formed, Answered}
 use Rattle.contexts.specs.AreaLaws.{area-length, area-bytes}
 use Rattle.batches.specs.Runs.{Going}
@@ -51,7 +48,7 @@ pub lent_above : (xs : List ℕ) (k : ℕ) → 0 < get_or (waiting_numbers xs) (
 unfolding part
 lent_above xs k h = h
 
-pub took_back : (xs bs : List ℕ) → Formed xs bs → (k : ℕ) → k < 16 → (ws vs : List ℕ) → length ws ≡ length (take 3490 (drop 10019 xs)) → length vs ≡ length (take 8192 (drop 20480 bs)) → TookPart context_cells k (take 3490 (drop 10019 xs)) (take 8192 (drop 20480 bs)) ws vs → (g : ℕ) (p : Part) (ps : List Part) → cell_of (head_part k (waiting_numbers xs) (waiting_bytes bs)) (tagged (waiting_numbers xs) (waiting_bytes bs)) ≡ some (pair g (p ∷ ps)) → TookWaiting g ps xs bs (put_mid 10019 3490 xs ws) (put_mid 20480 8192 bs vs)
+pub took_back : (xs bs : List ℕ) → Formed xs bs → (k : ℕ) → k < 16 → (ws vs : List ℕ) → length ws ≡ length (take 3490 (drop 10019 xs)) → length vs ≡ length (take 8192 (drop 20480 bs)) → TookPart context_cells k (take 3490 (drop 10019 xs)) (take 8192 (drop 20480 bs)) ws vs → (g : ℕ) (p : Part) (ps : List Part) → cell_of (head_part k (waiting_numbers xs) (waiting_bytes bs)) (tagged (waiting_numbers xs) (waiting_bytes bs)) ≡ Some (pair g (p ∷ ps)) → TookWaiting g ps xs bs (put_mid 10019 3490 xs ws) (put_mid 20480 8192 bs vs)
 unfolding part
 took_back xs bs w k l ws vs n m t g p ps e =
     let a : length ws ≡ 3490 = n ∙ w.waiting.room.numbers-are in
@@ -79,12 +76,12 @@ module _ (m : Mark) (seq : ℕ) (its : List LogItem) (xs bs : List ℕ) (w : For
   abbrev finishes : Context → Result Context
   finishes = finish_stored m.at tag m.group (record { start = start; end = seq }) its xs bs
 
-  pub finish-refused : (n : ℕ) (p : Position) (ys ds : List ℕ) → AnsweredKept finishes xs bs (answer.Refused n p) ys ds → Answered (replay_marked m seq (placed_from 0 its)) xs bs (answer.Refused n p) ys ds
+  pub finish-refused : (n : Cause) (p : Option ℕ) (ys ds : List ℕ) → AnsweredKept finishes xs bs (Err (record { cause = n; place = p })) ys ds → Answered (replay_marked m seq (placed_from 0 its)) xs bs (Err (record { cause = n; place = p })) ys ds
   unfolding newest_tag newest
   finish-refused n p ys ds a = marked_refused m seq its xs bs w k f n p ys ds (rw (et, es) at a)
 
-  module _ (ys ds : List ℕ) (a : AnsweredKept finishes xs bs answer.Accepted ys ds) where
-    pub finish-cell : cell_of (head_part k (waiting_numbers ys) (waiting_bytes ds)) (tagged (waiting_numbers ys) (waiting_bytes ds)) ≡ some (pair m.group (newest (head_part k (waiting_numbers xs) (waiting_bytes bs)) (tagged (waiting_numbers xs) (waiting_bytes bs)) ∷ f.others))
+  module _ (ys ds : List ℕ) (a : AnsweredKept finishes xs bs (Ok tt) ys ds) where
+    pub finish-cell : cell_of (head_part k (waiting_numbers ys) (waiting_bytes ds)) (tagged (waiting_numbers ys) (waiting_bytes ds)) ≡ Some (pair m.group (newest (head_part k (waiting_numbers xs) (waiting_bytes bs)) (tagged (waiting_numbers xs) (waiting_bytes bs)) ∷ f.others))
     finish-cell = let r = a.room refl in rw (r.numbers, r.bytes) f.cell
 
     -- what taking it out asks
@@ -93,13 +90,13 @@ module _ (m : Mark) (seq : ℕ) (its : List LogItem) (xs bs : List ℕ) (w : For
         let v = a.answered.formed in
         ((area-length ys ds v, area-bytes ys ds v), (v, (f.inside, count_above ys ds v k f.inside _ _ finish-cell)))
 
-    pub finish-taken : (zs es : List ℕ) → TookWaiting m.group f.others ys ds zs es → Answered (replay_marked m seq (placed_from 0 its)) xs bs answer.Accepted zs es
+    pub finish-taken : (zs es : List ℕ) → TookWaiting m.group f.others ys ds zs es → Answered (replay_marked m seq (placed_from 0 its)) xs bs (Ok tt) zs es
     unfolding newest_tag newest
     finish-taken zs gs t = marked-finished m seq its xs bs w k f ys ds (rw (et, es) at a) zs gs t
 
 -- ---- the part of a batch that comes
 
-pub accepted_back : (xs bs : List ℕ) → Formed xs bs → (g : ℕ) (new : Part) (r : accepted.Accepted) (ws vs : List ℕ) → length ws ≡ length (take 3490 (drop 10019 xs)) → length vs ≡ length (take 8192 (drop 20480 bs)) → AcceptedAs g new (take 3490 (drop 10019 xs)) (take 8192 (drop 20480 bs)) r ws vs → AcceptedIn g new xs bs r (put_mid 10019 3490 xs ws) (put_mid 20480 8192 bs vs)
+pub accepted_back : (xs bs : List ℕ) → Formed xs bs → (g : ℕ) (new : Part) (r : ByCause (Option ℕ)) (ws vs : List ℕ) → length ws ≡ length (take 3490 (drop 10019 xs)) → length vs ≡ length (take 8192 (drop 20480 bs)) → AcceptedAs g new (take 3490 (drop 10019 xs)) (take 8192 (drop 20480 bs)) r ws vs → AcceptedIn g new xs bs r (put_mid 10019 3490 xs ws) (put_mid 20480 8192 bs vs)
 unfolding part
 accepted_back xs bs w g new r ws vs n m a =
     let p : length ws ≡ 3490 = n ∙ w.waiting.room.numbers-are in

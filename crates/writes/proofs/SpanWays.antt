@@ -1,6 +1,7 @@
 -- The span of a group's stretch, as the loan gives it. Assumes nothing.
+use Rattle.rules.specs.Causes.{ByCause}
 use mathlib.Core.List.{List}
-use mathlib.Core.Option.{none, some}
+use Rattle.std.specs.Prelude.{None, Some}
 use mathlib.Core.Path.{◌≡◌, refl, sym, ◌∙◌}
 use Prim.Native.Nat.{ℕ, ◌+◌, ◌-◌, ◌*◌, ◌≤◌, ◌<◌}
 use native.Mathlib.Omega.{arith}
@@ -10,7 +11,6 @@ use Rattle.cells.specs.Part.{part}
 use Rattle.cells.specs.PartLaws.{length_part, put-part, loan-put}
 use Rattle.maps.specs.Maps.{lookup, numbers}
 use Rattle.rules.specs.Table.{Span, Table, spanned}
-use Rattle.stretch.specs.declared.Outcome.{Outcome}
 use Rattle.stretch.specs.Layout.{keys_at}
 use Rattle.stretch.specs.Stretch.{WfAt}
 use Rattle.stretch.specs.Changes as any
@@ -24,7 +24,7 @@ use Rattle.groups.specs.Laws.{found-free, found-full, lookup-free, lookup-full}
 use Rattle.groups.proofs.Applying.{lent-numbers, lent-bytes, changed_back, at-changed}
 use Rattle.writes.specs.Finishes.{SpannedGroup}
 
-module _ (k : ℕ) (s : Span) (xs p : List ℕ) (r : Outcome) (l : k < 8) (h : 9376 ≤ length xs)
+module _ (k : ℕ) (s : Span) (xs p : List ℕ) (r : ByCause (Unit {0})) (l : k < 8) (h : 9376 ≤ length xs)
     (same : length p ≡ length (take (k * 586 + 586 - k * 586) (drop (k * 586) xs)))
     (c : (w : ℕ) (b : List ℕ) → WfAt w (take (k * 586 + 586 - k * 586) (drop (k * 586) xs)) b → any.ChangedAt w (spanned s) (take (k * 586 + 586 - k * 586) (drop (k * 586) xs)) b r p b) where
   -- the area after it
@@ -67,11 +67,11 @@ module _ (k : ℕ) (s : Span) (xs p : List ℕ) (r : Outcome) (l : k < 8) (h : 9
         }
 
 -- a group that is there stands at a stretch
-none-not : {A : Type 0} {t : A} → none ≡ some t → ⊥
+none-not : {A : Type 0} {t : A} → None ≡ Some t → ⊥
 none-not e = let z : ◌≡◌ {A = ℕ} 0 1 = cc in omega arith
 
-pub not_free : {P : Type 0} (g k : ℕ) (xs bs : List ℕ) (slot : Slot) (t : Table) → Found g xs slot → slot ≡ Free k → lookup numbers g (groups_of xs bs) ≡ some t → P
+pub not_free : {P : Type 0} (g k : ℕ) (xs bs : List ℕ) (slot : Slot) (t : Table) → Found g xs slot → slot ≡ Free k → lookup numbers g (groups_of xs bs) ≡ Some t → P
 not_free g k xs bs slot t f e h = absurd (none-not (sym (lookup-free g k xs bs (found-free g k xs slot f e)) ∙ h))
 
-pub not_full : {P : Type 0} (g : ℕ) (xs bs : List ℕ) (slot : Slot) (t : Table) → Found g xs slot → slot ≡ Full → lookup numbers g (groups_of xs bs) ≡ some t → P
+pub not_full : {P : Type 0} (g : ℕ) (xs bs : List ℕ) (slot : Slot) (t : Table) → Found g xs slot → slot ≡ Full → lookup numbers g (groups_of xs bs) ≡ Some t → P
 not_full g xs bs slot t f e h = absurd (none-not (sym (lookup-full g xs bs (found-full g xs slot f e)) ∙ h))

@@ -1,22 +1,19 @@
 -- A finished atomic group on an area: its items, its span, and the part that is taken out. Assumes nothing.
 use Rattle.std.specs.Prelude.{true, false, List, [], ◌∷◌, map, ℕ, suc, ◌+◌, ◌<◌, length}
 use Rattle.std.proofs.Common.{true≢false, ◌∙◌, length-append}
-use Rattle.std.proofs.Math.Option.{Option, some}
+use Rattle.std.specs.Prelude.{Option, Some}
 use Rattle.std.proofs.Math.Path.{◌≡◌, refl, sym, ap}
 use native.Mathlib.Omega.{arith}
 use Rattle.std.proofs.lemmas.List.{length-map}
 use Rattle.maps.specs.OrderLaws.{split}
 use Rattle.maps.specs.Lists.{select}
-use Rattle.rules.specs.Causes.{Result, ok, and_then, left}
+use Rattle.rules.specs.Causes.{Cause, Err, Result, Ok, and_then, left}
 use Rattle.rules.specs.Items.{LogItem, Placed, placed_at, placed_from, is_mark, replay_rewrite}
 use Rattle.rules.specs.Table.{Span}
 use Rattle.rules.specs.Context.{Context, fits, limited, run}
 use Rattle.rules.specs.Waiting.{set_span, finish_group}
 use Rattle.rules_by_group.proofs.ResultLaws.{and_then_of, and_then_same_at, in_order-append}
 use Rattle.room.specs.Batches.{unmarked, counts_for}
-use Rattle.contexts.specs.declared.Answer.{Answer}
-use Rattle.contexts.specs.declared.Answer.TheVariants as answer
-use Rattle.contexts.specs.declared.Position.{Position}
 use Rattle.contexts.specs.Contexts.{context_of, answer_as, Formed, RoomKept}
 use Rattle.contexts.specs.AreaLaws.{room-then, room_all, context-fits}
 use Rattle.batches.specs.Runs.{Going, WentBack}
@@ -39,8 +36,8 @@ plain-items i (x ∷ xs) =
 pub both-length : (at tag : ℕ) (its : List LogItem) (xs bs : List ℕ) → length (both_items at tag its xs bs) ≡ length (stored_from tag 0 xs bs) + length (unmarked its)
 unfolding placed_at
 both-length at tag its xs bs =
-    let f : LogItem → Placed = λ x. record { item = x; place = some at } in
-    length-append (placed_at (some at) (stored_from tag 0 xs bs)) (plain (placed_from 0 its))
+    let f : LogItem → Placed = λ x. record { item = x; place = Some at } in
+    length-append (placed_at (Some at) (stored_from tag 0 xs bs)) (plain (placed_from 0 its))
     ∙ rw (length-map (stored_from tag 0 xs bs) f, ← plain-items 0 its, length-map (plain (placed_from 0 its)) (λ (x : Placed). x.item))
 
 nil-length : {A : Type 0} (l : List A) → length l ≡ 0 → l ≡ []
@@ -98,19 +95,19 @@ module _ (at tag g : ℕ) (s : Span) (its : List LogItem) (xs bs : List ℕ) whe
   abbrev owns : Context → Result Context
   owns = run limited replay_rewrite (placed_from 0 its)
 
-  both_runs : (c : Context) → fits c ≡ true → run limited replay_rewrite (both_items at tag its xs bs) c ≡ and_then (run_stored tag 0 xs bs (some at) c) owns
+  both_runs : (c : Context) → fits c ≡ true → run limited replay_rewrite (both_items at tag its xs bs) c ≡ and_then (run_stored tag 0 xs bs (Some at) c) owns
   unfolding run run_stored
   both_runs c h =
-      in_order-append _ (placed_at (some at) (stored_from tag 0 xs bs)) (plain (placed_from 0 its)) c
-      ∙ and_then_same_at (run_stored tag 0 xs bs (some at) c) _ _ (λ d e. run-plain replay_rewrite (placed_from 0 its) d (run_fits replay_rewrite (placed_at (some at) (stored_from tag 0 xs bs)) c d h e))
+      in_order-append _ (placed_at (Some at) (stored_from tag 0 xs bs)) (plain (placed_from 0 its)) c
+      ∙ and_then_same_at (run_stored tag 0 xs bs (Some at) c) _ _ (λ d e. run-plain replay_rewrite (placed_from 0 its) d (run_fits replay_rewrite (placed_at (Some at) (stored_from tag 0 xs bs)) c d h e))
 
   pub finish-runs : (c : Context) → fits c ≡ true → HasAny true (both_items at tag its xs bs) → finish_stored at tag g s its xs bs c ≡ both_run at tag g s its xs bs c
   unfolding finish_stored both_run
   finish-runs c h a =
-      finish_any (some at) g s (both_items at tag its xs bs) c (λ e. a.any refl e)
-      ∙ ap (λ (r : Result Context). and_then r (set_span limited (some at) g s)) (both_runs c h)
+      finish_any (Some at) g s (both_items at tag its xs bs) c (λ e. a.any refl e)
+      ∙ ap (λ (r : Result Context). and_then r (set_span limited (Some at) g s)) (both_runs c h)
 
-  pub finish-none : (c : Context) → HasAny false (both_items at tag its xs bs) → finish_stored at tag g s its xs bs c ≡ ok c
+  pub finish-none : (c : Context) → HasAny false (both_items at tag its xs bs) → finish_stored at tag g s its xs bs c ≡ Ok c
   unfolding finish_stored finish_group
   finish-none c a = rw (a.none refl)
 
@@ -119,14 +116,14 @@ module _ (at tag g : ℕ) (s : Span) (its : List LogItem) (xs bs : List ℕ) whe
   both_same ys ds k c = rw (stored_same tag 0 xs bs ys ds k)
 
   -- a refusal among the items that waited
-  pub both_stored : (n : ℕ) (p : Position) (ys ds : List ℕ) → Ran (run_stored tag 0 xs bs (some at)) xs bs (answer.Refused n p) ys ds → Ended (both_run at tag g s its xs bs) xs bs (answer.Refused n p) ys ds
+  pub both_stored : (n : Cause) (p : Option ℕ) (ys ds : List ℕ) → Ran (run_stored tag 0 xs bs (Some at)) xs bs (Err (record { cause = n; place = p })) ys ds → Ended (both_run at tag g s its xs bs) xs bs (Err (record { cause = n; place = p })) ys ds
   unfolding both_run answer_as and_then
   both_stored n p ys ds r =
       record { answers = rw (← r.answers); back = λ k q e. r.back; room = r.back.room; formed = r.formed }
 
-  module _ (ys ds : List ℕ) (r : Ran (run_stored tag 0 xs bs (some at)) xs bs answer.Accepted ys ds) where
+  module _ (ys ds : List ℕ) (r : Ran (run_stored tag 0 xs bs (Some at)) xs bs (Ok tt) ys ds) where
     -- a refusal among the batch's own
-    pub both_own : (n : ℕ) (p : Position) (zs es : List ℕ) → Ran owns ys ds (answer.Refused n p) zs es → Ended (both_run at tag g s its xs bs) xs bs (answer.Refused n p) zs es
+    pub both_own : (n : Cause) (p : Option ℕ) (zs es : List ℕ) → Ran owns ys ds (Err (record { cause = n; place = p })) zs es → Ended (both_run at tag g s its xs bs) xs bs (Err (record { cause = n; place = p })) zs es
     unfolding both_run answer_as and_then
     both_own n p zs es o =
         record {
@@ -136,7 +133,7 @@ module _ (at tag g : ℕ) (s : Span) (its : List LogItem) (xs bs : List ℕ) whe
           formed = o.formed;
         }
 
-    pub both_span : (zs es : List ℕ) → Ran owns ys ds answer.Accepted zs es → (a : Answer) (us fs : List ℕ) → Ended (set_span limited (some at) g s) zs es a us fs → Ended (both_run at tag g s its xs bs) xs bs a us fs
+    pub both_span : (zs es : List ℕ) → Ran owns ys ds (Ok tt) zs es → (a : Result (Unit {0})) (us fs : List ℕ) → Ended (set_span limited (Some at) g s) zs es a us fs → Ended (both_run at tag g s its xs bs) xs bs a us fs
     unfolding both_run answer_as
     both_span zs es o a us fs f =
         record {
@@ -146,16 +143,16 @@ module _ (at tag g : ℕ) (s : Span) (its : List LogItem) (xs bs : List ℕ) whe
           formed = f.formed;
         }
       where
-        spans : ok (context_of ys ds) ≡ run_stored tag 0 xs bs (some at) (context_of xs bs) → ok (context_of zs es) ≡ owns (context_of ys ds) → set_span limited (some at) g s (context_of zs es) ≡ and_then (and_then (run_stored tag 0 xs bs (some at) (context_of xs bs)) owns) (set_span limited (some at) g s)
+        spans : Ok (context_of ys ds) ≡ run_stored tag 0 xs bs (Some at) (context_of xs bs) → Ok (context_of zs es) ≡ owns (context_of ys ds) → set_span limited (Some at) g s (context_of zs es) ≡ and_then (and_then (run_stored tag 0 xs bs (Some at) (context_of xs bs)) owns) (set_span limited (Some at) g s)
         spans p q =
-            sym (and_then_of _ (set_span limited (some at) g s) (context_of zs es) (and_then_of _ owns (context_of ys ds) (sym p) ∙ sym q))
+            sym (and_then_of _ (set_span limited (Some at) g s) (context_of zs es) (and_then_of _ owns (context_of ys ds) (sym p) ∙ sym q))
 
   -- ---- the whole
 
   abbrev finishes : Context → Result Context
   finishes = finish_stored at tag g s its xs bs
 
-  pub ends-none : Formed xs bs → HasAny false (both_items at tag its xs bs) → AnsweredKept finishes xs bs answer.Accepted xs bs
+  pub ends-none : Formed xs bs → HasAny false (both_items at tag its xs bs) → AnsweredKept finishes xs bs (Ok tt) xs bs
   unfolding answer_as left
   ends-none w a =
       let e = finish-none (context_of xs bs) a in
@@ -169,7 +166,7 @@ module _ (at tag g : ℕ) (s : Span) (its : List LogItem) (xs bs : List ℕ) whe
     ends_so : both_run at tag g s its ys bs (context_of ys bs) ≡ finishes (context_of xs bs)
     ends_so = both_same ys bs k (context_of ys bs) ∙ ap (both_run at tag g s its xs bs) e ∙ sym (finish-runs (context_of xs bs) (context-fits xs bs w) a)
 
-    pub ends-done : (zs es : List ℕ) → Ended (both_run at tag g s its ys bs) ys bs answer.Accepted zs es → AnsweredKept finishes xs bs answer.Accepted zs es
+    pub ends-done : (zs es : List ℕ) → Ended (both_run at tag g s its ys bs) ys bs (Ok tt) zs es → AnsweredKept finishes xs bs (Ok tt) zs es
     unfolding answer_as left
     ends-done zs es f =
         let r = f.answers ∙ ends_so in
@@ -178,10 +175,10 @@ module _ (at tag g : ℕ) (s : Span) (its : List LogItem) (xs bs : List ℕ) whe
           room = λ q. room-then xs bs ys bs zs es k f.room;
         }
 
-    pub ends_back : (t m : ℕ) → Going t m (context_of xs bs) ys bs → (n : ℕ) (p : Position) (zs es : List ℕ) → Ended (both_run at tag g s its ys bs) ys bs (answer.Refused n p) zs es → Going t m (context_of xs bs) zs es
+    pub ends_back : (t m : ℕ) → Going t m (context_of xs bs) ys bs → (n : Cause) (p : Option ℕ) (zs es : List ℕ) → Ended (both_run at tag g s its ys bs) ys bs (Err (record { cause = n; place = p })) zs es → Going t m (context_of xs bs) zs es
     ends_back t m go n p zs es f = going_on t m (context_of xs bs) ys bs zs es go (f.back n p refl)
 
-    pub ends-refused : (t m : ℕ) → Going t m (context_of xs bs) ys bs → (n : ℕ) (p : Position) (zs es : List ℕ) → Ended (both_run at tag g s its ys bs) ys bs (answer.Refused n p) zs es → (us fs : List ℕ) → WentBack t m zs es us fs → AnsweredKept finishes xs bs (answer.Refused n p) us fs
+    pub ends-refused : (t m : ℕ) → Going t m (context_of xs bs) ys bs → (n : Cause) (p : Option ℕ) (zs es : List ℕ) → Ended (both_run at tag g s its ys bs) ys bs (Err (record { cause = n; place = p })) zs es → (us fs : List ℕ) → WentBack t m zs es us fs → AnsweredKept finishes xs bs (Err (record { cause = n; place = p })) us fs
     unfolding answer_as left
     ends-refused t m go n p zs es f us fs b =
         let r = f.answers ∙ ends_so in
@@ -195,5 +192,5 @@ module _ (at tag g : ℕ) (s : Span) (its : List LogItem) (xs bs : List ℕ) whe
           room = λ q. absurd (not-accepted q);
         }
       where
-        not-accepted : {n : ℕ} {p : Position} → answer.Refused n p ≡ answer.Accepted → ⊥
+        not-accepted : {n : Cause} {p : (Option ℕ)} → ◌≡◌ {A = Result (Unit {0})} (Err (record { cause = n; place = p })) (Ok tt) → ⊥
         not-accepted e = let z : ◌≡◌ {A = ℕ} 0 1 = cc in omega arith

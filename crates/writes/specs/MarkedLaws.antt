@@ -1,7 +1,7 @@
 -- A marked batch on an area: what becomes of its part, and a part that is taken out of the room. Assumes nothing.
-use Rattle.std.specs.Prelude.{true, eqb, length, get_or, take, drop}
+use Rattle.std.specs.Prelude.{Option, true, eqb, length, get_or, take, drop}
 use mathlib.Core.List.{List, [], ◌∷◌}
-use Rattle.std.proofs.Math.Option.{none, some}
+use Rattle.std.specs.Prelude.{None, Some}
 use Rattle.std.proofs.Math.Path.{◌≡◌, refl, sym, ap}
 use Rattle.std.proofs.Common.{◌∙◌, length-drop}
 use Prim.Native.Nat.{ℕ, ◌+◌, ◌-◌, ◌*◌, ◌≤◌, ◌<◌}
@@ -15,7 +15,7 @@ use Rattle.maps.specs.Lists.{every, or_else}
 use Rattle.maps.specs.ListLaws.{every-head}
 use Rattle.maps.specs.Maps.{Pair, Map, lookup, store, numbers}
 use Rattle.maps.specs.MapLaws.{pair, every-lookup, length-remove-le, length-insert-some}
-use Rattle.rules.specs.Causes.{Result, ok, left}
+use Rattle.rules.specs.Causes.{Cause, Err, Result, Ok, left}
 use Rattle.rules.specs.Items.{LogItem, placed_from}
 use Rattle.rules.specs.Checks.{Mark}
 use Rattle.rules.specs.Table.{Span, Table}
@@ -36,8 +36,6 @@ use Rattle.room.specs.LimitLaws.{fits_by, fits-few}
 use Rattle.room.specs.PartLaws.{counts-cons, counts-nil}
 use Rattle.room.specs.ChangeLaws.{waiting-ascends, would-wait, waiting_at_lem}
 use Rattle.waiting.specs.Accepts.{parts_at, Finishing}
-use Rattle.contexts.specs.declared.Answer.TheVariants as answer
-use Rattle.contexts.specs.declared.Position.{Position}
 use Rattle.contexts.specs.Contexts.{waiting_numbers, waiting_bytes, rest_at, context_of, answer_as, Formed, Answered}
 use Rattle.contexts.specs.AreaLaws.{area-length, area-bytes, context-fits, room-waiting}
 use Rattle.writes.specs.WaitsLaws.{plain, waiting_with, with_ok, with-refused, finish_with_lem}
@@ -112,20 +110,20 @@ unfolding some_parts or_else
 parts-entries [] = sym counts-nil.1
 parts-entries (p ∷ ps) = refl
 
-some-count : (ps : List Part) → or_else 0 item_count (some ps) ≡ item_count ps
+some-count : (ps : List Part) → or_else 0 item_count (Some ps) ≡ item_count ps
 unfolding or_else
 some-count ps = refl
 
-some-entries : (ps : List Part) → or_else 0 entry_count (some ps) ≡ entry_count ps
+some-entries : (ps : List Part) → or_else 0 entry_count (Some ps) ≡ entry_count ps
 unfolding or_else
 some-entries ps = refl
 
-fewer-groups : (g : ℕ) (p : Part) (ps : List Part) (s : _) (r : _) → lookup numbers g (waiting_in s r) ≡ some (p ∷ ps) → length (store numbers g (some_parts ps) (waiting_in s r)) ≤ length (waiting_in s r)
+fewer-groups : (g : ℕ) (p : Part) (ps : List Part) (s : _) (r : _) → lookup numbers g (waiting_in s r) ≡ Some (p ∷ ps) → length (store numbers g (some_parts ps) (waiting_in s r)) ≤ length (waiting_in s r)
 unfolding some_parts store
 fewer-groups g p [] s r e = length-remove-le numbers numbers_lawful g (waiting_in s r)
 fewer-groups g p (q ∷ qs) s r e = let l = length-insert-some numbers numbers_lawful g (q ∷ qs) (p ∷ q ∷ qs) (waiting_in s r) e (waiting-ascends s r) in omega arith
 
-pub fewer-fit : (ws vs : List ℕ) → ContextRoom ws vs → (g : ℕ) (p : Part) (ps : List Part) → lookup numbers g (waiting_of ws vs) ≡ some (p ∷ ps) → waiting_fits (store numbers g (some_parts ps) (waiting_of ws vs)) ≡ true
+pub fewer-fit : (ws vs : List ℕ) → ContextRoom ws vs → (g : ℕ) (p : Part) (ps : List Part) → lookup numbers g (waiting_of ws vs) ≡ Some (p ∷ ps) → waiting_fits (store numbers g (some_parts ps) (waiting_of ws vs)) ≡ true
 unfolding waiting_of
 fewer-fit ws vs r g p ps e =
     let s = store_of ws in
@@ -157,10 +155,10 @@ module _ (m : Mark) (seq : ℕ) (its : List LogItem) where
   unfolding part_of part_for
   new_is = rw (plain-items 0 its)
 
-  pub marked-is : (c : Context) → replay_marked m seq (placed_from 0 its) c ≡ become limited (some m.at) m.group new (plain (placed_from 0 its)) c (accept (parts_at m.group c.waiting) new)
+  pub marked-is : (c : Context) → replay_marked m seq (placed_from 0 its) c ≡ become limited (Some m.at) m.group new (plain (placed_from 0 its)) c (accept (parts_at m.group c.waiting) new)
   unfolding replay_marked accept_new_group parts_at
   marked-is c =
-      ap (λ (n : Part). become limited (some m.at) m.group n (plain (placed_from 0 its)) c (accept (parts_at m.group c.waiting) n)) new_is
+      ap (λ (n : Part). become limited (Some m.at) m.group n (plain (placed_from 0 its)) c (accept (parts_at m.group c.waiting) n)) new_is
 
   module _ (xs bs : List ℕ) (w : Formed xs bs) (k : ℕ) (f : Finishing m.group new k (waiting_numbers xs) (waiting_bytes bs)) where
     abbrev ws : List ℕ
@@ -183,7 +181,7 @@ module _ (m : Mark) (seq : ℕ) (its : List LogItem) where
     abbrev rest-waits : Map ℕ (List Part)
     rest-waits = store numbers m.group (some_parts f.others) (waiting_of ws vs)
 
-    waits_here : lookup numbers m.group (waiting_of ws vs) ≡ some (old ∷ f.others)
+    waits_here : lookup numbers m.group (waiting_of ws vs) ≡ Some (old ∷ f.others)
     unfolding waiting_of
     waits_here =
         waiting_at_lem (store_of ws) (room_of context_cells ws vs) w.waiting.room.wf k m.group (old ∷ f.others)
@@ -203,17 +201,17 @@ module _ (m : Mark) (seq : ℕ) (its : List LogItem) where
         (every-head (λ (p : Part). own_items m.group p.items) old f.others
         (unfold own_parts in every-lookup numbers numbers_lawful (λ (x : Pair ℕ (List Part)). own_parts x.key x.val) m.group (old ∷ f.others) (waiting_of ws vs) (rw waiting-is at kept.own-items) waits_here))
 
-    finish-becomes : become limited (some m.at) m.group new (plain (placed_from 0 its)) (context_of xs bs) (finish old f.others) ≡ waiting_with rest-waits rest-fits (finish_stored m.at tag m.group span its xs bs (context_of xs bs))
+    finish-becomes : become limited (Some m.at) m.group new (plain (placed_from 0 its)) (context_of xs bs) (finish old f.others) ≡ waiting_with rest-waits rest-fits (finish_stored m.at tag m.group span its xs bs (context_of xs bs))
     unfolding finish_stored stored_from become set_waiting newest part_for
     finish-becomes =
-        ap (λ (v : Map ℕ (List Part)). finish_group limited (some m.at) m.group span (both_items m.at tag its xs bs) (with_waiting (store numbers m.group (some_parts f.others) v) (context_of xs bs))) waiting-is
-        ∙ finish_with_lem rest-waits rest-fits (some m.at) m.group span (both_items m.at tag its xs bs) (context_of xs bs) (context-fits xs bs w)
+        ap (λ (v : Map ℕ (List Part)). finish_group limited (Some m.at) m.group span (both_items m.at tag its xs bs) (with_waiting (store numbers m.group (some_parts f.others) v) (context_of xs bs))) waiting-is
+        ∙ finish_with_lem rest-waits rest-fits (Some m.at) m.group span (both_items m.at tag its xs bs) (context_of xs bs) (context-fits xs bs w)
 
     finish-is : replay_marked m seq (placed_from 0 its) (context_of xs bs) ≡ waiting_with rest-waits rest-fits (finish_stored m.at tag m.group span its xs bs (context_of xs bs))
     finish-is =
         let e : accept (parts_at m.group (context_of xs bs).waiting) new ≡ finish old f.others = rw waiting-is f.accepts in
         marked-is (context_of xs bs)
-        ∙ ap (become limited (some m.at) m.group new (plain (placed_from 0 its)) (context_of xs bs)) e
+        ∙ ap (become limited (Some m.at) m.group new (plain (placed_from 0 its)) (context_of xs bs)) e
         ∙ finish-becomes
 
     abbrev finishes : Context → Result Context
@@ -222,7 +220,7 @@ module _ (m : Mark) (seq : ℕ) (its : List LogItem) where
     abbrev marked : Context → Result Context
     marked = replay_marked m seq (placed_from 0 its)
 
-    pub marked_refused : (n : ℕ) (p : Position) (ys ds : List ℕ) → AnsweredKept finishes xs bs (answer.Refused n p) ys ds → Answered marked xs bs (answer.Refused n p) ys ds
+    pub marked_refused : (n : Cause) (p : Option ℕ) (ys ds : List ℕ) → AnsweredKept finishes xs bs (Err (record { cause = n; place = p })) ys ds → Answered marked xs bs (Err (record { cause = n; place = p })) ys ds
     unfolding answer_as left
     marked_refused n p zs es a =
         let r = a.answered.answers in
@@ -233,23 +231,23 @@ module _ (m : Mark) (seq : ℕ) (its : List LogItem) where
           formed = a.answered.formed;
         }
 
-    module _ (ys ds : List ℕ) (a : AnsweredKept finishes xs bs answer.Accepted ys ds) where
+    module _ (ys ds : List ℕ) (a : AnsweredKept finishes xs bs (Ok tt) ys ds) where
       -- the cell is as it was
-      pub cell-still : cell_of (head_part k (waiting_numbers ys) (waiting_bytes ds)) (tagged (waiting_numbers ys) (waiting_bytes ds)) ≡ some (pair m.group (old ∷ f.others))
+      pub cell-still : cell_of (head_part k (waiting_numbers ys) (waiting_bytes ds)) (tagged (waiting_numbers ys) (waiting_bytes ds)) ≡ Some (pair m.group (old ∷ f.others))
       cell-still = let r = a.room refl in rw (r.numbers, r.bytes) f.cell
 
-      pub marked-finished : (zs es : List ℕ) → TookWaiting m.group f.others ys ds zs es → Answered marked xs bs answer.Accepted zs es
+      pub marked-finished : (zs es : List ℕ) → TookWaiting m.group f.others ys ds zs es → Answered marked xs bs (Ok tt) zs es
       unfolding answer_as left
       marked-finished zs es t =
           let e : context_of zs es ≡ with_waiting rest-waits (context_of ys ds) = t.context-is ∙ ap (λ (v : Map ℕ (List Part)). with_waiting (store numbers m.group (some_parts f.others) v) (context_of ys ds)) (room-waiting xs bs ys ds (a.room refl)) in
-          let q = ap ok e ∙ sym (finish-is ∙ with_ok rest-waits rest-fits (finishes (context_of xs bs)) (context_of ys ds) (sym a.answered.answers)) in
+          let q = ap Ok e ∙ sym (finish-is ∙ with_ok rest-waits rest-fits (finishes (context_of xs bs)) (context_of ys ds) (sym a.answered.answers)) in
           record { answers = q; leaves = ap (left (context_of xs bs)) q; formed = t.formed }
 
 -- ---- the newest part of a cell is taken out
 
 module _ (xs bs : List ℕ) (w : Formed xs bs) (k : ℕ) (inside : k < context_cells) where
   -- a cell with parts has a count
-  pub count_above : (g : ℕ) (ps : List Part) → cell_of (head_part k (waiting_numbers xs) (waiting_bytes bs)) (tagged (waiting_numbers xs) (waiting_bytes bs)) ≡ some (pair g ps) → 0 < get_or (waiting_numbers xs) (2 + k * 10) 0
+  pub count_above : (g : ℕ) (ps : List Part) → cell_of (head_part k (waiting_numbers xs) (waiting_bytes bs)) (tagged (waiting_numbers xs) (waiting_bytes bs)) ≡ Some (pair g ps) → 0 < get_or (waiting_numbers xs) (2 + k * 10) 0
   unfolding cell_of
   count_above g ps e =
       rw (← (count-in context_cells (waiting_numbers xs) (waiting_bytes bs) w.waiting.room.numbers-are w.waiting.room.bytes-are k inside))
@@ -257,13 +255,13 @@ module _ (xs bs : List ℕ) (w : Formed xs bs) (k : ℕ) (inside : k < context_c
       (λ y. absurd (none-not (rw y at e)))
       (λ n. let z = eqb-false (count_in (head_part k (waiting_numbers xs) (waiting_bytes bs))) 0 n in above _ z))
     where
-      none-not : {A : Type 0} {t : A} → none ≡ some t → ⊥
+      none-not : {A : Type 0} {t : A} → None ≡ Some t → ⊥
       none-not e = let z : ◌≡◌ {A = ℕ} 0 1 = cc in omega arith
 
       above : (n : ℕ) → (n ≡ 0 → ⊥) → 0 < n
       above n z = omega arith
 
-  pub took-waiting : (ws vs : List ℕ) → length ws ≡ 3490 → length vs ≡ 8192 → TookPart context_cells k (waiting_numbers xs) (waiting_bytes bs) ws vs → (g : ℕ) (p : Part) (ps : List Part) → cell_of (head_part k (waiting_numbers xs) (waiting_bytes bs)) (tagged (waiting_numbers xs) (waiting_bytes bs)) ≡ some (pair g (p ∷ ps)) → TookWaiting g ps xs bs (put xs 10019 ws) (put bs 20480 vs)
+  pub took-waiting : (ws vs : List ℕ) → length ws ≡ 3490 → length vs ≡ 8192 → TookPart context_cells k (waiting_numbers xs) (waiting_bytes bs) ws vs → (g : ℕ) (p : Part) (ps : List Part) → cell_of (head_part k (waiting_numbers xs) (waiting_bytes bs)) (tagged (waiting_numbers xs) (waiting_bytes bs)) ≡ Some (pair g (p ∷ ps)) → TookWaiting g ps xs bs (put xs 10019 ws) (put bs 20480 vs)
   unfolding waiting_of
   took-waiting ws vs n m t g p ps e =
       let b = t.became g p ps e in

@@ -2,14 +2,14 @@
 use Rattle.std.specs.Prelude.{true, false, not, ◌&&◌, refl, ℕ, suc, ◌+◌, ◌*◌, ◌≤◌, ◌<◌, length, get_or, drop}
 use Rattle.std.proofs.Common.{true≢false, ◌∙◌, add-one}
 use mathlib.Core.List.{List, [], ◌∷◌}
-use Rattle.std.proofs.Math.Option.{Option, none, some}
+use Rattle.std.specs.Prelude.{Option, None, Some}
 use Rattle.std.proofs.Math.Path.{◌≡◌, sym, ap}
 use native.Mathlib.Omega.{arith}
 use Rattle.std.proofs.lemmas.Bool.{not-true}
 use Rattle.maps.specs.BoolLaws.{both_left, both_right}
 use Rattle.maps.specs.Lists.{every}
 use Rattle.maps.specs.ListLaws.{every-head, every-tail}
-use Rattle.rules.specs.Causes.{Result, ok, and_then, in_order}
+use Rattle.rules.specs.Causes.{Cause, ByCause, Err, Result, Ok, and_then, in_order}
 use Rattle.rules.specs.Items.{entries, LogItem, placed_at, placed_from, is_reserved, replay_rewrite, is_live_rewrite}
 use Rattle.rules.specs.Checks.{long, is_out_of_range, is_other_queue, is_not_rewritable, meets3, unless_reserved, checks}
 use Rattle.rules.specs.Context.{Context, limited, run}
@@ -19,8 +19,6 @@ use Rattle.log_batch.specs.Lent.{row_count_of, item_at, items_of, item_of}
 use Rattle.stores.specs.Tags.{Tagged, store_tagged}
 use Rattle.stores.specs.TagLaws.{length-tagged, with_here, with-past, with-end}
 use Rattle.stores.specs.StoreLaws.{length-stored}
-use Rattle.stretch.specs.declared.Outcome.{Outcome}
-use Rattle.stretch.specs.declared.Outcome.TheVariants.{Done, Refused}
 use Rattle.groups.specs.Undo.{Undoable}
 use Rattle.lists.specs.Laws.{keeps_all, keeps_then}
 use Rattle.room.specs.Rooms.{area_in, items_in}
@@ -29,9 +27,7 @@ use Rattle.room.specs.LayoutLaws.{length-tags}
 use Rattle.room.specs.LimitLaws.{room-few}
 use Rattle.room.specs.Items.{ItemCopied}
 use Rattle.deeds.specs.DeedLaws.{Clear}
-use Rattle.contexts.specs.declared.Answer.TheVariants as answer
-use Rattle.contexts.specs.declared.Position.TheVariants as position
-use Rattle.contexts.specs.Contexts.{waiting_numbers, waiting_bytes, context_of, answer_as, position_of, Formed, RoomKept}
+use Rattle.contexts.specs.Contexts.{waiting_numbers, waiting_bytes, context_of, answer_as, Formed, RoomKept}
 use Rattle.contexts.specs.AreaLaws.{room_all, room-then}
 use Rattle.batches.specs.Runs.{ItemReady, Keeping, outcome_at, BackKept, Stepped}
 use Rattle.batches.specs.OwnLaws.{keeping_step, item-clear}
@@ -101,7 +97,7 @@ module _ (tag j : ℕ) (xs bs : List ℕ) (w : Formed xs bs) (h : j < waiting_co
     unfolding stored_from
     stored_past = with-past tag all j nothing inside n
 
-    pub turned-past : Undoable xs bs → Keeping replay_rewrite (context_of xs bs) → every is_passed (stored_from tag j xs bs) ≡ true → TurnedFrom tag j xs bs Done xs bs
+    pub turned-past : Undoable xs bs → Keeping replay_rewrite (context_of xs bs) → every is_passed (stored_from tag j xs bs) ≡ true → TurnedFrom tag j xs bs (Ok tt) xs bs
     unfolding run_stored and_then
     turned-past u k p =
         record {
@@ -128,16 +124,16 @@ module _ (tag j : ℕ) (xs bs : List ℕ) (w : Formed xs bs) (h : j < waiting_co
       pub copied-ready : ItemReady replay_rewrite it es ds
       copied-ready = record { lent_is = c.lent; bare = c.bare; clear = passed-clear (item_of it es ds) item-passed }
 
-      turned-rule : (r : Outcome) (ys fs : List ℕ) → Stepped replay_rewrite (item_of it es ds) false xs bs r ys fs → (q : Option ℕ) → run_stored tag j xs bs q (context_of xs bs) ≡ and_then (outcome_at q r (context_of ys fs)) (run_stored tag (suc j) xs bs q)
+      turned-rule : (r : ByCause (Unit {0})) (ys fs : List ℕ) → Stepped replay_rewrite (item_of it es ds) false xs bs r ys fs → (q : Option ℕ) → run_stored tag j xs bs q (context_of xs bs) ≡ and_then (outcome_at q r (context_of ys fs)) (run_stored tag (suc j) xs bs q)
       unfolding run_stored run in_order placed_at
       turned-rule r ys fs s q = rw (item-is, s.rule q)
 
-      turned-own : (r : Outcome) (ys fs : List ℕ) → Keeping replay_rewrite (context_of xs bs) → Stepped replay_rewrite (item_of it es ds) false xs bs r ys fs → r ≡ Done → Keeping replay_rewrite (context_of ys fs)
+      turned-own : (r : ByCause (Unit {0})) (ys fs : List ℕ) → Keeping replay_rewrite (context_of xs bs) → Stepped replay_rewrite (item_of it es ds) false xs bs r ys fs → r ≡ (Ok tt) → Keeping replay_rewrite (context_of ys fs)
       turned-own r ys fs k s d =
           let f = rw d at s in
-          keeping_step replay_rewrite (record { item = item_of it es ds; place = none }) (context_of xs bs) (context_of ys fs) (λ y. passed-clear (item_of it es ds) item-passed) k (sym (f.rule none))
+          keeping_step replay_rewrite (record { item = item_of it es ds; place = None }) (context_of xs bs) (context_of ys fs) (λ y. passed-clear (item_of it es ds) item-passed) k (sym (f.rule None))
 
-      pub turned_here : (r : Outcome) (ys fs : List ℕ) → Keeping replay_rewrite (context_of xs bs) → Stepped replay_rewrite (item_of it es ds) false xs bs r ys fs → TurnedFrom tag j xs bs r ys fs
+      pub turned_here : (r : ByCause (Unit {0})) (ys fs : List ℕ) → Keeping replay_rewrite (context_of xs bs) → Stepped replay_rewrite (item_of it es ds) false xs bs r ys fs → TurnedFrom tag j xs bs r ys fs
       turned_here r ys fs k s =
           record {
             rule = turned-rule r ys fs s;
@@ -182,11 +178,11 @@ module _ (tag : ℕ) (xs bs : List ℕ) where
     unfolding run_stored
     run_same i p c = rw (stored_same tag i xs bs ys ds s.back.room)
 
-    module _ (r : Outcome) (zs es : List ℕ) (t : TurnedFrom tag j ys ds r zs es) where
+    module _ (r : ByCause (Unit {0})) (zs es : List ℕ) (t : TurnedFrom tag j ys ds r zs es) where
       turned : (p : Option ℕ) → and_then (outcome_at p r (context_of zs es)) (run_stored tag (suc j) ys ds p) ≡ run_stored tag 0 xs bs p (context_of xs bs)
       turned p = sym (t.rule p) ∙ run_same j p (context_of ys ds) ∙ s.rest p
 
-      pub stored_more : r ≡ Done → StoredUnder tag xs bs (j + 1) zs es
+      pub stored_more : r ≡ (Ok tt) → StoredUnder tag xs bs (j + 1) zs es
       stored_more d =
           record {
             rest = λ p. rw (add-one j) (sym (run_same (suc j) p (context_of zs es)) ∙ go p);
@@ -199,26 +195,26 @@ module _ (tag : ℕ) (xs bs : List ℕ) where
           go : (p : Option ℕ) → run_stored tag (suc j) ys ds p (context_of zs es) ≡ run_stored tag 0 xs bs p (context_of xs bs)
           go p = unfold and_then in (rw d at (turned p))
 
-      pub stored_refused : (n at : ℕ) → r ≡ Refused n → Ran (run_stored tag 0 xs bs (some at)) xs bs (answer.Refused n (position.At at)) zs es
+      pub stored_refused : (n : Cause) (at : ℕ) → r ≡ Err n → Ran (run_stored tag 0 xs bs (Some at)) xs bs (Err (record { cause = n; place = (Some at) })) zs es
       stored_refused n at e =
           record {
-            answers = unfold answer_as position_of and_then in (rw e at (turned (some at)));
+            answers = unfold answer_as and_then in (rw e at (turned (Some at)));
             back = back-then xs bs ys ds zs es s.back t.back;
             own = λ a. absurd (accepted-not a);
             formed = t.formed;
           }
         where
-          accepted-not : answer.Refused n (position.At at) ≡ answer.Accepted → ⊥
+          accepted-not : ◌≡◌ {A = Result (Unit {0})} (Err (record { cause = n; place = (Some at) })) (Ok tt) → ⊥
           accepted-not a = let z : ◌≡◌ {A = ℕ} 0 1 = cc in omega arith
 
-    stored-ended : (p : Option ℕ) → waiting_count xs ≤ j → Formed xs bs → run_stored tag j xs bs p (context_of ys ds) ≡ ok (context_of ys ds)
+    stored-ended : (p : Option ℕ) → waiting_count xs ≤ j → Formed xs bs → run_stored tag j xs bs p (context_of ys ds) ≡ Ok (context_of ys ds)
     unfolding run_stored run in_order placed_at
     stored-ended p h w = rw (stored-end tag j xs bs w h)
 
-    pub stored_all : (at : ℕ) → waiting_count xs ≤ j → Formed xs bs → Ran (run_stored tag 0 xs bs (some at)) xs bs answer.Accepted ys ds
+    pub stored_all : (at : ℕ) → waiting_count xs ≤ j → Formed xs bs → Ran (run_stored tag 0 xs bs (Some at)) xs bs (Ok tt) ys ds
     unfolding answer_as
     stored_all at h w =
-        record { answers = sym (stored-ended (some at) h w) ∙ s.rest (some at); back = s.back; own = λ a. s.own; formed = s.formed }
+        record { answers = sym (stored-ended (Some at) h w) ∙ s.rest (Some at); back = s.back; own = λ a. s.own; formed = s.formed }
 
 -- ---- whether an item waits with a tag
 
@@ -254,28 +250,28 @@ module _ (items es bs : List ℕ) (n : ℕ) (q : n ≡ row_count_of items) (ys d
     abbrev here : LogItem
     here = item_at es bs (drop (i * 9) items)
 
-    pub own-more : i < n → checks replay_rewrite (items_of items es bs) ≡ none → (zs gs : List ℕ) → Stepped replay_rewrite here false xs fs Done zs gs → OwnUnder items es bs n ys ds (i + 1) zs gs
+    pub own-more : i < n → checks replay_rewrite (items_of items es bs) ≡ None → (zs gs : List ℕ) → Stepped replay_rewrite here false xs fs (Ok tt) zs gs → OwnUnder items es bs n ys ds (i + 1) zs gs
     own-more l p zs gs s =
         record {
-          rest = sym (run-done replay_rewrite items es bs n i (context_of xs fs) (context_of zs gs) l (sym (s.rule (some i)))) ∙ u.rest;
+          rest = sym (run-done replay_rewrite items es bs n i (context_of xs fs) (context_of zs gs) l (sym (s.rule (Some i)))) ∙ u.rest;
           back = back-then ys ds xs fs zs gs u.back (s.kept refl);
-          own = keeping_step replay_rewrite (record { item = here; place = some i }) (context_of xs fs) (context_of zs gs) (item-clear replay_rewrite items es bs i p (rw q at l)) u.own (sym (s.rule (some i)));
+          own = keeping_step replay_rewrite (record { item = here; place = Some i }) (context_of xs fs) (context_of zs gs) (item-clear replay_rewrite items es bs i p (rw q at l)) u.own (sym (s.rule (Some i)));
           formed = s.formed;
         }
 
-    pub own-refused : i < n → (k : ℕ) (zs gs : List ℕ) → Stepped replay_rewrite here false xs fs (Refused k) zs gs → Ran runs ys ds (answer.Refused k (position.At i)) zs gs
+    pub own-refused : i < n → (k : Cause) (zs gs : List ℕ) → Stepped replay_rewrite here false xs fs (Err k) zs gs → Ran runs ys ds (Err (record { cause = k; place = (Some i) })) zs gs
     own-refused l k zs gs s =
         record {
-          answers = unfold answer_as position_of in (sym (run-refused replay_rewrite items es bs n i (context_of xs fs) _ l (sym (s.rule (some i)))) ∙ u.rest ∙ run-start replay_rewrite items es bs n (context_of ys ds) q);
+          answers = unfold answer_as in (sym (run-refused replay_rewrite items es bs n i (context_of xs fs) _ l (sym (s.rule (Some i)))) ∙ u.rest ∙ run-start replay_rewrite items es bs n (context_of ys ds) q);
           back = back-then ys ds xs fs zs gs u.back (s.kept refl);
           own = λ a. absurd (accepted-not a);
           formed = s.formed;
         }
       where
-        accepted-not : answer.Refused k (position.At i) ≡ answer.Accepted → ⊥
+        accepted-not : ◌≡◌ {A = Result (Unit {0})} (Err (record { cause = k; place = (Some i) })) (Ok tt) → ⊥
         accepted-not a = let z : ◌≡◌ {A = ℕ} 0 1 = cc in omega arith
 
-    pub own_all : n ≤ i → Ran runs ys ds answer.Accepted xs fs
+    pub own_all : n ≤ i → Ran runs ys ds (Ok tt) xs fs
     unfolding answer_as
     own_all l =
         record {

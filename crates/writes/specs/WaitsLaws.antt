@@ -2,7 +2,7 @@
 -- for these parts. And a mark among the items does nothing. Assumes nothing.
 use Rattle.std.specs.Prelude.{true, false, not, ◌&&◌, ◌≡◌, ℕ, leb, length}
 use mathlib.Core.List.{List, [], ◌∷◌}
-use Rattle.std.proofs.Math.Option.{Option}
+use Rattle.std.specs.Prelude.{Option}
 use Rattle.std.proofs.Math.Path.{refl}
 use Rattle.std.proofs.Common.{sym, ap, ◌∙◌}
 use Rattle.maps.specs.BoolLaws.{clash, both_right, and-false}
@@ -10,7 +10,7 @@ use Rattle.maps.specs.OrderLaws.{split}
 use Rattle.maps.specs.Lists.{select, every, or_else}
 use Rattle.maps.specs.Maps.{Pair, Map, lookup, insert, store, numbers, equal_bytes}
 use Rattle.rules.specs.Limits.{max_groups, max_tombstones, max_cleaned, reserved_key}
-use Rattle.rules.specs.Causes.{Refusal, Result, ok, refused, and_then, in_order, placed}
+use Rattle.rules.specs.Causes.{Refusal, Result, Ok, Err, and_then, in_order, placed}
 use Rattle.rules.specs.Items.{Append, same_queue, Content, entries, command, kv, del, put, LogItem, Placed, is_reserved, is_clean, is_tombstone, is_mark, mark_byte, writes, Call, replay_rewrite}
 use Rattle.rules.specs.Table.{Span, Table, made, change, spanned}
 use Rattle.rules.specs.Context.{Part, Context, with_groups, with_cleaned, with_tombstones, with_waiting, table_fits, waiting_fits, fits, limited, keeps, add_cleaned, add_tombstone, act, step, run}
@@ -36,25 +36,25 @@ tombstone-waits : (call : Call) (it : LogItem) (c : Context) → (add_tombstone 
 unfolding add_tombstone with_tombstones
 tombstone-waits call it c = split (keeps call && is_tombstone it.content) (λ y. rw y) (λ n. rw n)
 
-act-waits : (call : Call) (it : LogItem) (c d : Context) → act call it c ≡ ok d → d.waiting ≡ c.waiting
+act-waits : (call : Call) (it : LogItem) (c d : Context) → act call it c ≡ Ok d → d.waiting ≡ c.waiting
 unfolding act with_groups
 act-waits call it c d e =
     split (is_reserved it.content)
     (λ y. ap (λ (x : Context). x.waiting) (sym (ok_inj (rw y at e))))
     (λ n.
-    let r = and_then_ok (change call it.content (lookup numbers it.group c.groups)) (λ t. ok (add_cleaned call it (with_groups (store numbers it.group t c.groups) c))) d (rw n at e) in
+    let r = and_then_ok (change call it.content (lookup numbers it.group c.groups)) (λ t. Ok (add_cleaned call it (with_groups (store numbers it.group t c.groups) c))) d (rw n at e) in
     ap (λ (x : Context). x.waiting) (sym (ok_inj r.2)) ∙ cleaned-waits call it (with_groups (store numbers it.group r.0 c.groups) c))
 
 module _ (w : Map ℕ (List Part)) (f : waiting_fits w ≡ true) where
   -- the same result with w waiting
   unfoldable pub waiting_with : Result Context → Result Context
-  waiting_with r = and_then r (λ d. ok (with_waiting w d))
+  waiting_with r = and_then r (λ d. Ok (with_waiting w d))
 
-  pub with_ok : (r : Result Context) (d : Context) → r ≡ ok d → waiting_with r ≡ ok (with_waiting w d)
+  pub with_ok : (r : Result Context) (d : Context) → r ≡ Ok d → waiting_with r ≡ Ok (with_waiting w d)
   unfolding waiting_with and_then
   with_ok r d e = rw e
 
-  pub with-refused : (r : Result Context) (x : Refusal) → r ≡ refused x → waiting_with r ≡ refused x
+  pub with-refused : (r : Result Context) (x : Refusal) → r ≡ Err x → waiting_with r ≡ Err x
   unfolding waiting_with and_then
   with-refused r x e = rw e
 
@@ -74,9 +74,9 @@ module _ (w : Map ℕ (List Part)) (f : waiting_fits w ≡ true) where
   unfolding add_tombstone with_tombstones with_waiting
   tombstone_with call it c = split (keeps call && is_tombstone it.content) (λ y. rw y) (λ n. rw n)
 
-  act_changes : (call : Call) (it : LogItem) (c : Context) (t : Option Table) → is_reserved it.content ≡ false → change call it.content (lookup numbers it.group c.groups) ≡ ok t → act call it (with_waiting w c) ≡ waiting_with (act call it c)
+  act_changes : (call : Call) (it : LogItem) (c : Context) (t : Option Table) → is_reserved it.content ≡ false → change call it.content (lookup numbers it.group c.groups) ≡ Ok t → act call it (with_waiting w c) ≡ waiting_with (act call it c)
   unfolding act waiting_with and_then with_waiting with_groups
-  act_changes call it c t n e = rw (n, e) (ap ok (cleaned_with call it (with_groups (store numbers it.group t c.groups) c)))
+  act_changes call it c t n e = rw (n, e) (ap Ok (cleaned_with call it (with_groups (store numbers it.group t c.groups) c)))
 
   act_with : (call : Call) (it : LogItem) (c : Context) → act call it (with_waiting w c) ≡ waiting_with (act call it c)
   unfolding act waiting_with and_then with_waiting
@@ -89,13 +89,13 @@ module _ (w : Map ℕ (List Part)) (f : waiting_fits w ≡ true) where
       (λ r e. rw (n, e)))
 
   module _ (call : Call) (x : Placed) (c : Context) (h : fits c ≡ true) where
-    step-acted : (d : Context) → act call x.item c ≡ ok d → step limited call x (with_waiting w c) ≡ waiting_with (step limited call x c)
+    step-acted : (d : Context) → act call x.item c ≡ Ok d → step limited call x (with_waiting w c) ≡ waiting_with (step limited call x c)
     unfolding step placed and_then
     step-acted d e =
         rw (act_with call x.item c ∙ with_ok (act call x.item c) d e, e, tombstone_with call x.item d)
         (limited_with x.place (add_tombstone call x.item d) (rw (tombstone-waits call x.item d ∙ act-waits call x.item c d e) (waiting-fits c h)))
 
-    step-refuses : (r : Refusal) → act call x.item c ≡ refused r → step limited call x (with_waiting w c) ≡ waiting_with (step limited call x c)
+    step-refuses : (r : Refusal) → act call x.item c ≡ Err r → step limited call x (with_waiting w c) ≡ waiting_with (step limited call x c)
     unfolding step placed and_then waiting_with
     step-refuses r e = rw (act_with call x.item c ∙ with-refused (act call x.item c) r e, e)
 
@@ -103,14 +103,14 @@ module _ (w : Map ℕ (List Part)) (f : waiting_fits w ≡ true) where
     step_with = by_result (act call x.item c) step-acted step-refuses
 
 -- an accepted step passes no limit
-pub step_fits : (call : Call) (x : Placed) (c d : Context) → step limited call x c ≡ ok d → fits d ≡ true
+pub step_fits : (call : Call) (x : Placed) (c d : Context) → step limited call x c ≡ Ok d → fits d ≡ true
 unfolding step
 step_fits call x c d e =
     let r = and_then_ok (placed x.place (act call x.item c)) (λ a. limited x.place (add_tombstone call x.item a)) d e in
     let l = limited_ok x.place (add_tombstone call x.item r.0) d r.2 in
     rw l.0 at l.1
 
-pub run_fits : (call : Call) (xs : List Placed) (c d : Context) → fits c ≡ true → run limited call xs c ≡ ok d → fits d ≡ true
+pub run_fits : (call : Call) (xs : List Placed) (c d : Context) → fits c ≡ true → run limited call xs c ≡ Ok d → fits d ≡ true
 unfolding run in_order
 run_fits call [] c d h e = rw (ok_inj e) at h
 run_fits call (x ∷ xs) c d h e =
@@ -152,7 +152,7 @@ mark-content (kv k (put v f)) e =
     split (equal_bytes k reserved_key) (λ y. (y, refl)) (λ n. absurd (clash (rw n at e)))
 
 -- a mark does nothing
-pub mark_step : (call : Call) (x : Placed) (c : Context) → is_mark x.item ≡ true → fits c ≡ true → step limited call x c ≡ ok c
+pub mark_step : (call : Call) (x : Placed) (c : Context) → is_mark x.item ≡ true → fits c ≡ true → step limited call x c ≡ Ok c
 unfolding step act add_tombstone is_mark placed and_then
 mark_step call x c m h =
     let r = mark-content x.item.content m in

@@ -3,17 +3,14 @@ ghost use Rattle.std.specs.Prelude.{◌≡◌, ◌&&◌};
 ghost use Rattle.rules.specs.Items.{same_queue};
 ghost use Rattle.rules.specs.Context as rules;
 ghost use Rattle.rules.specs.Calls as rules·calls;
-ghost use Rattle.pipe_log.specs.Numbers.{gate_of};
 ghost use Rattle.log_batch.specs.Lent.{batch_of};
 ghost use Rattle.lists.specs.Calls.{kind_as};
 ghost use Rattle.contexts.specs.Contexts.{Wf, Called};
 
 use crate::writes::{write_live_append, write_rewrite};
-use contexts::{Answer, Position};
 use lists::Kind;
 use log_batch::entries::same_queue;
-use pipe_log::causes::WRONG_KIND;
-use pipe_log::{FileId, Gate, LogQueue};
+use pipe_log::{Cause, FileId, LogQueue, Refusal};
 
 // Whether an area is the index.
 fn is_index(kind: Kind) -> bool
@@ -22,16 +19,6 @@ fn is_index(kind: Kind) -> bool
     match kind {
         Kind::Context(queue) => false,
         Kind::Index => true,
-    }
-}
-
-// The answer to a call on the wrong kind.
-pub fn wrong_kind() -> Answer
-    ensures { result ≡ Answer.Refused 1 Position.None }
-{
-    Answer::Refused {
-        number: WRONG_KIND,
-        place: Position::None,
     }
 }
 
@@ -53,7 +40,7 @@ pub fn append(
     items: &[u64],
     entries: &[u64],
     bytes: &[u8],
-) -> Answer
+) -> Result<(), Refusal>
     requires { Wf xs.old bs.old }
     ensures { Called (rules·calls.append (batch_of file items.now entries.now bytes.now)) xs.old bs.old result xs.new bs.new }
 {
@@ -62,7 +49,7 @@ pub fn append(
     let queue = file.queue;
     let seq = file.seq;
     if !takes(kind, queue, LogQueue::Append) {
-        return wrong_kind();
+        return Err(Refusal::from(Cause::WrongKind));
     }
     write_live_append(xs, bs, seq, items, entries, bytes)
 }
@@ -71,21 +58,21 @@ pub fn append(
 pub fn rewrite(
     xs: &mut [u64],
     bs: &mut [u8],
-    gate: Gate,
+    gate: Option<u64>,
     file: FileId,
     items: &[u64],
     entries: &[u64],
     bytes: &[u8],
-) -> Answer
+) -> Result<(), Refusal>
     requires { Wf xs.old bs.old }
-    ensures { Called (rules·calls.rewrite (gate_of gate) (batch_of file items.now entries.now bytes.now)) xs.old bs.old result xs.new bs.new }
+    ensures { Called (rules·calls.rewrite gate (batch_of file items.now entries.now bytes.now)) xs.old bs.old result xs.new bs.new }
 {
     let a = groups::NUMBERS;
     let kind = lists::kind_in(&xs[a..]);
     let queue = file.queue;
     let seq = file.seq;
     if !takes(kind, queue, LogQueue::Rewrite) {
-        return wrong_kind();
+        return Err(Refusal::from(Cause::WrongKind));
     }
     write_rewrite(xs, bs, gate, seq, items, entries, bytes)
 }

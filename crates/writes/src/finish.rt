@@ -1,7 +1,7 @@
 // An atomic group that a batch finishes: the items that waited and the batch's own are carried out, the span is set, and the part
 // that waited is taken out.
 ghost use Rattle.std.specs.Prelude.{true, List, ◌∷◌, ◌≡◌, ℕ, ◌+◌, ◌*◌, ◌≤◌, ◌<◌, length, get_or};
-ghost use Rattle.std.proofs.Math.Option.{none, some};
+ghost use Rattle.std.specs.Prelude.{None, Some};
 ghost use Rattle.maps.specs.Lists.{every};
 ghost use Rattle.maps.specs.MapLaws.{pair};
 ghost use Rattle.rules.specs.Items.{Rewrite, placed_from, replay_rewrite};
@@ -24,8 +24,9 @@ ghost use Rattle.writes.specs.Finishes.{waiting_count, stored_from, HasAny, both
 use crate::spans::set_span;
 use crate::stored::{holds_any, run_own, run_stored};
 use batches::go_back;
-use contexts::{Answer, WAITING_BYTES_FROM, WAITING_FROM};
+use contexts::{WAITING_BYTES_FROM, WAITING_FROM};
 use log_batch::mark::Mark;
+use pipe_log::Refusal;
 use room::NEWEST_AT;
 
 // Where a cell has the tag and the start of its newest part.
@@ -36,7 +37,7 @@ const START: usize = NEWEST_AT + 2;
 // Whether a finished group has an item, one that waited with the tag or one of the batch's own.
 fn has_items(xs: &[u64], tag: u64, items: &[u64], entries: &[u64], bytes: &[u8]) -> bool
     requires xs_len { (length xs.now ≡ 17231) × (waiting_count xs.now ≤ 128) }
-    requires bytes_value { checks replay_rewrite (items_of items.now entries.now bytes.now) ≡ none }
+    requires bytes_value { checks replay_rewrite (items_of items.now entries.now bytes.now) ≡ None }
     ensures { (at : ℕ) (bs : List ℕ) → Formed xs.now bs → HasAny result (both_items at tag (items_of items.now entries.now bytes.now) xs.now bs) }
 {
     if holds_any(xs, tag) {
@@ -61,23 +62,17 @@ fn run_both(
     items: &[u64],
     entries: &[u64],
     bytes: &[u8],
-) -> Answer
+) -> Result<(), Refusal>
     requires formed { Formed xs.old bs.old }
     requires undoable { Undoable xs.old bs.old }
-    requires bytes_value { checks replay_rewrite (items_of items.now entries.now bytes.now) ≡ none }
+    requires bytes_value { checks replay_rewrite (items_of items.now entries.now bytes.now) ≡ None }
     requires bs_value { every is_passed (stored_from tag 0 xs.old bs.old) ≡ true }
     requires keeping { Keeping replay_rewrite (context_of xs.old bs.old) }
     ensures { Ended (both_run mark.at tag mark.raft_group_id (record { start = start; end = seq }) (items_of items.now entries.now bytes.now) xs.old bs.old) xs.old bs.old result xs.new bs.new }
 {
     let at = mark.at;
-    let stored = run_stored(xs, bs, tag, at);
-    if let Answer::Refused { number, place } = stored {
-        return Answer::Refused { number, place };
-    }
-    let own = run_own(xs, bs, items, entries, bytes);
-    if let Answer::Refused { number, place } = own {
-        return Answer::Refused { number, place };
-    }
+    run_stored(xs, bs, tag, at)?;
+    run_own(xs, bs, items, entries, bytes)?;
     set_span(xs, bs, mark.raft_group_id, start, seq, at)
 }
 
@@ -92,25 +87,25 @@ fn finish_items(
     items: &[u64],
     entries: &[u64],
     bytes: &[u8],
-) -> Answer
+) -> Result<(), Refusal>
     requires formed { Formed xs.old bs.old }
-    requires bytes_value { checks replay_rewrite (items_of items.now entries.now bytes.now) ≡ none }
+    requires bytes_value { checks replay_rewrite (items_of items.now entries.now bytes.now) ≡ None }
     requires bs_value { every is_passed (stored_from tag 0 xs.old bs.old) ≡ true }
     requires keeping { Keeping replay_rewrite (context_of xs.old bs.old) }
     ensures { AnsweredKept (finish_stored mark.at tag mark.raft_group_id (record { start = start; end = seq }) (items_of items.now entries.now bytes.now) xs.old bs.old) xs.old bs.old result xs.new bs.new }
 {
     if !has_items(xs, tag, items, entries, bytes) {
-        return Answer::Accepted;
+        return Ok(());
     }
     let a = groups::NUMBERS;
     let counts = lists::counts_in(&xs[a..]);
     groups::begin(xs);
     let answer = run_both(xs, bs, tag, start, mark, seq, items, entries, bytes);
-    if let Answer::Refused { number, place } = answer {
+    if let Err(refusal) = answer {
         go_back(xs, bs, counts);
-        return Answer::Refused { number, place };
+        return Err(refusal);
     }
-    Answer::Accepted
+    Ok(())
 }
 
 // Takes the newest part of cell k out of what waits.
@@ -118,7 +113,7 @@ fn take_waiting(xs: &mut [u64], bs: &mut [u8], k: usize)
     requires xs_len { (length xs.old ≡ 17231) × (length bs.old ≡ 38912) }
     requires formed { Formed xs.old bs.old }
     requires k_bound { (k < 16) × (0 < get_or (waiting_numbers xs.old) (2 + k * 10) 0) }
-    ensures { (g : ℕ) (p : Part) (ps : List Part) → cell_of (head_part k (waiting_numbers xs.old) (waiting_bytes bs.old)) (tagged (waiting_numbers xs.old) (waiting_bytes bs.old)) ≡ some (pair g (p ∷ ps)) → TookWaiting g ps xs.old bs.old xs.new bs.new }
+    ensures { (g : ℕ) (p : Part) (ps : List Part) → cell_of (head_part k (waiting_numbers xs.old) (waiting_bytes bs.old)) (tagged (waiting_numbers xs.old) (waiting_bytes bs.old)) ≡ Some (pair g (p ∷ ps)) → TookWaiting g ps xs.old bs.old xs.new bs.new }
 {
     let a = WAITING_FROM;
     let e = a + room::NUMBERS;
@@ -145,19 +140,16 @@ pub fn finish(
     items: &[u64],
     entries: &[u64],
     bytes: &[u8],
-) -> Answer
+) -> Result<(), Refusal>
     requires formed { Formed xs.old bs.old }
     requires kept_at { KeptAt (context Rewrite) (context_of xs.old bs.old) }
-    requires bytes_value { checks replay_rewrite (items_of items.now entries.now bytes.now) ≡ none }
+    requires bytes_value { checks replay_rewrite (items_of items.now entries.now bytes.now) ≡ None }
     requires finishing { Finishing mark.raft_group_id (part_for mark.byte seq (unmarked (items_of items.now entries.now bytes.now))) k (waiting_numbers xs.old) (waiting_bytes bs.old) }
     ensures { Answered (replay_marked (record { at = mark.at; group = mark.raft_group_id; byte = mark.byte }) seq (placed_from 0 (items_of items.now entries.now bytes.now))) xs.old bs.old result xs.new bs.new }
 {
     let tag = head_number(xs, k, TAG);
     let start = head_number(xs, k, START);
-    let answer = finish_items(xs, bs, tag, start, mark, seq, items, entries, bytes);
-    if let Answer::Refused { number, place } = answer {
-        return Answer::Refused { number, place };
-    }
+    finish_items(xs, bs, tag, start, mark, seq, items, entries, bytes)?;
     take_waiting(xs, bs, k);
-    Answer::Accepted
+    Ok(())
 }

@@ -1,5 +1,5 @@
 // Replay of a marked batch of the Rewrite queue: it waits, or finishes what waited.
-ghost use Rattle.std.proofs.Math.Option.{none};
+ghost use Rattle.std.specs.Prelude.{None};
 ghost use Rattle.std.specs.Prelude.{◌≡◌, length};
 ghost use Rattle.rules.specs.Items.{Rewrite, placed_from, replay_rewrite};
 ghost use Rattle.rules.specs.Checks.{checks};
@@ -10,13 +10,12 @@ ghost use Rattle.log_batch.specs.Lent.{items_of};
 ghost use Rattle.room.specs.Batches.{unmarked};
 ghost use Rattle.room.specs.Parts.{part_for};
 ghost use Rattle.contexts.specs.Contexts.{context_of, Formed, Answered};
-ghost use Rattle.writes.specs.Accepting.{AcceptedIn};
+ghost use Rattle.writes.specs.Accepting.{refusal_at, AcceptedIn};
 
 use crate::finish::finish;
-use contexts::{Answer, Position, WAITING_BYTES_FROM, WAITING_FROM};
+use contexts::{WAITING_BYTES_FROM, WAITING_FROM};
 use log_batch::mark::Mark;
-use pipe_log::causes::{FILES_GO_BACK, LIMIT_PASSED};
-use waiting::Accepted;
+use pipe_log::{Cause, Refusal};
 
 // Accepts the part of a marked batch in the room of the waiting parts.
 fn accept(
@@ -27,10 +26,10 @@ fn accept(
     items: &[u64],
     entries: &[u64],
     bytes: &[u8],
-) -> Accepted
+) -> Result<Option<usize>, Cause>
     requires xs_len { (length xs.old ≡ 17231) × (length bs.old ≡ 38912) }
     requires formed { Formed xs.old bs.old }
-    requires bytes_value { checks replay_rewrite (items_of items.now entries.now bytes.now) ≡ none }
+    requires bytes_value { checks replay_rewrite (items_of items.now entries.now bytes.now) ≡ None }
     ensures { AcceptedIn mark.raft_group_id (part_for mark.byte seq (unmarked (items_of items.now entries.now bytes.now))) xs.old bs.old result xs.new bs.new }
 {
     let a = WAITING_FROM;
@@ -51,6 +50,19 @@ fn accept(
     )
 }
 
+// The refusal of a marked batch that can't wait: a limit is met at the mark, and files go back at no item.
+fn refusal_at(cause: Cause, at: usize) -> Refusal
+    ensures { result ≡ refusal_at cause at }
+{
+    match cause {
+        Cause::LimitPassed => Refusal {
+            cause,
+            place: Some(at),
+        },
+        _ => Refusal { cause, place: None },
+    }
+}
+
 // Replays a marked batch that passed the checks.
 pub fn replay_marked(
     xs: &mut [u64],
@@ -60,24 +72,15 @@ pub fn replay_marked(
     items: &[u64],
     entries: &[u64],
     bytes: &[u8],
-) -> Answer
+) -> Result<(), Refusal>
     requires formed { Formed xs.old bs.old }
     requires kept_at { KeptAt (context Rewrite) (context_of xs.old bs.old) }
-    requires bytes_value { checks replay_rewrite (items_of items.now entries.now bytes.now) ≡ none }
+    requires bytes_value { checks replay_rewrite (items_of items.now entries.now bytes.now) ≡ None }
     ensures { Answered (replay_marked (record { at = mark.at; group = mark.raft_group_id; byte = mark.byte }) seq (placed_from 0 (items_of items.now entries.now bytes.now))) xs.old bs.old result xs.new bs.new }
 {
-    let at = mark.at;
-    let answer = accept(xs, bs, mark, seq, items, entries, bytes);
-    match answer {
-        Accepted::Waits => Answer::Accepted,
-        Accepted::Passed => Answer::Refused {
-            number: LIMIT_PASSED,
-            place: Position::At(at),
-        },
-        Accepted::Back => Answer::Refused {
-            number: FILES_GO_BACK,
-            place: Position::None,
-        },
-        Accepted::Finishes(k) => finish(xs, bs, k, mark, seq, items, entries, bytes),
+    match accept(xs, bs, mark, seq, items, entries, bytes) {
+        Ok(None) => Ok(()),
+        Ok(Some(k)) => finish(xs, bs, k, mark, seq, items, entries, bytes),
+        Err(cause) => Err(refusal_at(cause, mark.at)),
     }
 }

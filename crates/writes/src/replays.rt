@@ -6,12 +6,10 @@ ghost use Rattle.log_batch.specs.Lent.{batch_of};
 ghost use Rattle.lists.specs.Calls.{kind_as};
 ghost use Rattle.contexts.specs.Contexts.{Wf, Called};
 
-use crate::calls::wrong_kind;
 use crate::writes::{write_replay_append, write_rewrite_replay};
-use contexts::Answer;
 use lists::Kind;
 use log_batch::entries::same_queue;
-use pipe_log::{FileId, LogQueue};
+use pipe_log::{Cause, FileId, LogQueue, Refusal};
 
 // Whether an area is a context of a queue.
 fn is_context(kind: Kind, queue: LogQueue) -> bool
@@ -31,7 +29,7 @@ pub fn replay(
     items: &[u64],
     entries: &[u64],
     bytes: &[u8],
-) -> Answer
+) -> Result<(), Refusal>
     requires { Wf xs.old bs.old }
     ensures { Called (rules·calls.replay (batch_of file items.now entries.now bytes.now)) xs.old bs.old result xs.new bs.new }
 {
@@ -40,7 +38,7 @@ pub fn replay(
     let queue = file.queue;
     let seq = file.seq;
     if !is_context(kind, queue) {
-        return wrong_kind();
+        return Err(Refusal::from(Cause::WrongKind));
     }
     match queue {
         LogQueue::Append => write_replay_append(xs, bs, seq, items, entries, bytes),

@@ -1,6 +1,6 @@
 // The span of a finished atomic group (src/memtable.rs's `apply_rewrite_atomic_group`).
 ghost use Rattle.std.specs.Prelude.{false, List, ◌≡◌, ℕ, ◌≤◌, ◌<◌, length};
-ghost use Rattle.std.proofs.Math.Option.{some};
+ghost use Rattle.std.specs.Prelude.{Some};
 ghost use Rattle.maps.specs.Maps.{lookup, numbers};
 ghost use Rattle.rules.specs.Table.{Table};
 ghost use Rattle.rules.specs.Context.{limited};
@@ -14,13 +14,12 @@ ghost use Rattle.batches.specs.Acts.{Acted};
 ghost use Rattle.writes.specs.Finishes.{SpannedGroup, Ended};
 ghost use Rattle.writes.specs.SpanLaws.{making};
 
-use batches::change_found;
-use contexts::{Answer, Position};
 use groups::Slot;
-use stretch::{Change, Outcome, STRETCH};
+use pipe_log::{Cause, Refusal};
+use stretch::{Change, STRETCH};
 
 // Sets the span of the group at stretch k.
-fn span_at(xs: &mut [u64], k: usize, start: u64, end: u64) -> Outcome
+fn span_at(xs: &mut [u64], k: usize, start: u64, end: u64) -> Result<(), Cause>
     requires in_bounds { 9376 ≤ length xs.old }
     requires k_bound { k < 8 }
     ensures { (g : ℕ) (bs : List ℕ) → groups·area.Wf xs.old bs → AtSlot g xs.old k → SpannedGroup g (record { start = start; end = end }) xs.old bs result xs.new }
@@ -31,20 +30,20 @@ fn span_at(xs: &mut [u64], k: usize, start: u64, end: u64) -> Outcome
 }
 
 // Sets the span of a group that is there.
-fn span_held(xs: &mut [u64], group: u64, start: u64, end: u64) -> Outcome
+fn span_held(xs: &mut [u64], group: u64, start: u64, end: u64) -> Result<(), Cause>
     requires { 9376 ≤ length xs.old }
-    ensures { (bs : List ℕ) (t : Table) → groups·area.Wf xs.old bs → lookup numbers group (groups_of xs.old bs) ≡ some t → SpannedGroup group (record { start = start; end = end }) xs.old bs result xs.new }
+    ensures { (bs : List ℕ) (t : Table) → groups·area.Wf xs.old bs → lookup numbers group (groups_of xs.old bs) ≡ Some t → SpannedGroup group (record { start = start; end = end }) xs.old bs result xs.new }
 {
     let slot = groups::find(xs, group);
     match slot {
         Slot::At(k) => span_at(xs, k, start, end),
-        Slot::Free(k) => Outcome::Done,
-        Slot::Full => Outcome::Done,
+        Slot::Free(k) => Ok(()),
+        Slot::Full => Ok(()),
     }
 }
 
 // Makes a group if it is absent.
-fn make_group(xs: &mut [u64], bs: &mut [u8], group: u64) -> Outcome
+fn make_group(xs: &mut [u64], bs: &mut [u8], group: u64) -> Result<(), Cause>
     requires wf { groups·area.Wf xs.old bs.old }
     requires undoable { Undoable xs.old bs.old }
     ensures { Acted (on_group making group) false xs.old bs.old result xs.new bs.new }
@@ -53,7 +52,7 @@ fn make_group(xs: &mut [u64], bs: &mut [u8], group: u64) -> Outcome
     let key = [0u8; 1];
     let slot = groups::find(xs, group);
     groups::secure(xs, bs, slot, group, Change::Make);
-    change_found(xs, bs, slot, group, Change::Make, &rows, &key, &key)
+    groups::apply(xs, bs, slot, group, Change::Make, &rows, &key, &key)
 }
 
 // Sets the span of a group, which is made if it is absent; there may be no place for it, at the mark's place, or files go back.
@@ -64,24 +63,18 @@ pub fn set_span(
     start: u64,
     end: u64,
     at: usize,
-) -> Answer
+) -> Result<(), Refusal>
     requires formed { Formed xs.old bs.old }
     requires undoable { Undoable xs.old bs.old }
-    ensures { Ended (set_span limited (some at) group (record { start = start; end = end })) xs.old bs.old result xs.new bs.new }
+    ensures { Ended (set_span limited (Some at) group (record { start = start; end = end })) xs.old bs.old result xs.new bs.new }
 {
     let made = make_group(xs, bs, group);
-    if let Outcome::Refused(number) = made {
-        return Answer::Refused {
-            number,
-            place: Position::At(at),
-        };
+    if let Err(cause) = made {
+        return Err(Refusal {
+            cause,
+            place: Some(at),
+        });
     }
-    let spanned = span_held(xs, group, start, end);
-    if let Outcome::Refused(number) = spanned {
-        return Answer::Refused {
-            number,
-            place: Position::None,
-        };
-    }
-    Answer::Accepted
+    span_held(xs, group, start, end)?;
+    Ok(())
 }

@@ -1,6 +1,6 @@
 // The items of an atomic group that finishes: those that waited, and then the batch's own.
 ghost use Rattle.std.specs.Prelude.{true, List, ◌≡◌, ℕ, ◌≤◌, ◌<◌, length};
-ghost use Rattle.std.proofs.Math.Option.{none, some};
+ghost use Rattle.std.specs.Prelude.{None, Some};
 ghost use Rattle.maps.specs.Lists.{every};
 ghost use Rattle.rules.specs.Items.{placed_from, replay_rewrite};
 ghost use Rattle.rules.specs.Checks.{checks};
@@ -14,14 +14,13 @@ ghost use Rattle.batches.specs.Runs.{Keeping};
 ghost use Rattle.writes.specs.Finishes.{waiting_count, stored_from, run_stored, TurnedFrom, Ran, HasAny, TagIs};
 
 use batches::{carry_out, turn};
-use contexts::{Answer, Position, WAITING_BYTES_FROM, WAITING_FROM};
+use contexts::{WAITING_BYTES_FROM, WAITING_FROM};
 use log_batch::Call;
 use log_batch::item::LogItem;
 use log_batch::open::row_count;
-use pipe_log::ENTRY_WIDTH;
+use pipe_log::{Cause, ENTRY_WIDTH, Refusal};
 use room::MAX_ENTRIES;
 use stores::row::ITEM_BYTES;
-use stretch::Outcome;
 
 // The numbers of the most entries that wait.
 const ROW_NUMBERS: usize = MAX_ENTRIES * ENTRY_WIDTH;
@@ -59,7 +58,7 @@ fn stored_turn(
     j: usize,
     rows: &mut [u64],
     text: &mut [u8],
-) -> Outcome
+) -> Result<(), Cause>
     requires formed { Formed xs.old bs.old }
     requires undoable { Undoable xs.old bs.old }
     requires j_bound { j < waiting_count xs.old }
@@ -69,7 +68,7 @@ fn stored_turn(
     ensures { TurnedFrom tag j xs.old bs.old result xs.new bs.new }
 {
     if stored_tag(xs, j) != tag {
-        return Outcome::Done;
+        return Ok(());
     }
     let item = copy_stored(xs, bs, j, rows, text);
     carry_out(xs, bs, Call::ReplayRewrite, item, rows, text, false)
@@ -91,36 +90,36 @@ fn run_stored_in(
     at: usize,
     rows: &mut [u64],
     text: &mut [u8],
-) -> Answer
+) -> Result<(), Refusal>
     requires formed { Formed xs.old bs.old }
     requires undoable { Undoable xs.old bs.old }
     requires bs_value { every is_passed (stored_from tag 0 xs.old bs.old) ≡ true }
     requires keeping { Keeping replay_rewrite (context_of xs.old bs.old) }
     requires rows_len { (length rows.old ≡ 1024) × (length text.old ≡ 64) }
-    ensures { Ran (run_stored tag 0 xs.old bs.old (some at)) xs.old bs.old result xs.new bs.new }
+    ensures { Ran (run_stored tag 0 xs.old bs.old (Some at)) xs.old bs.old result xs.new bs.new }
 {
     let n = stored_count(xs);
     let mut j = 0;
     while j < n {
         let answer = stored_turn(xs, bs, tag, j, rows, text);
-        if let Outcome::Refused(number) = answer {
-            return Answer::Refused {
-                number,
-                place: Position::At(at),
-            };
+        if let Err(cause) = answer {
+            return Err(Refusal {
+                cause,
+                place: Some(at),
+            });
         }
         j += 1;
     }
-    Answer::Accepted
+    Ok(())
 }
 
 // The same, with the slices that an item is copied to: rows for the most entries that wait, and one item's bytes.
-pub fn run_stored(xs: &mut [u64], bs: &mut [u8], tag: u64, at: usize) -> Answer
+pub fn run_stored(xs: &mut [u64], bs: &mut [u8], tag: u64, at: usize) -> Result<(), Refusal>
     requires formed { Formed xs.old bs.old }
     requires undoable { Undoable xs.old bs.old }
     requires bs_value { every is_passed (stored_from tag 0 xs.old bs.old) ≡ true }
     requires keeping { Keeping replay_rewrite (context_of xs.old bs.old) }
-    ensures { Ran (run_stored tag 0 xs.old bs.old (some at)) xs.old bs.old result xs.new bs.new }
+    ensures { Ran (run_stored tag 0 xs.old bs.old (Some at)) xs.old bs.old result xs.new bs.new }
 {
     let mut rows = [0u64; ROW_NUMBERS];
     let mut text = [0u8; ITEM_BYTES];
@@ -150,10 +149,10 @@ pub fn run_own(
     items: &[u64],
     entries: &[u64],
     bytes: &[u8],
-) -> Answer
+) -> Result<(), Refusal>
     requires formed { Formed xs.old bs.old }
     requires undoable { Undoable xs.old bs.old }
-    requires bytes_value { checks replay_rewrite (items_of items.now entries.now bytes.now) ≡ none }
+    requires bytes_value { checks replay_rewrite (items_of items.now entries.now bytes.now) ≡ None }
     requires keeping { Keeping replay_rewrite (context_of xs.old bs.old) }
     ensures { Ran (run limited replay_rewrite (placed_from 0 (items_of items.now entries.now bytes.now))) xs.old bs.old result xs.new bs.new }
 {
@@ -161,13 +160,13 @@ pub fn run_own(
     let mut i = 0;
     while i < n {
         let answer = turn(xs, bs, Call::ReplayRewrite, items, entries, bytes, i, false);
-        if let Outcome::Refused(number) = answer {
-            return Answer::Refused {
-                number,
-                place: Position::At(i),
-            };
+        if let Err(cause) = answer {
+            return Err(Refusal {
+                cause,
+                place: Some(i),
+            });
         }
         i += 1;
     }
-    Answer::Accepted
+    Ok(())
 }

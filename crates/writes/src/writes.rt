@@ -1,6 +1,6 @@
 // A batch on an area: checked, and then carried out, as a marked batch if a Rewrite replay has a mark.
 ghost use Rattle.std.specs.Prelude.{true, false, ◌≡◌};
-ghost use Rattle.std.proofs.Math.Option.{none};
+ghost use Rattle.std.specs.Prelude.{None};
 ghost use Rattle.rules.specs.Checks.{checks};
 ghost use Rattle.log_batch.specs.Lent.{items_of};
 ghost use Rattle.log_batch.specs.Judged.{call_of};
@@ -14,11 +14,9 @@ use batches::{
     append_call, append_list, is_single_list, is_single_put, rewrite_list, run_items, run_list,
     run_put,
 };
-use contexts::{Answer, Position};
 use log_batch::checks::mark_for;
-use log_batch::mark::FirstMark;
-use log_batch::{Call, Checked, check};
-use pipe_log::{Gate, LogQueue};
+use log_batch::{Call, check};
+use pipe_log::{LogQueue, Refusal};
 
 // Carries out a batch that passed the checks.
 fn run_checked(
@@ -29,16 +27,16 @@ fn run_checked(
     items: &[u64],
     entries: &[u64],
     bytes: &[u8],
-) -> Answer
+) -> Result<(), Refusal>
     requires formed { Formed xs.old bs.old }
-    requires bytes_value { checks (call_of call) (items_of items.now entries.now bytes.now) ≡ none }
+    requires bytes_value { checks (call_of call) (items_of items.now entries.now bytes.now) ≡ None }
     requires keeping { Keeping (call_of call) (context_of xs.old bs.old) }
     ensures { Answered (written (call_of call) seq (items_of items.now entries.now bytes.now)) xs.old bs.old result xs.new bs.new }
 {
     let first = mark_for(call, items, entries, bytes);
     match first {
-        FirstMark::Absent => run_items(xs, bs, call, items, entries, bytes),
-        FirstMark::Found(mark) => replay_marked(xs, bs, mark, seq, items, entries, bytes),
+        None => run_items(xs, bs, call, items, entries, bytes),
+        Some(mark) => replay_marked(xs, bs, mark, seq, items, entries, bytes),
     }
 }
 
@@ -51,7 +49,7 @@ fn write(
     items: &[u64],
     entries: &[u64],
     bytes: &[u8],
-) -> Answer
+) -> Result<(), Refusal>
     requires formed { Formed xs.old bs.old }
     requires keeping { Keeping (call_of call) (context_of xs.old bs.old) }
     ensures { Answered (written (call_of call) seq (items_of items.now entries.now bytes.now)) xs.old bs.old result xs.new bs.new }
@@ -59,14 +57,8 @@ fn write(
     if is_single_put(call, items, bytes) {
         return run_put(xs, bs, call, items, entries, bytes);
     }
-    let answer = check(call, items, entries, bytes);
-    match answer {
-        Checked::Refused { number, place } => Answer::Refused {
-            number,
-            place: Position::At(place),
-        },
-        Checked::Passed => run_checked(xs, bs, call, seq, items, entries, bytes),
-    }
+    check(call, items, entries, bytes)?;
+    run_checked(xs, bs, call, seq, items, entries, bytes)
 }
 
 // Writes a batch of a live append. One list of entries goes to its group at once, by plain numbers. Each call has a function of its own
@@ -78,7 +70,7 @@ pub fn write_live_append(
     items: &[u64],
     entries: &[u64],
     bytes: &[u8],
-) -> Answer
+) -> Result<(), Refusal>
     requires formed { Formed xs.old bs.old }
     requires keeping { Keeping (call_of (append_call true)) (context_of xs.old bs.old) }
     ensures { Answered (written (call_of (append_call true)) seq (items_of items.now entries.now bytes.now)) xs.old bs.old result xs.new bs.new }
@@ -97,7 +89,7 @@ pub fn write_replay_append(
     items: &[u64],
     entries: &[u64],
     bytes: &[u8],
-) -> Answer
+) -> Result<(), Refusal>
     requires formed { Formed xs.old bs.old }
     requires keeping { Keeping (call_of (append_call false)) (context_of xs.old bs.old) }
     ensures { Answered (written (call_of (append_call false)) seq (items_of items.now entries.now bytes.now)) xs.old bs.old result xs.new bs.new }
@@ -112,12 +104,12 @@ pub fn write_replay_append(
 pub fn write_rewrite(
     xs: &mut [u64],
     bs: &mut [u8],
-    gate: Gate,
+    gate: Option<u64>,
     seq: u64,
     items: &[u64],
     entries: &[u64],
     bytes: &[u8],
-) -> Answer
+) -> Result<(), Refusal>
     requires formed { Formed xs.old bs.old }
     requires keeping { Keeping (call_of (Call.LiveRewrite gate seq)) (context_of xs.old bs.old) }
     ensures { Answered (written (call_of (Call.LiveRewrite gate seq)) seq (items_of items.now entries.now bytes.now)) xs.old bs.old result xs.new bs.new }
@@ -144,7 +136,7 @@ pub fn write_rewrite_replay(
     items: &[u64],
     entries: &[u64],
     bytes: &[u8],
-) -> Answer
+) -> Result<(), Refusal>
     requires formed { Formed xs.old bs.old }
     requires keeping { Keeping (call_of Call.ReplayRewrite) (context_of xs.old bs.old) }
     ensures { Answered (written (call_of Call.ReplayRewrite) seq (items_of items.now entries.now bytes.now)) xs.old bs.old result xs.new bs.new }

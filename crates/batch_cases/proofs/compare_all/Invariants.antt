@@ -1,10 +1,11 @@
--- `batch_cases::compare_all` is safe and ends: each case moves on, so there are no more cases than bytes. Assumes nothing.
-use Prim.Native.Nat.{◌-◌, ◌≤◌}
-use lib.ListN.{length}
+-- Each case moves on, so there are no more cases than bytes.
+use Rattle.std.proofs.Common.{◌+◌, ◌≤◌, length}
+use denote.Text.{Utf8}
+use denote.Shadow.{shadow}
 use Rattle.batch_cases.proofs.compare_all.Given as goal
 
-abbrev pub invariant-loop-at : goal.invariant-loop-at
-invariant-loop-at g l = (l.at ≤ length l.text) × (l.cases ≤ l.at) × (l.differ ≤ l.cases)
+abbrev pub invariant-loop-text : goal.invariant-loop-text
+invariant-loop-text g l = shadow (Utf8 l.text) × (l.cases + length l.text ≤ length l.initial.text) × (l.differ ≤ l.cases)
 
-abbrev pub decreases-loop-at : goal.decreases-loop-at
-decreases-loop-at g l = length l.text - l.at
+abbrev pub decreases-loop-text : goal.decreases-loop-text
+decreases-loop-text g l = length l.text

@@ -2,4 +2,4 @@
 use Rattle.deeds.proofs.put_held_deed.Goals as goal
 
 pub returns : goal.returns
-returns c = rw c.in-Of.is
+returns c = rw c.in-Some.is

@@ -2,7 +2,7 @@
 use Rattle.deeds.proofs.value_part.Goals as goal
 
 pub bytes_of-requires : goal.bytes_of-requires
-bytes_of-requires c = rw c.in-At.is at c.requires
+bytes_of-requires c = rw c.in-Some.is at c.requires
 
-pub returns-in-At : goal.returns-in-At
-returns-in-At c = rw c.in-At.is c.bytes_of.ensures.result_value
+pub returns-in-Some : goal.returns-in-Some
+returns-in-Some c = rw c.in-Some.is c.bytes_of.ensures.result_value

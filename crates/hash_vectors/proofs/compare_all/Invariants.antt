@@ -1,10 +1,11 @@
--- `hash_vectors::compare_all` is safe and ends. Each line moves on, so there are no more lines than bytes. Assumes nothing.
-use Prim.Native.Nat.{◌-◌, ◌≤◌}
-use lib.ListN.{length}
+-- There are no more lines than bytes.
+use Rattle.std.proofs.Common.{◌+◌, ◌≤◌, length}
+use Rattle.std.specs.Str.Iter.{split_inclusive_left}
 use Rattle.hash_vectors.proofs.compare_all.Given as goal
 
-abbrev pub invariant-loop-at : goal.invariant-loop-at
-invariant-loop-at g l = (l.at ≤ length l.text) × (l.lines ≤ l.at) × (l.differ ≤ l.lines)
-
-abbrev pub decreases-loop-at : goal.decreases-loop-at
-decreases-loop-at g l = length l.text - l.at
+abbrev pub invariant-loop-line : goal.invariant-loop-line
+invariant-loop-line g l =
+    (goal.iterator-loop-line g).can_next l.line-iterator
+    × (goal.iterator-loop-line g).is_finite l.line-iterator
+    × (l.lines + split_inclusive_left l.line-iterator ≤ length l.text + 2)
+    × (l.differ ≤ l.lines)

@@ -1,11 +1,10 @@
--- `index_vectors::compare_all` is safe and ends: each call moves on, so there are no more calls than numbers. Assumes nothing.
-use Prim.Native.Nat.{◌-◌, ◌≤◌}
-use lib.ListN.{length}
+-- Each call moves on, so there are no more calls than numbers.
+use Rattle.std.proofs.Common.{◌+◌, ◌≤◌, length}
 use Rattle.script_areas.specs.Areas.{Areas}
 use Rattle.index_vectors.proofs.compare_all.Given as goal
 
-abbrev pub invariant-loop-at : goal.invariant-loop-at
-invariant-loop-at g l = Areas 8 l.xs l.bs × (l.at ≤ length l.numbers) × (l.calls ≤ l.at) × (l.differ ≤ l.calls)
+abbrev pub invariant-loop-rest : goal.invariant-loop-rest
+invariant-loop-rest g l = Areas 8 l.xs l.bs × (l.calls + length l.rest ≤ length l.numbers) × (l.differ ≤ l.calls)
 
-abbrev pub decreases-loop-at : goal.decreases-loop-at
-decreases-loop-at g l = length l.numbers - l.at
+abbrev pub decreases-loop-rest : goal.decreases-loop-rest
+decreases-loop-rest g l = length l.rest

@@ -9,10 +9,10 @@ pub returns-in_default : goal.returns-in_default
 returns-in_default c = delete-absent _ _ _ _ c.requires c.in_default.field-0 (sym c.find.ensures ∙ c.in_default.is)
 
 pub close_row-requires : goal.close_row-requires
-close_row-requires c = let b = at_below _ _ _ _ c.in-At.i (sym c.find.ensures ∙ c.in-At.is) in record { i_lt_n = omega (arith, c.requires); n_in_bounds = omega (arith, c.requires) }
+close_row-requires c = let b = at_below _ _ _ _ c.in-Ok.i (sym c.find.ensures ∙ c.in-Ok.is) in record { i_lt_n = omega (arith, c.requires); n_in_bounds = omega (arith, c.requires) }
 
 pub overflow_sub-result : goal.overflow_sub-result
-overflow_sub-result c = let b = at_below _ _ _ _ c.in-At.i (sym c.find.ensures ∙ c.in-At.is) in omega arith
+overflow_sub-result c = let b = at_below _ _ _ _ c.in-Ok.i (sym c.find.ensures ∙ c.in-Ok.is) in omega arith
 
 pub returns : goal.returns
-returns c = rw (c.close_row.ensures.rows_after, c.close_row.ensures.bytes_after) (delete_at _ _ _ _ c.requires c.in-At.i (sym c.find.ensures ∙ c.in-At.is))
+returns c = rw (c.close_row.ensures.rows_after, c.close_row.ensures.bytes_after) (delete_at _ _ _ _ c.requires c.in-Ok.i (sym c.find.ensures ∙ c.in-Ok.is))

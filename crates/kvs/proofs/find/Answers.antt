@@ -15,15 +15,15 @@ key_at-requires c = row_in _ _ _ _ c.requires (omega arith)
 
 pub loop-low-preserved-in-Less : goal.loop-low-preserved-in-Less
 loop-low-preserved-in-Less c =
-    (search rules, search rules, c.loop-low.invariant.2 ∙ place-less c.args.n c.args.rows.now c.args.bytes.now c.args.key.now c.loop-low.low (c.loop-low.low + (c.loop-low.high - c.loop-low.low) / 2) c.loop-low.high (search rules) (omega arith) c.requires (search rules) c.key_at.ensures c.compare_u8-order.ensures c.in-Less.is)
+    (search rules, search rules, c.loop-low.invariant.2 ∙ place-less c.args.n c.args.rows.now c.args.bytes.now c.args.key.now c.loop-low.low (c.loop-low.low + (c.loop-low.high - c.loop-low.low) / 2) c.loop-low.high (search rules) (omega arith) c.requires (search rules) c.key_at.ensures c.compare_u8.ensures c.in-Less.is)
 
 pub returns-in-Equal : goal.returns-in-Equal
 returns-in-Equal c =
-    sym (c.loop-low.invariant.2 ∙ place_equal c.args.n c.args.rows.now c.args.bytes.now c.args.key.now c.loop-low.low (c.loop-low.low + (c.loop-low.high - c.loop-low.low) / 2) c.loop-low.high (search rules) (omega arith) c.requires (search rules) c.key_at.ensures c.compare_u8-order.ensures c.in-Equal.is)
+    sym (c.loop-low.invariant.2 ∙ place_equal c.args.n c.args.rows.now c.args.bytes.now c.args.key.now c.loop-low.low (c.loop-low.low + (c.loop-low.high - c.loop-low.low) / 2) c.loop-low.high (search rules) (omega arith) c.requires (search rules) c.key_at.ensures c.compare_u8.ensures c.in-Equal.is)
 
 pub loop-low-preserved : goal.loop-low-preserved
 loop-low-preserved c =
-    (search rules, search rules, c.loop-low.invariant.2 ∙ place-greater c.args.n c.args.rows.now c.args.bytes.now c.args.key.now c.loop-low.low (c.loop-low.low + (c.loop-low.high - c.loop-low.low) / 2) c.loop-low.high (search rules) (omega arith) c.requires (search rules) c.key_at.ensures c.compare_u8-order.ensures c.in-Greater.is)
+    (search rules, search rules, c.loop-low.invariant.2 ∙ place-greater c.args.n c.args.rows.now c.args.bytes.now c.args.key.now c.loop-low.low (c.loop-low.low + (c.loop-low.high - c.loop-low.low) / 2) c.loop-low.high (search rules) (omega arith) c.requires (search rules) c.key_at.ensures c.compare_u8.ensures c.in-Greater.is)
 
 pub returns : goal.returns
 returns c = sym (c.loop-low.invariant.2 ∙ place_none c.args.n c.args.rows.now c.args.bytes.now c.args.key.now c.loop-low.low c.loop-low.high (search rules))

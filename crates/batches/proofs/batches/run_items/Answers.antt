@@ -16,11 +16,11 @@ turn-answer-requires c =
 
 pub go_back-requires : goal.go_back-requires
 go_back-requires c =
-    let s = rw c.in-Refused.is at c.turn-answer.ensures in let g = under_back _ _ _ _ _ _ _ _ _ _ _ _ c.loop-i.invariant c.loop-i-test.true _ _ _ s in record { formed = s.formed; undoable = g.undoable; wf = g.lists-wf }
+    let s = rw c.in-Err.is at c.turn-answer.ensures in let g = under_back _ _ _ _ _ _ _ _ _ _ _ _ c.loop-i.invariant c.loop-i-test.true _ _ _ s in record { formed = s.formed; undoable = g.undoable; wf = g.lists-wf }
 
-pub returns-in-Refused : goal.returns-in-Refused
-returns-in-Refused c =
-    under-refused _ _ _ _ _ _ _ _ _ _ _ _ c.loop-i.invariant c.loop-i-test.true _ _ _ _ _ (rw c.in-Refused.is at c.turn-answer.ensures) c.go_back.ensures _ _ (begun-context c.args.xs.now c.args.bs.now _ c.requires.formed (c.begin.ensures _ c.requires.formed.groups)) c.row_count-n.ensures
+pub returns-in-Err : goal.returns-in-Err
+returns-in-Err c =
+    under-refused _ _ _ _ _ _ _ _ _ _ _ _ c.loop-i.invariant c.loop-i-test.true _ _ _ _ _ (rw c.in-Err.is at c.turn-answer.ensures) c.go_back.ensures _ _ (begun-context c.args.xs.now c.args.bs.now _ c.requires.formed (c.begin.ensures _ c.requires.formed.groups)) c.row_count-n.ensures
 
 pub loop-i-preserved : goal.loop-i-preserved
 loop-i-preserved c = under_more _ _ _ _ _ _ _ _ _ _ _ _ c.loop-i.invariant c.loop-i-test.true c.row_count-n.ensures c.requires.bytes_value _ _ (rw c.in_default.is at c.turn-answer.ensures)

@@ -1,6 +1,7 @@
 -- `batches::items::carry_out` meets its contract. Assumes nothing.
 use borrow.Author.Rules.{part_to_end}
 use Rattle.batches.specs.CarryLaws.{carried_no-room, lists-wf, room_for, carried-refused, carried-done}
+use Rattle.std.proofs.lemmas.Result.{err_from_is_err_and}
 use Rattle.batches.proofs.items.carry_out.Goals as goal
 
 pub have_room-requires : goal.have_room-requires
@@ -12,12 +13,13 @@ returns-then-not-have_room c =
 
 pub grow-requires : goal.grow-requires
 grow-requires c =
-    record { wf = lists-wf c.args.call c.args.item c.args.entries.now c.args.bytes.now c.requires.item_ready c.args.last c.args.xs.now c.args.bs.now c.requires.formed c.requires.undoable c.adds_tombstone-tombstone.result c.adds_cleaned-cleaned.result c.have_room.result (c.adds_tombstone-tombstone.ensures c.args.entries.now c.args.bytes.now) (c.adds_cleaned-cleaned.ensures c.args.entries.now c.args.bytes.now) c.have_room.ensures c.if-not-have_room.false _ _ _ c.act_item-answer.ensures; room_for = room_for c.args.call c.args.item c.args.entries.now c.args.bytes.now c.requires.item_ready c.args.last c.args.xs.now c.args.bs.now c.requires.formed c.requires.undoable c.adds_tombstone-tombstone.result c.adds_cleaned-cleaned.result c.have_room.result (c.adds_tombstone-tombstone.ensures c.args.entries.now c.args.bytes.now) (c.adds_cleaned-cleaned.ensures c.args.entries.now c.args.bytes.now) c.have_room.ensures c.if-not-have_room.false _ _ _ c.act_item-answer.ensures; lent = c.requires.item_ready.lent_is }
+    record { wf = lists-wf c.args.call c.args.item c.args.entries.now c.args.bytes.now c.requires.item_ready c.args.last c.args.xs.now c.args.bs.now c.requires.formed c.requires.undoable c.adds_tombstone-tombstone.result c.adds_cleaned-cleaned.result c.have_room.result (c.adds_tombstone-tombstone.ensures c.args.entries.now c.args.bytes.now) (c.adds_cleaned-cleaned.ensures c.args.entries.now c.args.bytes.now) c.have_room.ensures c.if-not-have_room.false _ _ _ c.act_item.ensures; room_for = room_for c.args.call c.args.item c.args.entries.now c.args.bytes.now c.requires.item_ready c.args.last c.args.xs.now c.args.bs.now c.requires.formed c.requires.undoable c.adds_tombstone-tombstone.result c.adds_cleaned-cleaned.result c.have_room.result (c.adds_tombstone-tombstone.ensures c.args.entries.now c.args.bytes.now) (c.adds_cleaned-cleaned.ensures c.args.entries.now c.args.bytes.now) c.have_room.ensures c.if-not-have_room.false _ _ _ c.act_item.ensures; lent = c.requires.item_ready.lent_is }
 
-pub returns-in-Done : goal.returns-in-Done
-returns-in-Done c =
-    carried-done c.args.call c.args.item c.args.entries.now c.args.bytes.now c.requires.item_ready c.args.last c.args.xs.now c.args.bs.now c.requires.formed c.requires.undoable c.adds_tombstone-tombstone.result c.adds_cleaned-cleaned.result c.have_room.result (c.adds_tombstone-tombstone.ensures c.args.entries.now c.args.bytes.now) (c.adds_cleaned-cleaned.ensures c.args.entries.now c.args.bytes.now) c.have_room.ensures c.if-not-have_room.false _ _ _ c.act_item-answer.ensures c.in-Done.is _ _ c.grow.ensures
+pub returns : goal.returns
+returns c =
+    carried-done c.args.call c.args.item c.args.entries.now c.args.bytes.now c.requires.item_ready c.args.last c.args.xs.now c.args.bs.now c.requires.formed c.requires.undoable c.adds_tombstone-tombstone.result c.adds_cleaned-cleaned.result c.have_room.result (c.adds_tombstone-tombstone.ensures c.args.entries.now c.args.bytes.now) (c.adds_cleaned-cleaned.ensures c.args.entries.now c.args.bytes.now) c.have_room.ensures c.if-not-have_room.false _ _ _ c.act_item.ensures c.in_ok-act_item.was _ _ c.grow.ensures
 
-pub returns-in-Refused : goal.returns-in-Refused
-returns-in-Refused c =
-    carried-refused c.args.call c.args.item c.args.entries.now c.args.bytes.now c.requires.item_ready c.args.last c.args.xs.now c.args.bs.now c.requires.formed c.requires.undoable c.adds_tombstone-tombstone.result c.adds_cleaned-cleaned.result c.have_room.result (c.adds_tombstone-tombstone.ensures c.args.entries.now c.args.bytes.now) (c.adds_cleaned-cleaned.ensures c.args.entries.now c.args.bytes.now) c.have_room.ensures c.if-not-have_room.false _ _ _ c.act_item-answer.ensures _ c.in-Refused.is
+pub returns-in_err-act_item : goal.returns-in_err-act_item
+returns-in_err-act_item c =
+    let e = err_from_is_err_and c.from_residual.result c.from_residual.ensures.1 in
+    rw (e.1, e.2) (carried-refused c.args.call c.args.item c.args.entries.now c.args.bytes.now c.requires.item_ready c.args.last c.args.xs.now c.args.bs.now c.requires.formed c.requires.undoable c.adds_tombstone-tombstone.result c.adds_cleaned-cleaned.result c.have_room.result (c.adds_tombstone-tombstone.ensures c.args.entries.now c.args.bytes.now) (c.adds_cleaned-cleaned.ensures c.args.entries.now c.args.bytes.now) c.have_room.ensures c.if-not-have_room.false _ _ _ c.act_item.ensures _ c.in_err-act_item.was)

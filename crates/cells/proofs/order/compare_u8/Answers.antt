@@ -1,24 +1,33 @@
--- `cells::order::compare_u8` meets its contract: what is left from i on is ordered as the whole. Assumes nothing.
-use mathlib.Core.Path.{refl, sym, ◌∙◌}
-use Rattle.cells.proofs.Words.{word-less, word-greater, word_same}
-use borrow.Author.Rules.{rules}
+-- `cells::order::compare_u8` meets its contract: what is left after the words that are the same is ordered as the whole. Assumes nothing.
+use mathlib.Core.Path.{◌≡◌, sym, ◌∙◌}
+use Prim.Native.Nat.{◌*◌}
 use native.Mathlib.Omega.{arith}
+use Rattle.std.proofs.lemmas.Slice.{between_to_end}
+use lib.ListN.{length, drop, length-append}
+use Rattle.std.specs.Ordering.{nat_cmp}
+use Rattle.std.specs.Cmp.Lexicographic.{slice_cmp}
+use borrow.Author.Rules.{rules}
+use Rattle.std.proofs.lemmas.Slice.Zip.{zip_turn, zip_end}
+use Rattle.cells.proofs.Words.{byte_order_is, decided, by_chunk}
 use Rattle.cells.proofs.order.compare_u8.Goals as goal
 
-pub loop-i-init : goal.loop-i-init
-loop-i-init c = (search rules, refl)
+pub loop-x-init : goal.loop-x-init
+loop-x-init c = byte_order_is _ _
 
-pub returns-then-x-y : goal.returns-then-x-y
-returns-then-x-y c =
-    sym (c.loop-i.invariant.1 ∙ word-less _ _ (λ k. omega (arith, c.type_inv.a k)) (λ k. omega (arith, c.type_inv.b k)) 8 c.loop-i.i (search rules) (search rules) (omega (arith, c.word_at-x.ensures, c.word_at-y.ensures)))
+pub returns-in_default : goal.returns-in_default
+returns-in_default c =
+    let t = zip_turn c.as_chunks.result.0.now c.as_chunks-2.result.0.now c.loop-x.yielded c.into_iter-x-iterator.result c.loop-x.x-iterator c.next.new.self c.next.result (search rules) (search rules) c.loop-x.yielded_by (c.in-Some.x, c.in-Some.y) c.in-Some.is c.next.ensures.steps in
+    sym (c.loop-x.invariant ∙ by_chunk c.args.a.now c.args.b.now c.type_inv.a c.type_inv.b (length c.loop-x.yielded) _ _ _ _ _ _ _ c.as_chunks.ensures.front c.as_chunks-2.ensures.front (search rules) (search rules) (t.2 _) (t.3 _) c.from_be_bytes.ensures c.from_be_bytes-in-loop-x.ensures c.cmp.ensures ∙ decided _ _ c.in_default.not-Equal)
 
-pub returns-then-y-x : goal.returns-then-y-x
-returns-then-y-x c =
-    sym (c.loop-i.invariant.1 ∙ word-greater _ _ (λ k. omega (arith, c.type_inv.a k)) (λ k. omega (arith, c.type_inv.b k)) 8 c.loop-i.i (search rules) (search rules) (omega (arith, c.word_at-x.ensures, c.word_at-y.ensures)))
-
-pub loop-i-preserved : goal.loop-i-preserved
-loop-i-preserved c =
-    (search rules, c.loop-i.invariant.1 ∙ word_same _ _ (λ k. omega (arith, c.type_inv.a k)) (λ k. omega (arith, c.type_inv.b k)) 8 c.loop-i.i (search rules) (search rules) (omega (arith, c.word_at-x.ensures, c.word_at-y.ensures)))
+pub loop-x-preserved : goal.loop-x-preserved
+loop-x-preserved c =
+    let t = zip_turn c.as_chunks.result.0.now c.as_chunks-2.result.0.now c.loop-x.yielded c.into_iter-x-iterator.result c.loop-x.x-iterator c.next.new.self c.next.result (search rules) (search rules) c.loop-x.yielded_by (c.in-Some.x, c.in-Some.y) c.in-Some.is c.next.ensures.steps in
+    let h = by_chunk c.args.a.now c.args.b.now c.type_inv.a c.type_inv.b (length c.loop-x.yielded) _ _ _ _ _ _ _ c.as_chunks.ensures.front c.as_chunks-2.ensures.front (search rules) (search rules) (t.2 _) (t.3 _) c.from_be_bytes.ensures c.from_be_bytes-in-loop-x.ensures c.cmp.ensures in
+    rw length-append (c.loop-x.invariant ∙ (rw c.in-Equal.is at h))
 
 pub returns : goal.returns
-returns c = c.compare_from.ensures ∙ sym c.loop-i.invariant.1
+returns c =
+    let t = zip_end c.as_chunks.result.0.now c.as_chunks-2.result.0.now c.loop-x.yielded c.into_iter-x-iterator.result c.loop-x.x-iterator c.next.new.self c.next.result (search rules) (search rules) c.loop-x.yielded_by c.in-None.is c.next.ensures.steps in
+    let e : length c.loop-x.yielded ≡ c.min-compared.result = t ∙ sym c.min-compared.ensures in
+    let h : c.cmp-2.result ≡ slice_cmp nat_cmp (drop (c.min-compared.result * 8) c.args.a.now) (drop (c.min-compared.result * 8) c.args.b.now) = grind (arith, between_to_end) in
+    h ∙ sym (rw e at c.loop-x.invariant)

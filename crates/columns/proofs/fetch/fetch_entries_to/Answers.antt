@@ -1,29 +1,33 @@
 -- `columns::fetch::fetch_entries_to` meets its contract. Assumes nothing.
-use Rattle.queries.specs.PlaceLaws.{stands_at, asked-absent}
-use Rattle.queries.proofs.Ways.{numbers-there, entries_wf}
-use Rattle.columns.proofs.SliceWays.{range-there, fetched-absent}
 use Rattle.rules.specs.TableQueries.{fetch_entries_to}
-use Rattle.pipe_log.specs.Numbers.{bound_of}
+use Rattle.queries.specs.PlaceLaws.{asked-absent}
+use Rattle.queries.proofs.Ways.{numbers-there, entries_wf, by_entries_lem}
+use Rattle.columns.proofs.SliceWays.{range-there, fetched-refused}
 use Rattle.columns.proofs.fetch.fetch_entries_to.Goals as goal
 
-pub place_of-requires : goal.place_of-requires
-place_of-requires c = c.requires.groups.numbers_fit
-
-pub returns-in_default : goal.returns-in_default
-returns-in_default c = fetched-absent (asked-absent _ _ _ _ _ (c.place_of.ensures c.args.bs.now c.requires) c.in_default.is)
+pub returns-in_err-k : goal.returns-in_err-k
+returns-in_err-k c = fetched-refused (asked-absent _ _ _ _ _ _ (c.place_of.ensures _ c.requires) c.in_err-k.was) c.from_residual.result c.from_residual.ensures.1
 
 pub head_at-head-requires : goal.head_at-head-requires
-head_at-head-requires c = numbers-there (stands_at (c.place_of.ensures c.args.bs.now c.requires) c.in-At.is) c.requires
+head_at-head-requires c = numbers-there ((c.place_of.ensures _ c.requires).at _ c.in_ok-k.was) c.requires
 
 pub entry_rows-rows-requires : goal.entry_rows-rows-requires
-entry_rows-rows-requires c = numbers-there (stands_at (c.place_of.ensures c.args.bs.now c.requires) c.in-At.is) c.requires
+entry_rows-rows-requires c = numbers-there ((c.place_of.ensures _ c.requires).at _ c.in_ok-k.was) c.requires
 
-pub range_to-range-requires : goal.range_to-range-requires
-range_to-range-requires c = entries_wf (stands_at (c.place_of.ensures c.args.bs.now c.requires) c.in-At.is) c.head_at-head.ensures c.entry_rows-rows.ensures
+pub range_to-requires : goal.range_to-requires
+range_to-requires c = entries_wf ((c.place_of.ensures _ c.requires).at _ c.in_ok-k.was) c.head_at-head.ensures c.entry_rows-rows.ensures
 
-pub answer_range-requires : goal.answer_range-requires
-answer_range-requires c = record { wf = entries_wf (stands_at (c.place_of.ensures c.args.bs.now c.requires) c.in-At.is) c.head_at-head.ensures c.entry_rows-rows.ensures; range_bound = c.range_to-range.ensures.within }
+pub returns-in_err-range : goal.returns-in_err-range
+returns-in_err-range c =
+    let s = (c.place_of.ensures _ c.requires).at _ c.in_ok-k.was in
+    fetched-refused (by_entries_lem s c.head_at-head.ensures (fetch_entries_to c.args.begin c.args.end c.args.max_size) c.entry_rows-rows.ensures _ (rw c.in_err-range.was at c.range_to.ensures).rule) c.from_residual-in_err-range.result c.from_residual-in_err-range.ensures.1
+
+pub answer_rows-requires : goal.answer_rows-requires
+answer_rows-requires c =
+    let s = (c.place_of.ensures _ c.requires).at _ c.in_ok-k.was in
+    record { wf = entries_wf s c.head_at-head.ensures c.entry_rows-rows.ensures; range_bound = (rw c.in_ok-range.was at c.range_to.ensures).within }
 
 pub returns : goal.returns
 returns c =
-    range-there (stands_at (c.place_of.ensures c.args.bs.now c.requires) c.in-At.is) c.head_at-head.ensures (fetch_entries_to c.args.begin c.args.end (bound_of c.args.max_size)) c.entry_rows-rows.ensures _ c.range_to-range.ensures c.answer_range.ensures
+    let s = (c.place_of.ensures _ c.requires).at _ c.in_ok-k.was in
+    range-there s c.head_at-head.ensures (fetch_entries_to c.args.begin c.args.end c.args.max_size) c.entry_rows-rows.ensures _ (rw c.in_ok-range.was at c.range_to.ensures) c.answer_rows.ensures

@@ -5,9 +5,6 @@ use Rattle.memtable.specs.Columns.{columns}
 use Rattle.columns.proofs.SliceWays.{cut_same, held-answered}
 use Rattle.columns.proofs.slices.answer_rows.Goals as goal
 
-pub least_of-room-requires : goal.least_of-room-requires
-least_of-room-requires c = tt
-
 pub slice_bounds-copy_rows-end : goal.slice_bounds-copy_rows-end
 slice_bounds-copy_rows-end c = c.least_of-room.ensures.below-a
 
@@ -56,13 +53,10 @@ slice_bounds-copy_rows-end-15 c = c.least_of-room.ensures.below-h
 pub slice_bounds-copy_rows-end-16 : goal.slice_bounds-copy_rows-end-16
 slice_bounds-copy_rows-end-16 c = sym (length-take-le c.least_of-room.result c.args.entry_len.now c.least_of-room.ensures.below-h)
 
-pub copy_rows-answer-requires : goal.copy_rows-answer-requires
-copy_rows-answer-requires c =
-    record { wf = c.requires.wf; count_bound = c.requires.n_bound; same_length = cut_same (columns c.args.index.now c.args.queue.now c.args.seq.now c.args.offset.now c.args.len.now c.args.compression.now c.args.entry_offset.now c.args.entry_len.now) _ c.least_of-room.ensures }
-
-pub entries_fetched-requires : goal.entries_fetched-requires
-entries_fetched-requires c = tt
+pub copy_rows-requires : goal.copy_rows-requires
+copy_rows-requires c =
+    record { wf = c.requires.wf; count_bound = c.requires.range_bound; same_length = cut_same (columns c.args.index.now c.args.queue.now c.args.seq.now c.args.offset.now c.args.len.now c.args.compression.now c.args.entry_offset.now c.args.entry_len.now) _ c.least_of-room.ensures }
 
 pub returns : goal.returns
 returns c =
-    held-answered (columns c.args.index.now c.args.queue.now c.args.seq.now c.args.offset.now c.args.len.now c.args.compression.now c.args.entry_offset.now c.args.entry_len.now) _ c.least_of-room.ensures _ _ c.requires.wf _ _ c.requires.n_bound _ _ _ c.copy_rows-answer.ensures c.entries_fetched.ensures
+    held-answered (columns c.args.index.now c.args.queue.now c.args.seq.now c.args.offset.now c.args.len.now c.args.compression.now c.args.entry_offset.now c.args.entry_len.now) _ c.least_of-room.ensures _ _ c.requires.wf _ _ c.requires.range_bound _ _ c.copy_rows.ensures

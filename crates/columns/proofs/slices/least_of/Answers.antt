@@ -1,6 +1,9 @@
 -- `columns::slices::least_of` meets its contract. Assumes nothing.
-use Rattle.columns.proofs.SliceWays.{least_by}
+use mathlib.Core.Path.{◌≡◌}
+use Rattle.columns.specs.Slices.{least_of}
+use Rattle.columns.specs.SliceLaws.{least-is}
 use Rattle.columns.proofs.slices.least_of.Goals as goal
 
 pub returns : goal.returns
-returns c = least_by _ _ _ _ _ _ _ _ _ _ _ _ _ _ _ c.lesser.ensures c.lesser-2.ensures c.lesser-front.ensures c.lesser-3.ensures c.lesser-4.ensures c.lesser-back.ensures c.lesser-5.ensures
+unfolding least_of
+returns c = let e : c.min-5.result ≡ least_of c.args.a c.args.b c.args.c c.args.d c.args.e c.args.f c.args.g c.args.h = cc in rw e (least-is _ _ _ _ _ _ _ _)

@@ -2,4 +2,4 @@
 use Rattle.galdnyrr.proofs.all.galdnyrr_live_entries.Goals as goal
 
 pub returns : goal.returns
-returns c = rw (← c.queue_at.ensures) c.live_entries.ensures
+returns c = rw (← c.from.ensures) c.live_entries.ensures

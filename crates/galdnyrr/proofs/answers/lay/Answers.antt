@@ -2,4 +2,4 @@
 use Rattle.galdnyrr.proofs.answers.lay.Goals as goal
 
 pub returns : goal.returns
-returns c = rw (← c.row_of-cells.ensures) c.copy_in_u64.ensures
+returns c = rw (← c.row_of-cells.ensures) c.copy_in.ensures

@@ -1,10 +1,9 @@
 -- `galdnyrr::answers::tell_count` meets its contract. Assumes nothing.
-use Rattle.rules.specs.Causes.{group_absent}
 use Rattle.galdnyrr.proofs.AskedLaws.{value-refused, value-some}
 use Rattle.galdnyrr.proofs.answers.tell_count.Goals as goal
 
-pub returns-in-GroupAbsent : goal.returns-in-GroupAbsent
-returns-in-GroupAbsent c = rw c.in-GroupAbsent.is (value-refused _ group_absent)
+pub returns-in-Ok : goal.returns-in-Ok
+returns-in-Ok c = rw c.in-Ok.is (value-some _ _)
 
-pub returns-in-Is : goal.returns-in-Is
-returns-in-Is c = rw c.in-Is.is (value-some _ _)
+pub returns-in-Err : goal.returns-in-Err
+returns-in-Err c = rw (c.in-Err.is, c.number.ensures) (value-refused _ _)

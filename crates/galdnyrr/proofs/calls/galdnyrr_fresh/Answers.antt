@@ -2,4 +2,4 @@
 use Rattle.galdnyrr.proofs.calls.galdnyrr_fresh.Goals as goal
 
 pub returns : goal.returns
-returns c = rw (← c.queue_at.ensures) c.fresh.ensures
+returns c = rw (← c.from.ensures) c.fresh.ensures

@@ -2,14 +2,14 @@
 use Rattle.galdnyrr.proofs.AskedLaws.{fetch_told}
 use Rattle.galdnyrr.proofs.fetches.galdnyrr_fetch_entries_to.Goals as goal
 
-pub bound_of-requires : goal.bound_of-requires
-bound_of-requires c = tt
+pub gate_of-requires : goal.gate_of-requires
+gate_of-requires c = tt
 
 pub fetch_entries_to-fetched-requires : goal.fetch_entries_to-fetched-requires
 fetch_entries_to-fetched-requires c = c.requires
 
-pub tell_fetched-requires : goal.tell_fetched-requires
-tell_fetched-requires c = tt
+pub tell_count-requires : goal.tell_count-requires
+tell_count-requires c = tt
 
 pub returns : goal.returns
-returns c = fetch_told _ _ _ _ c.bound_of.ensures c.fetch_entries_to-fetched.ensures c.tell_fetched.ensures
+returns c = fetch_told _ _ _ _ c.gate_of.ensures c.fetch_entries_to-fetched.ensures c.tell_count.ensures

@@ -5,8 +5,8 @@ use Rattle.galdnyrr.proofs.fetches.galdnyrr_fetch_rewritten_entry_indexes.Goals 
 pub fetch_rewritten_entry_indexes-fetched-requires : goal.fetch_rewritten_entry_indexes-fetched-requires
 fetch_rewritten_entry_indexes-fetched-requires c = c.requires
 
-pub tell_fetched-requires : goal.tell_fetched-requires
-tell_fetched-requires c = tt
+pub tell_count-requires : goal.tell_count-requires
+tell_count-requires c = tt
 
 pub returns : goal.returns
-returns c = entries_told c.fetch_rewritten_entry_indexes-fetched.ensures c.tell_fetched.ensures
+returns c = entries_told c.fetch_rewritten_entry_indexes-fetched.ensures c.tell_count.ensures

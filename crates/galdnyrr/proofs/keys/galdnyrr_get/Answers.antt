@@ -1,15 +1,17 @@
 -- `galdnyrr::keys::galdnyrr_get` meets its contract. Assumes nothing.
-use Rattle.galdnyrr.proofs.GetLaws.{got-nine, got-absent, got-short, got-copied}
+use mathlib.Core.Path.{ap, ◌∙◌}
+use Rattle.std.specs.Prelude.{Ok}
+use Rattle.galdnyrr.proofs.GetLaws.{got_refused, got_none, got_short, got_copied}
 use Rattle.galdnyrr.proofs.keys.galdnyrr_get.Goals as goal
 
-pub returns-then-told-eq-GROUP_ABSENT : goal.returns-then-told-eq-GROUP_ABSENT
-returns-then-told-eq-GROUP_ABSENT c = got-nine _ _ _ _ _ _ _ c.get-value.ensures c.if-told-eq-GROUP_ABSENT.true
-
-pub returns-then-told-eq-KEY_ABSENT : goal.returns-then-told-eq-KEY_ABSENT
-returns-then-told-eq-KEY_ABSENT c = got-absent _ _ _ _ _ _ _ c.get-value.ensures c.if-told-eq-KEY_ABSENT.true
+pub returns-in-Ok-None : goal.returns-in-Ok-None
+returns-in-Ok-None c = rw (← c.get.ensures, c.in-Ok-None.is ∙ ap Ok c.in-Ok-None.field-0-is) (got_none _ _)
 
 pub returns-then-out-value : goal.returns-then-out-value
-returns-then-out-value c = got-short _ _ _ _ _ _ _ c.get-value.ensures c.if-told-eq-GROUP_ABSENT.false c.if-told-eq-KEY_ABSENT.false c.if-out-value.true
+returns-then-out-value c = rw (← c.get.ensures, c.in-Ok-Some.is ∙ ap Ok c.in-Ok-Some.field-0-is, c.number.ensures) (got_short _ _ _ c.if-out-value.true)
 
-pub returns : goal.returns
-returns c = got-copied _ _ _ _ _ _ _ c.get-value.ensures c.if-told-eq-GROUP_ABSENT.false c.if-told-eq-KEY_ABSENT.false c.if-out-value.false _ c.copy_in_u8.ensures
+pub returns-else-out-value : goal.returns-else-out-value
+returns-else-out-value c = rw (← c.get.ensures, c.in-Ok-Some.is ∙ ap Ok c.in-Ok-Some.field-0-is) (got_copied _ _ _ c.if-out-value.false _ c.copy_in.ensures)
+
+pub returns-in-Err : goal.returns-in-Err
+returns-in-Err c = rw (← c.get.ensures, c.in-Err.is, c.number-in-Err.ensures) (got_refused _ _ _)

@@ -3,4 +3,4 @@ use Rattle.galdnyrr.proofs.AskedLaws.{file_told}
 use Rattle.galdnyrr.proofs.keys.galdnyrr_min_file_seq.Goals as goal
 
 pub returns : goal.returns
-returns c = file_told _ _ c.queue_at.ensures c.min_file_seq-found.ensures c.tell_found.ensures
+returns c = file_told _ _ c.from.ensures c.min_file_seq-found.ensures c.tell_found.ensures

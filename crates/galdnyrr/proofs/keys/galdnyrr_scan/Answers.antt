@@ -3,4 +3,4 @@ use Rattle.galdnyrr.proofs.AskedLaws.{keys_told}
 use Rattle.galdnyrr.proofs.keys.galdnyrr_scan.Goals as goal
 
 pub returns : goal.returns
-returns c = keys_told c.scan-fetched.ensures c.tell_fetched.ensures
+returns c = rw (← c.bytes_if-from.ensures, ← c.bytes_if-to.ensures) (keys_told c.scan-fetched.ensures c.tell_count.ensures)

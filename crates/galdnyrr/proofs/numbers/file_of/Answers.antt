@@ -5,4 +5,4 @@ use Rattle.galdnyrr.proofs.numbers.file_of.Goals as goal
 
 pub returns : goal.returns
 unfolding file_of
-returns c = ap (λ q. record { queue = q; seq = c.args.seq }) c.queue_at.ensures
+returns c = ap (λ q. record { queue = q; seq = c.args.seq }) c.from.ensures

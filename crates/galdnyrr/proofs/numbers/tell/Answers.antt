@@ -4,10 +4,10 @@ use Rattle.contexts.specs.Contexts.{answer_as}
 use Rattle.galdnyrr.specs.Told.{number_of, place_of}
 use Rattle.galdnyrr.proofs.numbers.tell.Goals as goal
 
-pub returns-in-Accepted : goal.returns-in-Accepted
+pub returns-in-Ok : goal.returns-in-Ok
 unfolding answer_as number_of place_of
-returns-in-Accepted c = λ x. rw c.in-Accepted.is (refl, refl)
+returns-in-Ok c = λ x. rw c.in-Ok.is (refl, refl)
 
-pub returns-in-Refused : goal.returns-in-Refused
+pub returns-in-Err : goal.returns-in-Err
 unfolding answer_as number_of place_of
-returns-in-Refused c = λ x. rw c.in-Refused.is (refl, c.place_of.ensures)
+returns-in-Err c = λ x. rw c.in-Err.is (c.number.ensures, c.place_of.ensures)

@@ -20,13 +20,13 @@ free_at-requires c =
     let f = found-free _ _ _ _ c.requires.found refl in
     (omega (arith, f.inside), (grown_wf c.args.group c.args.k c.args.xs.now c.args.bs.now c.requires.wf f (rule_of c.args.change c.args.rows.now c.args.key.now c.args.value.now) _ _ _ (rw c.make_at.ensures at c.apply_at-answer.ensures.changed_at)).numbers_fit)
 
-pub returns-in-Done : goal.returns-in-Done
-returns-in-Done c =
+pub returns-in-Ok : goal.returns-in-Ok
+returns-in-Ok c =
     let f = found-free _ _ _ _ c.requires.found refl in
-    record { changed_group = made-done c.args.group c.args.k c.args.xs.now c.args.bs.now c.requires.wf f _ _ _ (rw (c.make_at.ensures, c.in-Done.is) at c.apply_at-answer.ensures.changed_at); leaves_slot = made-done-leaves c.args.group c.args.k c.args.xs.now c.args.bs.now c.requires.wf f c.args.change _ _ }
+    record { changed_group = made-done c.args.group c.args.k c.args.xs.now c.args.bs.now c.requires.wf f _ _ _ (rw (c.make_at.ensures, c.in-Ok.is) at c.apply_at-answer.ensures.changed_at); leaves_slot = made-done-leaves c.args.group c.args.k c.args.xs.now c.args.bs.now c.requires.wf f c.args.change _ _ }
 
-pub returns-in-Refused : goal.returns-in-Refused
-returns-in-Refused c =
+pub returns-in-Err : goal.returns-in-Err
+returns-in-Err c =
     let f = found-free _ _ _ _ c.requires.found refl in
-    let a = rw (c.make_at.ensures, c.in-Refused.is) at c.apply_at-answer.ensures.changed_at in
+    let a = rw (c.make_at.ensures, c.in-Err.is) at c.apply_at-answer.ensures.changed_at in
     rw c.free_at.ensures (record { changed_group = made-refused c.args.group c.args.k c.args.xs.now c.args.bs.now c.requires.wf f _ _ _ _ a; leaves_slot = made-refused-leaves c.args.group c.args.k c.args.xs.now c.args.bs.now c.requires.wf f c.args.change _ _ _ _ a })

@@ -35,10 +35,10 @@ pub overflow_mul-entries : goal.overflow_mul-entries
 unfolding mark_at
 overflow_mul-entries c = omega (arith, entries-in (8 + c.args.k) c.args.xs.now (omega arith), c.requires.k_bound, c.requires.xs_bound)
 
-pub shift_down_u64-requires-2 : goal.shift_down_u64-requires-2
+pub shift-requires-2 : goal.shift-requires-2
 unfolding mark_at
-shift_down_u64-requires-2 c = omega (arith, entries-in (8 + c.args.k) c.args.xs.now (omega arith), c.requires.k_bound, c.requires.xs_bound)
+shift-requires-2 c = omega (arith, entries-in (8 + c.args.k) c.args.xs.now (omega arith), c.requires.k_bound, c.requires.xs_bound)
 
 pub returns : goal.returns
 unfolding mark_at
-returns c = front-laid_back c.args.k c.args.xs.now c.requires.k_bound.0 c.requires.k_bound.1 c.requires.xs_bound.0 c.requires.xs_bound.1 _ _ _ _ refl refl c.shift_down_u64.ensures c.shift_down_u64-2.ensures
+returns c = front-laid_back c.args.k c.args.xs.now c.requires.k_bound.0 c.requires.k_bound.1 c.requires.xs_bound.0 c.requires.xs_bound.1 _ _ _ _ refl refl c.shift.ensures c.shift-2.ensures

@@ -13,7 +13,7 @@ overflow_add-xs c = omega (arith, entries-in c.args.k c.args.xs.now (omega arith
 
 pub returns-then-xs-to-eq0 : goal.returns-then-xs-to-eq0
 unfolding mark_at
-returns-then-xs-to-eq0 c = λ bs r u. header-saved c.args.k c.args.xs.now bs _ r u c.if-xs-to-eq0.true c.shift_up_u64.ensures
+returns-then-xs-to-eq0 c = λ bs r u. header-saved c.args.k c.args.xs.now bs _ r u c.if-xs-to-eq0.true c.shift.ensures
 
 pub returns-else-xs-to-eq0 : goal.returns-else-xs-to-eq0
 unfolding mark_at

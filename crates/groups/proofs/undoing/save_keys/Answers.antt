@@ -15,9 +15,9 @@ unfolding mark_at
 overflow_mul-keys c =
     let keys = few-keys c.args.k c.args.xs.now c.args.bs.now c.requires.restorable (omega (arith, c.if-mark-eq1.false, c.requires.bound)) in omega (arith, keys, keys_in_lem (8 + c.args.k) c.args.xs.now (omega arith), c.requires.restorable)
 
-pub shift_up_u64-requires : goal.shift_up_u64-requires
+pub shift-requires : goal.shift-requires
 unfolding mark_at
-shift_up_u64-requires c =
+shift-requires c =
     let keys = few-keys c.args.k c.args.xs.now c.args.bs.now c.requires.restorable (omega (arith, c.if-mark-eq1.false, c.requires.bound)) in omega (arith, keys, keys_in_lem (8 + c.args.k) c.args.xs.now (omega arith), c.requires.restorable)
 
 pub overflow_mul-keys-2 : goal.overflow_mul-keys-2
@@ -25,9 +25,9 @@ unfolding mark_at
 overflow_mul-keys-2 c =
     let keys = few-keys c.args.k c.args.xs.now c.args.bs.now c.requires.restorable (omega (arith, c.if-mark-eq1.false, c.requires.bound)) in omega (arith, keys, keys_in_lem (8 + c.args.k) c.args.xs.now (omega arith), c.requires.restorable)
 
-pub shift_up_u8-requires : goal.shift_up_u8-requires
+pub shift-requires-2 : goal.shift-requires-2
 unfolding mark_at
-shift_up_u8-requires c =
+shift-requires-2 c =
     let keys = few-keys c.args.k c.args.xs.now c.args.bs.now c.requires.restorable (omega (arith, c.if-mark-eq1.false, c.requires.bound)) in omega (arith, keys, keys_in_lem (8 + c.args.k) c.args.xs.now (omega arith), c.requires.restorable)
 
 pub overflow_add-xs : goal.overflow_add-xs
@@ -37,4 +37,4 @@ overflow_add-xs c = let low = low_small c.args.k c.args.xs.now c.args.bs.now c.r
 pub returns : goal.returns
 unfolding mark_at
 returns c =
-    keys-saved_by c.args.k c.args.xs.now c.args.bs.now c.requires.restorable _ _ _ (omega (arith, c.if-mark-eq1.false, c.requires.bound)) (omega (arith, c.if-mark-eq1.false)) refl c.shift_up_u64.ensures c.shift_up_u8.ensures
+    keys-saved_by c.args.k c.args.xs.now c.args.bs.now c.requires.restorable _ _ _ (omega (arith, c.if-mark-eq1.false, c.requires.bound)) (omega (arith, c.if-mark-eq1.false)) refl c.shift.ensures c.shift-2.ensures

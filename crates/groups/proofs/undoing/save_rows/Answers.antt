@@ -32,9 +32,9 @@ pub overflow_mul-low : goal.overflow_mul-low
 unfolding mark_at
 overflow_mul-low c = omega (arith, c.requires)
 
-pub shift_up_u64-requires : goal.shift_up_u64-requires
+pub shift-requires : goal.shift-requires
 unfolding mark_at
-shift_up_u64-requires c = omega (arith, c.requires)
+shift-requires c = omega (arith, c.requires)
 
 pub overflow_mul-xs : goal.overflow_mul-xs
 unfolding mark_at
@@ -50,4 +50,4 @@ overflow_add-xs-2 c = omega (arith, c.requires)
 
 pub returns : goal.returns
 unfolding mark_at
-returns c = λ bs r. rows-saved c.args.k c.args.xs.now bs r c.args.first _ c.if-mark-lt2.false c.if-low-first.false c.shift_up_u64.ensures
+returns c = λ bs r. rows-saved c.args.k c.args.xs.now bs r c.args.first _ c.if-mark-lt2.false c.if-low-first.false c.shift.ensures

@@ -1,5 +1,5 @@
 -- `key_lists::copies::copy_stretch` meets its contract: after each turn the first j rows of the stretch are laid in. Assumes nothing.
-use mathlib.Core.Path.{◌≡◌, refl, ap, ◌∙◌}
+use mathlib.Core.Path.{refl, ap, ◌∙◌}
 use Prim.Native.Nat.{◌+◌}
 use Rattle.kvs.specs.RowIn.{row_in}
 use Rattle.key_lists.specs.Lists.{row_lens, row_bytes}
@@ -9,20 +9,18 @@ use native.Mathlib.Omega.{arith}
 use Rattle.key_lists.proofs.copies.copy_stretch.Goals as goal
 
 pub loop-j-init : goal.loop-j-init
-loop-j-init c = (refl, search rules, refl, refl, stretch-none row_lens _, stretch-none row_bytes _)
+loop-j-init c = (refl, refl, refl, stretch-none row_lens _, stretch-none row_bytes _)
 
-pub copy_row-requires : goal.copy_row-requires
-copy_row-requires c = record { row_in = row_in c.args.n _ _ _ c.requires.wf (omega (arith, c.row_of.ensures.upper_bound, c.requires.limit_bound)); j_in_bounds = omega (arith, c.requires.limit_bound, c.loop-j.invariant) }
+pub copy_row-requires-clause-row_in : goal.copy_row-requires-clause-row_in
+copy_row-requires-clause-row_in c = row_in c.args.n _ _ _ c.requires.wf (omega arith)
 
 pub loop-j-preserved : goal.loop-j-preserved
-loop-j-preserved c = (
-  search rules,
-  search rules,
-  c.copy_row.auto.lens ∙ c.loop-j.invariant.2,
-  c.copy_row.auto.out ∙ c.loop-j.invariant.3,
-  stretch-more c.args.n c.args.rows.now c.args.bytes.now c.args.low c.args.high c.args.backwards (search rules) (search rules) row_lens c.loop-j.j _ _ _ _ (search rules) (ap (λ k. c.args.low + k) c.row_of.ensures.value) c.loop-j.invariant.4 c.copy_row.ensures.lens_after,
-  stretch-more c.args.n c.args.rows.now c.args.bytes.now c.args.low c.args.high c.args.backwards (search rules) (search rules) row_bytes c.loop-j.j _ _ _ _ (search rules) (ap (λ k. c.args.low + k) c.row_of.ensures.value) c.loop-j.invariant.5 c.copy_row.ensures.out_after,
-)
-
-pub returns : goal.returns
-returns c = let e : c.loop-j.j ≡ c.args.limit = omega arith in record { lens_after = rw e at c.loop-j.invariant.4; out_after = rw e at c.loop-j.invariant.5 }
+loop-j-preserved c =
+    let more = stretch-more c.args.n c.args.rows.now c.args.bytes.now c.args.low c.args.high c.args.backwards (search rules) (search rules) in
+    let i = ap (λ k. c.args.low + k) c.row_of.ensures.value in (
+      search rules,
+      c.copy_row.auto.lens ∙ c.loop-j.invariant.1,
+      c.copy_row.auto.out ∙ c.loop-j.invariant.2,
+      more row_lens c.loop-j.j _ _ _ _ (search rules) i c.loop-j.invariant.3 c.copy_row.ensures.lens_after,
+      more row_bytes c.loop-j.j _ _ _ _ (search rules) i c.loop-j.invariant.4 c.copy_row.ensures.out_after,
+    )

@@ -1,13 +1,10 @@
 -- `key_lists::copies::count_chosen` meets its contract: the count is that of the rows passed. Assumes nothing.
 use mathlib.Core.Path.{◌≡◌}
-use Prim.Native.Nat.{◌+◌, ◌-◌, ◌≤◌}
+use Prim.Native.Nat.{◌+◌, ◌≤◌}
 use lib.ListN.{length}
 use Rattle.key_lists.specs.Lists.{meets}
 use Rattle.kvs.proofs.Selected.{selected}
 use Rattle.key_lists.proofs.copies.count_chosen.Given as goal
 
 abbrev pub invariant-loop-i : goal.invariant-loop-i
-invariant-loop-i l = (l.i ≤ l.n) × (l.count ≤ l.i) × (length (selected (meets l.which) l.n l.rows l.bytes 0) ≡ l.count + length (selected (meets l.which) l.n l.rows l.bytes l.i))
-
-abbrev pub decreases-loop-i : goal.decreases-loop-i
-decreases-loop-i l = l.n - l.i
+invariant-loop-i l = (l.count ≤ l.i) × (l.count + length (selected (meets l.which) l.n l.rows l.bytes l.i) ≡ length (selected (meets l.which) l.n l.rows l.bytes 0))

@@ -2,12 +2,9 @@
 use Rattle.kvs.proofs.Queues.{rest}
 use mathlib.Core.Path.{◌≡◌}
 use mathlib.Core.List.{List}
-use Prim.Native.Nat.{ℕ, ◌+◌, ◌-◌, ◌≤◌}
+use Prim.Native.Nat.{ℕ, ◌+◌, ◌≤◌}
 use lib.ListN.{length}
 use Rattle.kvs.proofs.files.count_of.Given as goal
 
 abbrev pub invariant-loop-i : goal.invariant-loop-i
-invariant-loop-i l = (l.i ≤ l.n) × (l.count ≤ l.i) × ((bs : List ℕ) → length (rest l.n l.rows l.queue bs 0) ≡ l.count + length (rest l.n l.rows l.queue bs l.i))
-
-abbrev pub decreases-loop-i : goal.decreases-loop-i
-decreases-loop-i l = l.n - l.i
+invariant-loop-i l = (l.count ≤ l.i) × ((bs : List ℕ) → length (rest l.n l.rows l.queue bs 0) ≡ l.count + length (rest l.n l.rows l.queue bs l.i))

@@ -2,13 +2,9 @@
 use Rattle.kvs.proofs.Queues.{rest}
 use mathlib.Core.Path.{◌≡◌}
 use mathlib.Core.List.{List}
-use Prim.Native.Nat.{ℕ, ◌≤◌}
+use Prim.Native.Nat.{ℕ}
 use Rattle.rules.specs.TableQueries.{least_seq}
-use Rattle.kvs.specs.Calls.{least_as}
 use Rattle.kvs.proofs.files.least_seq.Given as goal
 
 abbrev pub invariant-loop-i : goal.invariant-loop-i
-invariant-loop-i l = (l.i ≤ l.n) × ((bs : List ℕ) → least_as l.found ≡ least_seq (rest l.n l.rows l.queue bs l.i))
-
-abbrev pub decreases-loop-i : goal.decreases-loop-i
-decreases-loop-i l = l.i
+invariant-loop-i l = ((bs : List ℕ) → l.found ≡ least_seq (rest l.n l.rows l.queue bs l.i))

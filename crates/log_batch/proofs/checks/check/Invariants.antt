@@ -1,13 +1,8 @@
 -- `log_batch::checks::check` meets its contract: after i items the best refusal is that of the items before i. Assumes nothing.
-use mathlib.Core.Path.{◌≡◌}
-use Prim.Native.Nat.{◌-◌, ◌≤◌}
 use Rattle.log_batch.specs.Judged.{call_of, mark_as}
 use Rattle.log_batch.specs.Lent.{row_count_of}
 use Rattle.log_batch.proofs.CheckLaws.{Scanned}
 use Rattle.log_batch.proofs.checks.check.Given as goal
 
 abbrev pub invariant-loop-i : goal.invariant-loop-i
-invariant-loop-i l = (l.i ≤ l.rows) × (l.rows ≡ row_count_of l.items) × Scanned (call_of l.call) (mark_as l.mark) l.items l.entries l.bytes l.rows l.best l.i
-
-abbrev pub decreases-loop-i : goal.decreases-loop-i
-decreases-loop-i l = l.rows - l.i
+invariant-loop-i l = Scanned (call_of l.call) (mark_as l.mark) l.items l.entries l.bytes (row_count_of l.items) l.best l.i

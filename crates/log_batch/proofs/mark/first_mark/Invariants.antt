@@ -1,13 +1,10 @@
 -- `log_batch::mark::first_mark` meets its contract: the items from i on give the whole answer. Assumes nothing.
 use mathlib.Core.Path.{◌≡◌}
-use Prim.Native.Nat.{◌*◌, ◌-◌, ◌≤◌}
+use Prim.Native.Nat.{◌*◌, ◌-◌}
 use lib.ListN.{drop}
 use Rattle.rules.specs.Checks.{first_mark}
 use Rattle.log_batch.specs.Lent.{row_count_of, items_from, items_of}
 use Rattle.log_batch.proofs.mark.first_mark.Given as goal
 
 abbrev pub invariant-loop-i : goal.invariant-loop-i
-invariant-loop-i l = (l.i ≤ l.rows) × (l.rows ≡ row_count_of l.items) × (first_mark 0 (items_of l.items l.entries l.bytes) ≡ first_mark l.i (items_from l.entries l.bytes (l.rows - l.i) (drop (l.i * 9) l.items)))
-
-abbrev pub decreases-loop-i : goal.decreases-loop-i
-decreases-loop-i l = l.rows - l.i
+invariant-loop-i l = first_mark 0 (items_of l.items l.entries l.bytes) ≡ first_mark l.i (items_from l.entries l.bytes (row_count_of l.items - l.i) (drop (l.i * 9) l.items))

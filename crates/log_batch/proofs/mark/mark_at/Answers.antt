@@ -4,7 +4,7 @@ use Prim.Native.Nat.{◌*◌}
 use lib.ListN.{drop}
 use Rattle.maps.specs.Lists.{map_option}
 use Rattle.rules.specs.Items.{mark_byte}
-use Rattle.log_batch.specs.Judged.{byte_as, mark_of, mark_as, mark_here}
+use Rattle.log_batch.specs.Judged.{mark_of, mark_as, mark_here}
 use Rattle.log_batch.specs.Lent.{item_of, opened_of}
 use Rattle.log_batch.proofs.ItemLaws.{item-is}
 use Rattle.log_batch.proofs.mark.mark_at.Goals as goal
@@ -15,17 +15,14 @@ returns-in_default c =
     let args = c.args in
     rw (item-is args.entries.now args.bytes.now (drop (args.i * 9) args.items.now) _ (sym c.open_item.ensures.value ∙ c.in_default.is))
 
-pub mark_byte-requires : goal.mark_byte-requires
-mark_byte-requires c = (rw c.in-Item.is at c.open_item.ensures.opened_within).places
-
-pub returns-in_default-mark_byte : goal.returns-in_default-mark_byte
-unfolding mark_as mark_here opened_of item_of byte_as map_option
-returns-in_default-mark_byte c =
+pub returns-in_err-byte : goal.returns-in_err-byte
+unfolding mark_as mark_here opened_of item_of map_option
+returns-in_err-byte c =
     let args = c.args in
-    rw (item-is args.entries.now args.bytes.now (drop (args.i * 9) args.items.now) _ (sym c.open_item.ensures.value ∙ c.in-Item.is), ← c.mark_byte.ensures args.entries.now, c.in_default-mark_byte.is)
+    rw (item-is args.entries.now args.bytes.now (drop (args.i * 9) args.items.now) _ (sym c.open_item.ensures.value ∙ c.in-Ok.is), ← c.in_err-byte.ensures args.entries.now, c.from_residual.ensures)
 
 pub returns : goal.returns
-unfolding mark_as mark_of mark_here opened_of item_of byte_as map_option
+unfolding mark_as mark_of mark_here opened_of item_of map_option
 returns c =
     let args = c.args in
-    rw (item-is args.entries.now args.bytes.now (drop (args.i * 9) args.items.now) _ (sym c.open_item.ensures.value ∙ c.in-Item.is), ← c.mark_byte.ensures args.entries.now, c.in-Byte.is)
+    rw (item-is args.entries.now args.bytes.now (drop (args.i * 9) args.items.now) _ (sym c.open_item.ensures.value ∙ c.in-Ok.is), ← c.in_ok-byte.ensures args.entries.now)

@@ -6,4 +6,4 @@ pub returns-then-index-first : goal.returns-then-index-first
 returns-then-index-first c = compact-none _ _ _ c.requires c.if-index-first.true
 
 pub returns : goal.returns
-returns c = compact-some _ _ _ c.requires _ _ c.lesser-count.ensures c.lesser-gone.ensures _ c.shift_down_u64.ensures
+returns c = compact-some _ _ _ c.requires _ _ c.min-count.ensures c.min-gone.ensures _ c.shift.ensures

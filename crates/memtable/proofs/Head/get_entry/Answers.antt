@@ -1,6 +1,4 @@
 -- `memtable::Head::get_entry` meets its contract. Assumes nothing.
-use borrow.Author.Rules.{rules}
-use Rattle.memtable.specs.RowLaws.{held-row}
 use Rattle.memtable.proofs.QueryWays.{get_below, get_above, get_at}
 use Rattle.memtable.proofs.Head.get_entry.Goals as goal
 
@@ -9,9 +7,6 @@ returns-then-index-first c = get_below _ _ c.requires _ c.if-index-first.true
 
 pub returns-then-self-at : goal.returns-then-self-at
 returns-then-self-at c = get_above _ _ c.requires _ c.if-index-first.false c.if-self-at.true
-
-pub entry_at-requires : goal.entry_at-requires
-entry_at-requires c = record { i_in_bounds = search rules; any_row = held-row _ _ c.requires _ c.if-self-at.false }
 
 pub returns : goal.returns
 returns c = get_at _ _ c.requires _ _ c.if-index-first.false c.if-self-at.false c.entry_at.ensures

@@ -1,20 +1,14 @@
 -- `memtable::Head::lay` meets its contract. Assumes nothing.
-use borrow.Author.Rules.{rules}
-use Rattle.memtable.proofs.AppendWays.{lay-none, lay_below, lay_above, lay-kept, fewer-before}
+use Rattle.std.proofs.lemmas.Result.{err_from_is_err_and}
+use Rattle.memtable.proofs.AppendWays.{lay-none, lay_refused, lay-kept}
 use Rattle.memtable.proofs.Head.lay.Goals as goal
 
 pub returns-then-rows-eq0 : goal.returns-then-rows-eq0
 returns-then-rows-eq0 c = lay-none _ _ _ _ _ _ c.requires.wf c.if-rows-eq0.true
 
-pub lay_rows-requires : goal.lay_rows-requires
-lay_rows-requires c =
-    let p = rw c.in-Kept.is at c.prepare_append-prepared.ensures in record { wf = c.requires.wf; lent = c.requires.lent; kept_le_len = (p.within, p.before, fewer-before c.args.rewrite _ c.args.self.len _ p.within c.requires.len_bound, search rules) }
+pub returns : goal.returns
+returns c = lay-kept _ _ _ _ _ _ c.requires.wf c.requires.lent c.if-rows-eq0.false _ (rw c.in_ok-kept.was at c.prepare_append.ensures) _ _ c.lay_rows.ensures
 
-pub returns-in-Kept : goal.returns-in-Kept
-returns-in-Kept c = lay-kept _ _ _ _ _ _ c.requires.wf c.requires.lent c.if-rows-eq0.false _ (rw c.in-Kept.is at c.prepare_append-prepared.ensures) _ _ c.lay_rows.ensures
-
-pub returns-in-BelowFirst : goal.returns-in-BelowFirst
-returns-in-BelowFirst c = lay_below _ _ _ _ _ _ c.requires.wf c.requires.lent c.if-rows-eq0.false (rw c.in-BelowFirst.is at c.prepare_append-prepared.ensures)
-
-pub returns-in-AboveLast : goal.returns-in-AboveLast
-returns-in-AboveLast c = lay_above _ _ _ _ _ _ c.requires.wf c.requires.lent c.if-rows-eq0.false (rw c.in-AboveLast.is at c.prepare_append-prepared.ensures)
+pub returns-in_err-kept : goal.returns-in_err-kept
+returns-in_err-kept c =
+    let p = err_from_is_err_and c.from_residual.result c.from_residual.ensures.1 in rw (p.1, p.2) (lay_refused _ _ _ _ _ _ c.requires.wf c.requires.lent c.if-rows-eq0.false _ (rw c.in_err-kept.was at c.prepare_append.ensures))

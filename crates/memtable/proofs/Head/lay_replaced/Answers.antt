@@ -3,4 +3,4 @@ use Rattle.memtable.proofs.RewriteWays.{lay_done}
 use Rattle.memtable.proofs.Head.lay_replaced.Goals as goal
 
 pub returns : goal.returns
-returns c = lay_done _ _ _ _ c.args.skip _ _ c.copy_in_u64.ensures _ c.replaced_to.ensures
+returns c = lay_done _ _ _ _ c.args.skip _ _ c.copy_in.ensures _ c.replaced_to.ensures

@@ -8,8 +8,8 @@ returns-then-part-at c = lay-full _ _ _ _ _ c.requires.wf c.requires.kept_le_len
 
 pub returns-then-rewrite : goal.returns-then-rewrite
 returns-then-rewrite c =
-    lay-rewrite _ _ _ _ _ c.requires.wf c.requires.kept_le_len.0 c.requires.kept_le_len.1 (rw c.if-rewrite.true at c.requires.lent) c.if-part-at.false _ c.copy_in_u64.ensures (search rules) (rw c.if-rewrite.true at c.requires.kept_le_len.2)
+    lay-rewrite _ _ _ _ _ c.requires.wf c.requires.kept_le_len.0 c.requires.kept_le_len.1 (rw c.if-rewrite.true at c.requires.lent) c.if-part-at.false _ c.copy_in.ensures (search rules) (rw c.if-rewrite.true at c.requires.kept_le_len.2)
 
 pub returns : goal.returns
 returns c =
-    lay-append _ _ _ _ _ c.requires.wf c.requires.kept_le_len.0 c.requires.kept_le_len.1 (rw c.if-rewrite.false at c.requires.lent) c.if-part-at.false _ c.copy_in_u64.ensures (search rules) _ c.lesser-count.ensures
+    lay-append _ _ _ _ _ c.requires.wf c.requires.kept_le_len.0 c.requires.kept_le_len.1 (rw c.if-rewrite.false at c.requires.lent) c.if-part-at.false _ c.copy_in.ensures (search rules) _ (search rules)

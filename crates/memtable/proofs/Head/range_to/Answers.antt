@@ -1,6 +1,5 @@
 -- `memtable::Head::range_to` meets its contract. Assumes nothing.
-use native.Mathlib.Omega.{arith}
-use Rattle.memtable.proofs.FetchWays.{range_empty, range_none, range-compacted, range_above, range_all, range-sized, range-held}
+use Rattle.memtable.proofs.FetchWays.{range_empty, range_none, range-compacted, range_above, range_all, range-sized}
 use Rattle.memtable.proofs.Head.range_to.Goals as goal
 
 pub returns-then-end-begin : goal.returns-then-end-begin
@@ -15,11 +14,8 @@ returns-then-begin-first c = range-compacted _ _ _ _ c.args.max_size c.if-end-be
 pub returns-then-first-entries : goal.returns-then-first-entries
 returns-then-first-entries c = range_above _ _ _ _ c.args.max_size c.if-end-begin.false c.if-entries-eq0.false c.if-begin-first.false c.if-first-entries.true
 
-pub count_to_size-requires : goal.count_to_size-requires
-count_to_size-requires c = let w = c.requires in record { count_in_bounds = omega arith; any_rows = range-held _ _ w _ _ (omega arith) }
-
 pub returns-in-None : goal.returns-in-None
 returns-in-None c = range_all _ _ _ _ _ c.if-end-begin.false c.if-entries-eq0.false c.if-begin-first.false c.if-first-entries.false c.in-None.is
 
-pub returns-in-At : goal.returns-in-At
-returns-in-At c = range-sized _ _ _ _ _ c.if-end-begin.false c.if-entries-eq0.false c.if-begin-first.false _ _ c.if-first-entries.false c.in-At.is c.count_to_size.ensures.0 c.count_to_size.ensures.1
+pub returns-in-Some : goal.returns-in-Some
+returns-in-Some c = range-sized _ _ _ _ _ c.if-end-begin.false c.if-entries-eq0.false c.if-begin-first.false _ _ c.if-first-entries.false c.in-Some.is c.count_to_size.ensures.0 c.count_to_size.ensures.1

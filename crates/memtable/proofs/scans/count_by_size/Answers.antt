@@ -3,15 +3,12 @@ use mathlib.Core.Path.{sym, ◌∙◌}
 use Prim.Native.Nat.{◌+◌}
 use native.Mathlib.Omega.{arith}
 use borrow.Author.Rules.{rules}
+use native.Mathlib.Nat.{le_antisymm}
 use Rattle.memtable.specs.ScanLaws.{size-end, size_stop, size-more, size_fits}
-use Rattle.memtable.proofs.ScanWays.{size-start}
 use Rattle.memtable.proofs.scans.count_by_size.Goals as goal
 
-pub loop-i-init : goal.loop-i-init
-loop-i-init c = (search rules, search rules, size-start _ _ _)
-
 pub returns-then-over_size : goal.returns-then-over_size
-returns-then-over_size c = (size_stop _ c.args.from c.args.count c.loop-i.i c.args.size c.loop-i.sum _ c.loop-i.invariant.2 c.loop-i-test.true (sym c.over_size.ensures ∙ c.if-over_size.true), search rules)
+returns-then-over_size c = (size_stop _ c.args.from c.args.count c.loop-i.i c.args.size c.loop-i.sum _ c.loop-i.invariant.1 c.loop-i-test.true (sym c.over_size.ensures ∙ c.if-over_size.true), search rules)
 
 pub overflow_add-sum : goal.overflow_add-sum
 overflow_add-sum c =
@@ -19,7 +16,7 @@ overflow_add-sum c =
 
 pub loop-i-preserved : goal.loop-i-preserved
 loop-i-preserved c =
-    let p = c.requires.any_rows (c.args.from + c.loop-i.i) (omega arith) (omega (arith, c.loop-i-test.true)) in (search rules, size_fits _ _ _ (sym c.over_size.ensures ∙ c.if-over_size.false) c.ranges.size.fits p.len, size-more _ c.args.from c.args.count c.loop-i.i c.args.size c.loop-i.sum _ c.loop-i.invariant.2 c.loop-i-test.true (sym c.over_size.ensures ∙ c.if-over_size.false))
+    let p = c.requires.any_rows (c.args.from + c.loop-i.i) (omega arith) (omega (arith, c.loop-i-test.true)) in (size_fits _ _ _ (sym c.over_size.ensures ∙ c.if-over_size.false) c.ranges.size.fits p.len, size-more _ c.args.from c.args.count c.loop-i.i c.args.size c.loop-i.sum _ c.loop-i.invariant.1 c.loop-i-test.true (sym c.over_size.ensures ∙ c.if-over_size.false))
 
 pub returns : goal.returns
-returns c = (size-end c.args.part.now c.args.from c.args.count c.loop-i.i c.args.size c.loop-i.sum _ c.loop-i.invariant.2 c.loop-i-test.false, search rules)
+returns c = (le_antisymm c.loop-i-test.false c.loop-i.auto.i-end ∙ size-end c.args.part.now c.args.from c.args.count c.loop-i.i c.args.size c.loop-i.sum _ c.loop-i.invariant.1 c.loop-i-test.false, search rules)

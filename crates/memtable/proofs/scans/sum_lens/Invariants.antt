@@ -6,7 +6,4 @@ use Rattle.memtable.specs.Scans.{len_sum}
 use Rattle.memtable.proofs.scans.sum_lens.Given as goal
 
 abbrev pub invariant-loop-i : goal.invariant-loop-i
-invariant-loop-i l = (l.i ≤ l.count) × (l.sum ≤ l.i * 2 ^ 25) × (len_sum l.count (drop (l.from * 8) l.part) ≡ l.sum + len_sum (l.count - l.i) (drop (l.i * 8) (drop (l.from * 8) l.part)))
-
-abbrev pub decreases-loop-i : goal.decreases-loop-i
-decreases-loop-i l = l.count - l.i
+invariant-loop-i l = (l.sum ≤ l.i * 2 ^ 25) × (len_sum l.count (drop (l.from * 8) l.part) ≡ l.sum + len_sum (l.count - l.i) (drop (l.i * 8) (drop (l.from * 8) l.part)))

@@ -5,12 +5,10 @@ use Rattle.staging.specs.ModeLaws.{worked-answer}
 use Rattle.merging.proofs.EndWays.{few-counts, rest-fits}
 use Rattle.merging.proofs.FinishWays.{finish-clashed, finish-passed, finish-over, finish-taken}
 use Rattle.merging.proofs.calls.finish.Goals as goal
+use Rattle.merging.proofs.calls.finish.Goals.{then-flags-2-via-then-flags-2, then-flags-2-via-else-flags-2+then-not-lists_fit}
 
 pub returns-then-flags : goal.returns-then-flags
-returns-then-flags c = rw c.refuse.ensures (finish-clashed _ _ _ _ _ _ c.requires.plain.given.wf (worked-answer _ _ _ _ _ _ c.requires.plain c.requires.worked) _ c.if-flags.true c.clash_of.ensures)
-
-pub returns-then-flags-2 : goal.returns-then-flags-2
-returns-then-flags-2 c = rw c.refuse-then-flags-2.ensures (finish-passed _ _ _ _ _ _ c.requires.plain.given.wf (worked-answer _ _ _ _ _ _ c.requires.plain c.requires.worked) c.if-flags.false c.if-flags-2.true)
+returns-then-flags c = rw (c.into.ensures, c.clash_of.ensures) (finish-clashed _ _ _ _ _ _ c.requires.plain.given.wf (worked-answer _ _ _ _ _ _ c.requires.plain c.requires.worked) c.if-flags.true)
 
 pub lists_fit-requires : goal.lists_fit-requires
 lists_fit-requires c =
@@ -18,9 +16,14 @@ lists_fit-requires c =
     let newer = c.requires.plain.given.newer-wf in
     record { few = (few-counts _ _ older, few-counts _ _ newer); xs_len = (area-length _ _ (formed_of _ _ older), area-length _ _ (formed_of _ _ newer)) }
 
-pub returns-then-not-lists_fit : goal.returns-then-not-lists_fit
-returns-then-not-lists_fit c =
-    rw c.refuse-then-not-lists_fit.ensures (finish-over _ _ _ _ _ _ c.requires.plain.given.wf (worked-answer _ _ _ _ _ _ c.requires.plain c.requires.worked) c.if-flags.false (rest-fits _ _ _ _ _ c.requires.plain ∙ sym c.lists_fit.ensures ∙ c.if-not-lists_fit.true))
+pub returns-then-flags-2 : goal.returns-then-flags-2
+returns-then-flags-2 c =
+    let answer = worked-answer _ _ _ _ _ _ c.requires.plain c.requires.worked in
+    rw c.into-then-flags-2.ensures
+    (elim c.then-flags-2.branch [
+      | then-flags-2-via-then-flags-2 w ↦ finish-passed _ _ _ _ _ _ c.requires.plain.given.wf answer c.if-flags.false w.if-flags-2.true
+      | then-flags-2-via-else-flags-2+then-not-lists_fit w ↦ finish-over _ _ _ _ _ _ c.requires.plain.given.wf answer c.if-flags.false (rest-fits _ _ _ _ _ c.requires.plain ∙ sym w.lists_fit.ensures ∙ w.if-not-lists_fit.true)
+    ])
 
 pub take_staged-requires : goal.take_staged-requires
 take_staged-requires c = record { plain = c.requires.plain; ready = c.requires.ready; ys_value = sym c.lists_fit.ensures ∙ c.if-not-lists_fit.false }

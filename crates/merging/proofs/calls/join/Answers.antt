@@ -11,7 +11,7 @@ kind_in-newer-requires c = kind-there _ _ c.requires.wf_2
 
 pub returns-then-not-kinds_are : goal.returns-then-not-kinds_are
 returns-then-not-kinds_are c =
-    rw c.refuse.ensures (join_wrong c.args.xs.now c.args.bs.now c.args.ys.now c.args.cs.now _ _ c.kind_in-older.ensures c.kind_in-newer.ensures c.requires.wf (sym c.kinds_are.ensures ∙ c.if-not-kinds_are.true))
+    rw c.into.ensures (join_wrong c.args.xs.now c.args.bs.now c.args.ys.now c.args.cs.now _ _ c.kind_in-older.ensures c.kind_in-newer.ensures c.requires.wf (sym c.kinds_are.ensures ∙ c.if-not-kinds_are.true))
 
 pub carry_out-requires : goal.carry_out-requires
 carry_out-requires c =

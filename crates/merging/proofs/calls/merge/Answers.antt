@@ -24,4 +24,4 @@ returns-then-kinds_are-2 c = rewrite-called _ _ _ _ _ _ _ c.carry_waiting.ensure
 
 pub returns : goal.returns
 returns c =
-    rw c.refuse.ensures (merge_wrong c.args.xs.now c.args.bs.now c.args.ys.now c.args.cs.now _ _ c.kind_in-older.ensures c.kind_in-newer.ensures c.requires.wf (sym c.kinds_are.ensures ∙ c.if-kinds_are.false) (sym c.kinds_are-2.ensures ∙ c.if-kinds_are-2.false))
+    rw c.into.ensures (merge_wrong c.args.xs.now c.args.bs.now c.args.ys.now c.args.cs.now _ _ c.kind_in-older.ensures c.kind_in-newer.ensures c.requires.wf (sym c.kinds_are.ensures ∙ c.if-kinds_are.false) (sym c.kinds_are-2.ensures ∙ c.if-kinds_are-2.false))

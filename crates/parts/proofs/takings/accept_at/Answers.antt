@@ -1,15 +1,12 @@
 -- `parts::takings::accept_at` meets its contract. Assumes nothing.
-use Rattle.parts.proofs.TakingWays.{part-waits, part-passed, part_back, part-finishes}
+use Rattle.std.proofs.lemmas.Result.{err_from_is_err_and}
+use Rattle.parts.proofs.TakingWays.{part-taken, part-refused}
 use Rattle.parts.proofs.takings.accept_at.Goals as goal
 
-pub returns-in-Waits : goal.returns-in-Waits
-returns-in-Waits c = part-waits _ _ _ _ _ _ _ _ _ c.accept_part-accepted.ensures c.in-Waits.is
+pub returns-in_err-accept_part : goal.returns-in_err-accept_part
+returns-in_err-accept_part c =
+    let p = err_from_is_err_and c.from_residual.result c.from_residual.ensures.1 in
+    rw (p.1, p.2) (part-refused _ _ _ _ _ _ _ _ _ c.in_err-accept_part.ensures)
 
-pub returns-in-Passed : goal.returns-in-Passed
-returns-in-Passed c = part-passed _ _ _ _ _ _ _ _ _ c.accept_part-accepted.ensures c.in-Passed.is
-
-pub returns-in-Back : goal.returns-in-Back
-returns-in-Back c = part_back _ _ _ _ _ _ _ _ _ c.accept_part-accepted.ensures c.in-Back.is
-
-pub returns-in-Finishes : goal.returns-in-Finishes
-returns-in-Finishes c = part-finishes _ _ _ _ _ _ _ _ _ c.accept_part-accepted.ensures _ c.in-Finishes.is
+pub returns : goal.returns
+returns c = part-taken _ _ _ _ _ _ _ _ _ c.in_ok-accept_part.ensures

@@ -1,14 +1,13 @@
 -- `queries::entries::first_index` meets its contract. Assumes nothing.
-use mathlib.Core.Path.{◌∙◌}
-use Rattle.queries.specs.PlaceLaws.{stands_at, asked-absent}
+use Rattle.queries.specs.PlaceLaws.{passed-on}
 use Rattle.queries.proofs.Ways.{numbers-there, first-there}
 use Rattle.queries.proofs.entries.first_index.Goals as goal
 
-pub returns-in_default : goal.returns-in_default
-returns-in_default c = asked-absent _ _ _ _ _ (c.place_of.ensures c.args.bs.now c.requires) c.in_default.is
+pub returns-in_err-k : goal.returns-in_err-k
+returns-in_err-k c = passed-on _ (c.place_of.ensures _ c.requires) c.in_err-k.was c.from_residual.result c.from_residual.ensures.1
 
-pub head_at-head-requires : goal.head_at-head-requires
-head_at-head-requires c = numbers-there (stands_at (c.place_of.ensures c.args.bs.now c.requires) c.in-At.is) c.requires
+pub head_at-requires : goal.head_at-requires
+head_at-requires c = numbers-there ((c.place_of.ensures _ c.requires).at _ c.in_ok-k.was) c.requires
 
 pub returns : goal.returns
-returns c = c.number_found.ensures ∙ first-there (stands_at (c.place_of.ensures c.args.bs.now c.requires) c.in-At.is) c.head_at-head.ensures c.first_index.result c.first_index.ensures
+returns c = first-there ((c.place_of.ensures _ c.requires).at _ c.in_ok-k.was) c.head_at.ensures c.first_index.result c.first_index.ensures

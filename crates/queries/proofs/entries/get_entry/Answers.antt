@@ -1,24 +1,22 @@
 -- `queries::entries::get_entry` meets its contract. Assumes nothing.
-use mathlib.Core.Path.{◌∙◌}
-use Rattle.queries.specs.PlaceLaws.{stands_at, asked-absent}
-use Rattle.queries.proofs.Ways.{numbers-there, entries_wf, by_entries_lem}
-use Rattle.rules.specs.Causes.{ok}
+use Rattle.rules.specs.Causes.{Ok}
 use Rattle.rules.specs.TableQueries.{get_entry}
-use Rattle.memtable.specs.Queries.{found_entry}
+use Rattle.queries.specs.PlaceLaws.{passed-on}
+use Rattle.queries.proofs.Ways.{numbers-there, entries_wf, by_entries_lem}
 use Rattle.queries.proofs.entries.get_entry.Goals as goal
 
-pub returns-in_default : goal.returns-in_default
-returns-in_default c = asked-absent _ _ _ _ _ (c.place_of.ensures c.args.bs.now c.requires) c.in_default.is
+pub returns-in_err-k : goal.returns-in_err-k
+returns-in_err-k c = passed-on _ (c.place_of.ensures _ c.requires) c.in_err-k.was c.from_residual.result c.from_residual.ensures.1
 
-pub head_at-head-requires : goal.head_at-head-requires
-head_at-head-requires c = numbers-there (stands_at (c.place_of.ensures c.args.bs.now c.requires) c.in-At.is) c.requires
+pub head_at-requires : goal.head_at-requires
+head_at-requires c = numbers-there ((c.place_of.ensures _ c.requires).at _ c.in_ok-k.was) c.requires
 
 pub entry_rows-requires : goal.entry_rows-requires
-entry_rows-requires c = numbers-there (stands_at (c.place_of.ensures c.args.bs.now c.requires) c.in-At.is) c.requires
+entry_rows-requires c = numbers-there ((c.place_of.ensures _ c.requires).at _ c.in_ok-k.was) c.requires
 
 pub get_entry-requires : goal.get_entry-requires
-get_entry-requires c = entries_wf (stands_at (c.place_of.ensures c.args.bs.now c.requires) c.in-At.is) c.head_at-head.ensures c.entry_rows.ensures
+get_entry-requires c = entries_wf ((c.place_of.ensures _ c.requires).at _ c.in_ok-k.was) c.head_at.ensures c.entry_rows.ensures
 
 pub returns : goal.returns
 returns c =
-    c.entry_found.ensures ∙ by_entries_lem (stands_at (c.place_of.ensures c.args.bs.now c.requires) c.in-At.is) c.head_at-head.ensures (λ t. ok (get_entry c.args.index t)) c.entry_rows.ensures (ok (found_entry c.get_entry.result)) (λ keys counted. rw (c.get_entry.ensures keys counted))
+    by_entries_lem ((c.place_of.ensures _ c.requires).at _ c.in_ok-k.was) c.head_at.ensures (λ t. Ok (get_entry c.args.index t)) c.entry_rows.ensures (Ok c.get_entry.result) (λ keys counted. rw (c.get_entry.ensures keys counted))

@@ -1,26 +1,25 @@
 -- `queries::keys::fetch_rewritten_kvs` meets its contract. Assumes nothing.
-use Rattle.queries.specs.PlaceLaws.{stands_at, asked-absent}
-use Rattle.queries.proofs.Ways.{numbers-there, bytes-there, keys_wf, keys-there, keys-absent}
-use Rattle.queries.proofs.RowLists.{rewritten-short}
+use Rattle.rules.specs.Causes.{Ok}
 use Rattle.rules.specs.TableQueries.{fetch_rewritten_kvs}
-use Rattle.rules.specs.Causes.{ok}
+use Rattle.queries.proofs.RowLists.{rewritten-short}
+use Rattle.queries.proofs.Ways.{numbers-there, bytes-there, keys_wf, keys-there, keys-absent}
 use Rattle.queries.proofs.keys.fetch_rewritten_kvs.Goals as goal
 
-pub returns-in_default : goal.returns-in_default
-returns-in_default c = keys-absent (asked-absent _ _ _ _ _ (c.place_of.ensures c.args.bs.now c.requires) c.in_default.is)
+pub returns-in_err-k : goal.returns-in_err-k
+returns-in_err-k c = keys-absent _ (c.place_of.ensures _ c.requires) c.in_err-k.was c.from_residual.result c.from_residual.ensures.1
 
 pub key_count_at-n-requires : goal.key_count_at-n-requires
-key_count_at-n-requires c = numbers-there (stands_at (c.place_of.ensures c.args.bs.now c.requires) c.in-At.is) c.requires
+key_count_at-n-requires c = numbers-there ((c.place_of.ensures _ c.requires).at _ c.in_ok-k.was) c.requires
 
 pub key_rows-rows-requires : goal.key_rows-rows-requires
-key_rows-rows-requires c = numbers-there (stands_at (c.place_of.ensures c.args.bs.now c.requires) c.in-At.is) c.requires
+key_rows-rows-requires c = numbers-there ((c.place_of.ensures _ c.requires).at _ c.in_ok-k.was) c.requires
 
 pub key_bytes-bytes-requires : goal.key_bytes-bytes-requires
-key_bytes-bytes-requires c = bytes-there (stands_at (c.place_of.ensures c.args.bs.now c.requires) c.in-At.is) c.requires
+key_bytes-bytes-requires c = bytes-there ((c.place_of.ensures _ c.requires).at _ c.in_ok-k.was) c.requires
 
-pub fetch_rewritten_kvs-answer-requires : goal.fetch_rewritten_kvs-answer-requires
-fetch_rewritten_kvs-answer-requires c = keys_wf (stands_at (c.place_of.ensures c.args.bs.now c.requires) c.in-At.is) c.key_count_at-n.ensures c.key_rows-rows.ensures c.key_bytes-bytes.ensures
+pub fetch_rewritten_kvs-requires : goal.fetch_rewritten_kvs-requires
+fetch_rewritten_kvs-requires c = keys_wf ((c.place_of.ensures _ c.requires).at _ c.in_ok-k.was) c.key_count_at-n.ensures c.key_rows-rows.ensures c.key_bytes-bytes.ensures
 
 pub returns : goal.returns
 returns c =
-    keys-there (stands_at (c.place_of.ensures c.args.bs.now c.requires) c.in-At.is) c.key_count_at-n.ensures c.key_rows-rows.ensures c.key_bytes-bytes.ensures (λ t. ok (fetch_rewritten_kvs t)) _ _ _ _ _ _ c.fetch_rewritten_kvs-answer.ensures c.keys_fetched.ensures (λ t e. rewritten-short _ _ _ t e)
+    keys-there ((c.place_of.ensures _ c.requires).at _ c.in_ok-k.was) c.key_count_at-n.ensures c.key_rows-rows.ensures c.key_bytes-bytes.ensures (λ t. Ok (fetch_rewritten_kvs t)) _ _ _ _ _ c.fetch_rewritten_kvs.ensures (λ t e. rewritten-short _ _ _ t e)

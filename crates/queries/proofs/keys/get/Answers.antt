@@ -1,13 +1,16 @@
 -- `queries::keys::get` meets its contract. Assumes nothing.
-use Rattle.queries.specs.PlaceLaws.{stands_at, asked-absent, asked_at}
-use Rattle.queries.proofs.Ways.{got-absent}
+use Rattle.rules.specs.Causes.{Ok}
+use mathlib.Core.Path.{◌∙◌, sym, ap}
+use Rattle.std.proofs.lemmas.Result.{err_from_is_err_and}
+use Rattle.queries.specs.PlaceLaws.{asked-absent, asked_at}
 use Rattle.queries.proofs.keys.get.Goals as goal
 
-pub returns-in_default : goal.returns-in_default
-returns-in_default c = got-absent (asked-absent _ _ _ _ _ (c.place_of.ensures c.args.bs.now c.requires) c.in_default.is)
+pub returns-in_err-place_of : goal.returns-in_err-place_of
+returns-in_err-place_of c =
+    let q = err_from_is_err_and c.from_residual.result c.from_residual.ensures.1 in rw (q.1, q.2) (asked-absent _ _ _ _ _ _ (c.place_of.ensures _ c.requires) c.in_err-place_of.was)
 
 pub get_at-requires : goal.get_at-requires
-get_at-requires c = let s = (stands_at (c.place_of.ensures c.args.bs.now c.requires) c.in-At.is) in record { k_bound = (s.inside, c.requires.groups.numbers_fit, c.requires.groups.bytes_fit); wf = s.wf }
+get_at-requires c = let s = ((c.place_of.ensures _ c.requires).at _ c.in_ok-place_of.was) in record { k_bound = (s.inside, c.requires.groups.numbers_fit, c.requires.groups.bytes_fit); wf = s.wf }
 
 pub returns : goal.returns
-returns c = rw (asked_at _ _ _ _ _ (stands_at (c.place_of.ensures c.args.bs.now c.requires) c.in-At.is)) c.get_at.ensures
+returns c = ap Ok c.get_at.ensures ∙ sym (asked_at _ _ _ _ _ ((c.place_of.ensures _ c.requires).at _ c.in_ok-place_of.was))

@@ -7,13 +7,9 @@ use Rattle.records.specs.FillingLaws.{filled_none, filled_more}
 use Rattle.records.proofs.fill.fill_records.Goals as goal
 
 pub loop-i-init : goal.loop-i-init
-loop-i-init c = record { within = omega arith; stored = sym (filled_none c.args.out.now c.args.first (drop c.args.at c.args.xs.now)) }
+loop-i-init c = sym (filled_none _ _ _)
 
 pub loop-i-preserved : goal.loop-i-preserved
 loop-i-preserved c =
-    record {
-      within = omega arith;
-      stored =
-          rw (c.loop-i.invariant.stored, c.record_at.ensures, add-one c.loop-i.i)
-          (filled_more c.args.out.now c.args.first c.loop-i.i (drop c.args.at c.args.xs.now) (omega arith));
-    }
+    rw (c.loop-i.invariant, c.record_at.ensures, add-one c.loop-i.i)
+    (filled_more c.args.out.now c.args.plan.first c.loop-i.i (drop c.args.plan.at c.args.xs.now) (omega arith))

@@ -1,13 +1,9 @@
 -- `records::fill::fill_records` meets its contract. Assumes nothing.
 use mathlib.Core.Path.{◌≡◌}
-use Prim.Native.Nat.{◌-◌, ◌≤◌}
 use Rattle.std.specs.Prelude.{drop}
 use Rattle.cells.specs.Part.{put}
 use Rattle.pipe_log.specs.Rows.{window}
 use Rattle.records.proofs.fill.fill_records.Given as goal
 
 abbrev pub invariant-loop-i : goal.invariant-loop-i
-invariant-loop-i l = record { within : l.i ≤ l.count; stored : l.out ≡ put l.initial.out 0 (window l.first l.i (drop l.at l.xs)) }
-
-abbrev pub decreases-loop-i : goal.decreases-loop-i
-decreases-loop-i l = l.count - l.i
+invariant-loop-i l = l.out ≡ put l.initial.out 0 (window l.plan.first l.i (drop l.plan.at l.xs))

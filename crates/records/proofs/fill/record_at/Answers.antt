@@ -6,4 +6,4 @@ pub entry_at-requires : goal.entry_at-requires
 entry_at-requires c = let both = row-asked _ _ _ _ c.requires in record { i_in_bounds = both.0; any_row = both.1 }
 
 pub returns : goal.returns
-returns c = row_is c.args.at c.args.first c.args.i c.args.xs.now _ c.entry_at.ensures
+returns c = row_is c.args.plan.at c.args.plan.first c.args.i c.args.xs.now _ c.entry_at.ensures

@@ -1,6 +1,5 @@
 -- `records::rows::fill_rows` meets its contract: the rows passed are laid in. Assumes nothing.
 use mathlib.Core.Path.{◌≡◌}
-use Prim.Native.Nat.{◌-◌, ◌≤◌}
 use lib.ListN.{drop}
 use Rattle.cells.specs.Part.{put}
 use Rattle.pipe_log.specs.Rows.{window}
@@ -8,7 +7,4 @@ use Rattle.records.specs.Rows.{rows_of}
 use Rattle.records.proofs.rows.fill_rows.Given as goal
 
 abbrev pub invariant-loop-i : goal.invariant-loop-i
-invariant-loop-i l = (l.i ≤ l.count) × (l.out ≡ put l.initial.out 0 (rows_of (window l.first l.i (drop l.at l.xs))))
-
-abbrev pub decreases-loop-i : goal.decreases-loop-i
-decreases-loop-i l = l.count - l.i
+invariant-loop-i l = l.out ≡ put l.initial.out 0 (rows_of (window l.plan.first l.i (drop l.plan.at l.xs)))

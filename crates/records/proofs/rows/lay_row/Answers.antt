@@ -4,4 +4,4 @@ use Rattle.records.proofs.rows.lay_row.Goals as goal
 
 pub returns : goal.returns
 unfolding cells_of
-returns c = c.copy_in_u64.ensures
+returns c = c.copy_in.ensures

@@ -1,10 +1,6 @@
 -- `room::batches::count_batch` meets its contract: the counts are those of the items passed. Assumes nothing.
 use Rattle.room.proofs.Pushing.{Counting}
-use Prim.Native.Nat.{◌-◌, ◌≤◌}
 use Rattle.room.proofs.batches.count_batch.Given as goal
 
 abbrev pub invariant-loop-i : goal.invariant-loop-i
-invariant-loop-i l = (l.i ≤ l.n) × Counting l.items l.entries l.bytes l.i l.count
-
-abbrev pub decreases-loop-i : goal.decreases-loop-i
-decreases-loop-i l = l.n - l.i
+invariant-loop-i l = Counting l.items l.entries l.bytes l.i l.count

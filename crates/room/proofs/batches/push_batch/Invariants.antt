@@ -1,10 +1,6 @@
 -- `room::batches::push_batch` meets its contract: the items passed are added. Assumes nothing.
 use Rattle.room.proofs.Pushing.{PushingIn}
-use Prim.Native.Nat.{◌-◌}
 use Rattle.room.proofs.batches.push_batch.Given as goal
 
 abbrev pub invariant-loop-i : goal.invariant-loop-i
 invariant-loop-i l = PushingIn l.items l.entries l.bytes l.cells l.i l.tag l.initial.all l.initial.ws l.initial.vs l.all l.ws l.vs
-
-abbrev pub decreases-loop-i : goal.decreases-loop-i
-decreases-loop-i l = l.n - l.i

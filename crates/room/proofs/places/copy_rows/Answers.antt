@@ -5,9 +5,9 @@ use Prim.Native.Nat.{◌+◌, ◌*◌}
 use native.Mathlib.Omega.{arith}
 use Rattle.room.proofs.places.copy_rows.Goals as goal
 
-pub returns : goal.returns
-returns c =
+pub returns-clause-ws_after : goal.returns-clause-ws_after
+returns-clause-ws_after c =
     let n = c.args.cells in
     let k = length-rows_of c.args.content c.args.its_entries.now c.requires.rows_within in
     let e = c.requires.ws_len in
-    let h = c.requires.content_bound in record { ws_after = lent-put (2 + n * 90) (n * 128) c.args.ws.now (omega arith) _ (c.args.row * 8) _ c.copy_rows.ensures.entries_after (omega arith); value = c.copy_rows.ensures.value }
+    let h = c.requires.content_bound in lent-put (2 + n * 90) (n * 128) c.args.ws.now (omega arith) _ (c.args.row * 8) _ c.copy_rows.ensures.entries_after (omega arith)

@@ -1,5 +1,5 @@
 -- `room::places::move_rows` meets its contract. Assumes nothing.
-use Rattle.room.proofs.Loans.{lent_length, lent-moved}
+use Rattle.room.proofs.Loans.{lent-moved}
 use Rattle.stores.specs.Written.{rows_of}
 use Rattle.stores.proofs.WrittenLaws.{length-rows_of}
 use Rattle.cells.specs.Part.{part}
@@ -8,17 +8,10 @@ use Prim.Native.Nat.{◌+◌, ◌*◌}
 use native.Mathlib.Omega.{arith}
 use Rattle.room.proofs.places.move_rows.Goals as goal
 
-pub move_rows-requires : goal.move_rows-requires
-move_rows-requires c =
-    let n = c.args.cells in
-    let e = c.requires.ws_len in
-    let m = lent_length (2 + n * 90) (n * 128) c.args.ws.now (omega arith) in
-    rw m record { rows_within = c.requires.rows_within; rows_behind = c.requires.rows_behind; content_in_bounds = c.requires.content_bound }
-
-pub returns : goal.returns
-returns c =
+pub returns-clause-ws_after : goal.returns-clause-ws_after
+returns-clause-ws_after c =
     let n = c.args.cells in
     let e = c.requires.ws_len in
     let h = c.requires.content_bound in
     let m = length_part (2 + n * 90) (n * 128) c.args.ws.now (omega arith) in
-    let k = length-rows_of c.args.content (part (2 + n * 90) (n * 128) c.args.ws.now) (rw m c.requires.rows_within) in record { ws_after = lent-moved (2 + n * 90) (n * 128) c.args.ws.now (omega arith) (rows_of c.args.content) _ (c.args.row * 8) c.move_rows.ensures.entries_after (omega arith); value = c.move_rows.ensures.value }
+    let k = length-rows_of c.args.content (part (2 + n * 90) (n * 128) c.args.ws.now) (rw m c.requires.rows_within) in lent-moved (2 + n * 90) (n * 128) c.args.ws.now (omega arith) (rows_of c.args.content) _ (c.args.row * 8) c.move_rows.ensures.entries_after (omega arith)

@@ -1,10 +1,6 @@
 -- `script_areas::store::fresh_all` meets its contract. Assumes nothing.
-use Prim.Native.Nat.{◌-◌, ◌≤◌}
 use Rattle.script_areas.specs.Areas.{Areas}
 use Rattle.script_areas.proofs.store.fresh_all.Given as goal
 
 abbrev pub invariant-loop-k : goal.invariant-loop-k
-invariant-loop-k l = (Areas l.k l.xs l.bs) × (l.k ≤ 8)
-
-abbrev pub decreases-loop-k : goal.decreases-loop-k
-decreases-loop-k l = 8 - l.k
+invariant-loop-k l = Areas l.k l.xs l.bs

@@ -1,12 +1,7 @@
--- `scripts::asks::number` meets its contract. Assumes nothing.
-use borrow.Author.Tests.{ne_eqb}
+-- The number that a row asks for.
+use Rattle.std.proofs.Common.{arith}
+use Rattle.std.proofs.lemmas.Grind.{common_steps}
 use Rattle.scripts.proofs.asks.number.Goals as goal
 
-pub returns-then-row-eq10 : goal.returns-then-row-eq10
-returns-then-row-eq10 c = rw c.if-row-eq10.true c.first_index.ensures
-
-pub returns-then-row-eq11 : goal.returns-then-row-eq11
-returns-then-row-eq11 c = rw (ne_eqb _ _ c.if-row-eq10.false, c.if-row-eq11.true) c.last_index.ensures
-
-pub returns : goal.returns
-returns c = rw (ne_eqb _ _ c.if-row-eq10.false, ne_eqb _ _ c.if-row-eq11.false) (rw c.queue_at.ensures at c.min_file_seq.ensures)
+pub returns-in_default : goal.returns-in_default
+returns-in_default c = rw (← c.from.ensures) (grind (arith, common_steps))

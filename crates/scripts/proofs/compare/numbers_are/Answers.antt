@@ -1,25 +1,6 @@
--- `scripts::compare::numbers_are` meets its contract. Assumes nothing.
-use native.Mathlib.Omega.{arith}
-use Rattle.scripts.proofs.Agreeing.{none_yet, one_more_lem, fewer, not_same}
+-- Numbers that stand at the front of the stored ones from their place on.
+use Rattle.scripts.proofs.Agreeing.{prefix_agrees}
 use Rattle.scripts.proofs.compare.numbers_are.Goals as goal
 
-pub returns-then-got-n : goal.returns-then-got-n
-returns-then-got-n c = not_same _ _ _ _
-
-pub returns-then-want-at : goal.returns-then-want-at
-returns-then-want-at c = not_same _ _ _ _
-
-pub returns-then-want-at-2 : goal.returns-then-want-at-2
-returns-then-want-at-2 c = not_same _ _ _ _
-
-pub loop-i-init : goal.loop-i-init
-loop-i-init c = (omega arith, none_yet c.args.got.now c.args.want.now c.args.at)
-
-pub returns-then-want-at-3 : goal.returns-then-want-at-3
-returns-then-want-at-3 c = not_same _ _ _ _
-
-pub loop-i-preserved : goal.loop-i-preserved
-loop-i-preserved c = (omega arith, one_more_lem c.args.got.now c.args.want.now c.args.at _ c.loop-i.invariant.1 c.if-want-at-3.false)
-
 pub returns : goal.returns
-returns c = record { same = λ e. fewer c.args.got.now c.args.want.now c.args.at _ _ c.loop-i.invariant.1 (omega arith); there = λ e. omega arith }
+returns c = let l = c.in-Some.ensures.lookup.0 in prefix_agrees _ _ _ _ _ l.0 l.2 c.starts_with.ensures.value

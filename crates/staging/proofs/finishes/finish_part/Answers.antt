@@ -10,18 +10,18 @@ slice_bounds-find_finishing-end c = let n = area-length _ _ (formed_of _ _ c.req
 pub slice_bounds-find_finishing-end-2 : goal.slice_bounds-find_finishing-end-2
 slice_bounds-find_finishing-end-2 c = let n = area-length _ _ (formed_of _ _ c.requires.newer-wf) in omega (arith, n)
 
-pub find_finishing-found-requires : goal.find_finishing-found-requires
-find_finishing-found-requires c =
+pub find_finishing-requires : goal.find_finishing-requires
+find_finishing-requires c =
     let n = area-length _ _ (formed_of _ _ c.requires.wf) in
     let m = area-length _ _ (formed_of _ _ c.requires.newer-wf) in
     (room-length c.args.xs.now n, room-length c.args.ys.now m)
 
 pub finish_with-requires : goal.finish_with-requires
-finish_with-requires c = ending-given c.args.group c.args.xs.now c.args.bs.now c.args.ys.now c.args.cs.now c.requires c.find_finishing-found.result c.find_finishing-found.ensures c.in-Of.ending c.in-Of.is
+finish_with-requires c = ending-given c.args.group c.args.xs.now c.args.bs.now c.args.ys.now c.args.cs.now c.requires c.find_finishing.result c.find_finishing.ensures c.in-Some.ending c.in-Some.is
 
 pub returns-in-None : goal.returns-in-None
-returns-in-None c = finished-none c.args.group c.args.xs.now c.args.bs.now c.args.ys.now c.args.cs.now c.requires c.find_finishing-found.result c.find_finishing-found.ensures c.in-None.is
+returns-in-None c = finished-none c.args.group c.args.xs.now c.args.bs.now c.args.ys.now c.args.cs.now c.requires c.find_finishing.result c.find_finishing.ensures c.in-None.is
 
-pub returns-in-Of : goal.returns-in-Of
-returns-in-Of c =
-    finished-some c.args.group c.args.xs.now c.args.bs.now c.args.ys.now c.args.cs.now c.requires c.find_finishing-found.result c.find_finishing-found.ensures c.in-Of.ending c.in-Of.is c.finish_with.result c.finish_with.new.xs c.finish_with.new.bs c.finish_with.ensures
+pub returns-in-Some : goal.returns-in-Some
+returns-in-Some c =
+    finished-some c.args.group c.args.xs.now c.args.bs.now c.args.ys.now c.args.cs.now c.requires c.find_finishing.result c.find_finishing.ensures c.in-Some.ending c.in-Some.is c.finish_with.result c.finish_with.new.xs c.finish_with.new.bs c.finish_with.ensures

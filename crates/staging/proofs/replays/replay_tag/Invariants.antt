@@ -1,5 +1,4 @@
 -- `staging::replays::replay_tag` meets its contract. Assumes nothing.
-use Prim.Native.Nat.{◌-◌, ◌≤◌}
 use lib.ListN.{drop}
 use Rattle.stores.specs.Stores.{area}
 use Rattle.stores.specs.Tags.{store_tagged, items_with}
@@ -8,7 +7,4 @@ use Rattle.staging.specs.Replays.{Replaying}
 use Rattle.staging.proofs.replays.replay_tag.Given as goal
 
 abbrev pub invariant-loop-j : goal.invariant-loop-j
-invariant-loop-j l = (l.j ≤ l.n) × Replaying (items_with l.tag (store_tagged l.store (area l.items l.entries l.bytes) l.tags)) (work_in l.initial.p l.initial.b) (items_with l.tag (drop l.j (store_tagged l.store (area l.items l.entries l.bytes) l.tags))) l.p l.b
-
-abbrev pub decreases-loop-j : goal.decreases-loop-j
-decreases-loop-j l = l.n - l.j
+invariant-loop-j l = Replaying (items_with l.tag (store_tagged l.store (area l.items l.entries l.bytes) l.tags)) (work_in l.initial.p l.initial.b) (items_with l.tag (drop l.j (store_tagged l.store (area l.items l.entries l.bytes) l.tags))) l.p l.b

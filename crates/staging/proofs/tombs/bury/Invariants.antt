@@ -1,12 +1,8 @@
 -- `staging::tombs::bury` meets its contract: the tombstones passed are carried out. Assumes nothing.
-use Prim.Native.Nat.{◌-◌, ◌≤◌}
 use Rattle.stores.specs.Stores.{area}
 use Rattle.worktable.specs.Work.{work_in}
 use Rattle.staging.proofs.TombWays.{Buried}
 use Rattle.staging.proofs.tombs.bury.Given as goal
 
 abbrev pub invariant-loop-j : goal.invariant-loop-j
-invariant-loop-j l = (l.j ≤ l.n) × Buried l.group (area l.items l.entries l.bytes) (work_in l.initial.p l.initial.b) l.j l.p l.b
-
-abbrev pub decreases-loop-j : goal.decreases-loop-j
-decreases-loop-j l = l.n - l.j
+invariant-loop-j l = Buried l.group (area l.items l.entries l.bytes) (work_in l.initial.p l.initial.b) l.j l.p l.b

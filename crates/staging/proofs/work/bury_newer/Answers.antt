@@ -4,14 +4,14 @@ use native.Mathlib.Omega.{arith}
 use Rattle.contexts.specs.AreaLaws.{formed_of, area-length, area-bytes}
 use Rattle.staging.proofs.work.bury_newer.Goals as goal
 
+pub slice_bounds-rows-end : goal.slice_bounds-rows-end
+slice_bounds-rows-end c = let n = area-length _ _ (formed_of _ _ c.requires.wf_2) in omega (arith, n)
+
+pub slice_bounds-bytes-end : goal.slice_bounds-bytes-end
+slice_bounds-bytes-end c = let n = area-bytes _ _ (formed_of _ _ c.requires.wf_2) in omega (arith, n)
+
 pub bounds-ys : goal.bounds-ys
 bounds-ys c = let n = area-length _ _ (formed_of _ _ c.requires.wf_2) in omega (arith, n)
-
-pub slice_bounds-bury-end : goal.slice_bounds-bury-end
-slice_bounds-bury-end c = let n = area-length _ _ (formed_of _ _ c.requires.wf_2) in omega (arith, n)
-
-pub slice_bounds-bury-end-3 : goal.slice_bounds-bury-end-3
-slice_bounds-bury-end-3 c = let n = area-bytes _ _ (formed_of _ _ c.requires.wf_2) in omega (arith, n)
 
 pub bury-requires : goal.bury-requires
 bury-requires c =

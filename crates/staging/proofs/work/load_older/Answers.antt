@@ -1,5 +1,5 @@
 -- `staging::work::load_older` meets its contract. Assumes nothing.
-use Rattle.staging.proofs.WorkWays.{load-loaded, loaded_at, loaded-free, loaded-full}
+use Rattle.staging.proofs.WorkWays.{load-loaded, loaded_at, loaded-none}
 use native.Mathlib.Omega.{arith}
 use Rattle.contexts.specs.AreaLaws.{formed_of, area-length, area-bytes}
 use Rattle.groups.specs.Laws.{found_at_lem}
@@ -7,20 +7,14 @@ use Rattle.staging.proofs.work.load_older.Goals as goal
 
 pub load-requires : goal.load-requires
 load-requires c =
-    let w = c.requires in let a = found_at_lem _ _ _ _ c.find-slot.ensures c.in-At.is in let n = area-length _ _ (formed_of _ _ w) in let m = area-bytes _ _ (formed_of _ _ w) in record { k_bound = (a.inside, omega (arith, n), omega (arith, m)); wf = (w.groups.used _ a.inside a.used, a.used) }
+    let w = c.requires in let a = found_at_lem _ _ _ _ c.find.ensures c.in-At.is in let n = area-length _ _ (formed_of _ _ w) in let m = area-bytes _ _ (formed_of _ _ w) in record { k_bound = (a.inside, omega (arith, n), omega (arith, m)); wf = (w.groups.used _ a.inside a.used, a.used) }
 
 pub clear_long-requires : goal.clear_long-requires
 clear_long-requires c = area-length _ _ (formed_of _ _ c.requires)
 
-pub clear_long-requires-in-Full : goal.clear_long-requires-in-Full
-clear_long-requires-in-Full c = area-length _ _ (formed_of _ _ c.requires)
-
 pub returns-in-At : goal.returns-in-At
 returns-in-At c =
-    loaded_at _ _ _ c.requires _ c.find-slot.ensures _ _ _ c.in-At.is (load-loaded _ _ _ _ _ (area-length _ _ (formed_of _ _ c.requires)) (area-bytes _ _ (formed_of _ _ c.requires)) c.load.auto.xs c.load.auto.bs c.load.ensures)
+    loaded_at _ _ _ c.requires _ c.find.ensures _ _ _ c.in-At.is (load-loaded _ _ _ _ _ (area-length _ _ (formed_of _ _ c.requires)) (area-bytes _ _ (formed_of _ _ c.requires)) c.load.auto.xs c.load.auto.bs c.load.ensures)
 
 pub returns-in-Free : goal.returns-in-Free
-returns-in-Free c = loaded-free _ _ _ c.requires _ c.find-slot.ensures _ _ _ c.in-Free.is (c.clear_long.ensures _ (area-bytes _ _ (formed_of _ _ c.requires)))
-
-pub returns-in-Full : goal.returns-in-Full
-returns-in-Full c = loaded-full _ _ _ c.requires _ c.find-slot.ensures _ _ c.in-Full.is (c.clear_long-in-Full.ensures _ (area-bytes _ _ (formed_of _ _ c.requires)))
+returns-in-Free c = loaded-none _ _ _ c.requires _ c.find.ensures c.in-Free.is _ _ (c.clear_long.ensures _ (area-bytes _ _ (formed_of _ _ c.requires)))

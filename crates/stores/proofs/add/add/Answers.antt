@@ -1,28 +1,8 @@
 -- `stores::add::add` meets its contract. Assumes nothing.
-use Rattle.stores.proofs.AddLaws.{room-is, row_fits, bytes_fit, lists-fit, added_by}
-use Rattle.stores.proofs.WrittenLaws.{key-32}
+use Rattle.stores.proofs.AddLaws.{room-is, added_by}
 use Rattle.stores.specs.Stores.{area}
-use Rattle.stores.specs.Written.{count_of}
 use Prim.Native.Nat.{◌+◌}
-use native.Mathlib.Omega.{arith}
 use Rattle.stores.proofs.add.add.Goals as goal
-
-pub write_row-requires : goal.write_row-requires
-write_row-requires c =
-    let parts = area c.args.items.now c.args.entries.now c.args.bytes.now in
-    let room = room-is _ _ _ _ c.requires.entries_value in
-    let l = bytes_fit c.args.store parts c.requires.stored (count_of c.args.item.content) room in
-    let k = key-32 c.args.item.content c.requires.lent.short in record { i_in_bounds = row_fits c.args.store parts c.requires.stored (count_of c.args.item.content) room; content_bound = omega arith }
-
-pub copy_rows-end-requires : goal.copy_rows-end-requires
-copy_rows-end-requires c =
-    let parts = area c.args.items.now c.args.entries.now c.args.bytes.now in
-    let room = room-is _ _ _ _ c.requires.entries_value in record { content_in_bounds = lists-fit c.args.store parts c.requires.stored (count_of c.args.item.content) room; rows_within = c.requires.lent.within.rows }
-
-pub copy_bytes-requires : goal.copy_bytes-requires
-copy_bytes-requires c =
-    let parts = area c.args.items.now c.args.entries.now c.args.bytes.now in
-    let room = room-is _ _ _ _ c.requires.entries_value in record { at_in_bounds = bytes_fit c.args.store parts c.requires.stored (count_of c.args.item.content) room; bytes_within = c.requires.lent.within.places; content_short = c.requires.lent.short }
 
 pub returns : goal.returns
 returns c =

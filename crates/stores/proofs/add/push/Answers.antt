@@ -8,6 +8,3 @@ returns-then-not-has_room c =
     let its = c.args.item in
     let e = entries-count its c.args.its_entries.now c.args.its_bytes.now in
     (rw e (sym c.has_room.ensures ∙ c.if-not-has_room.true), refl)
-
-pub add-requires : goal.add-requires
-add-requires c = record { stored = c.requires.stored; lent = c.requires.lent; entries_value = sym c.has_room.ensures ∙ c.if-not-has_room.false }

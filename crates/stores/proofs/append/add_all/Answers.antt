@@ -1,32 +1,24 @@
 -- `stores::append::add_all` meets its contract: the first j items are added. Assumes nothing.
-use Rattle.stores.proofs.AppendLaws.{adding-start, adding-room, adding-next, adding-end}
+use Rattle.stores.proofs.AppendLaws.{adding-start, adding-room, adding-next}
 use Rattle.stores.specs.Stores.{area}
 use mathlib.Core.Path.{refl}
-use native.Mathlib.Omega.{arith}
 use Rattle.stores.proofs.append.add_all.Goals as goal
 
 pub loop-j-init : goal.loop-j-init
 loop-j-init c =
     let parts = area c.args.items.now c.args.entries.now c.args.bytes.now in
     let its = area c.args.its_items.now c.args.its_entries.now c.args.its_bytes.now in
-    (omega arith, adding-start c.args.store parts c.args.from.items its c.args.from refl c.requires.stored c.requires.stored_2 c.requires.from_in_bounds)
+    adding-start c.args.store parts c.args.from.items its c.args.from refl c.requires.stored c.requires.stored_2 c.requires.from_in_bounds
 
-pub add_item-all-requires : goal.add_item-all-requires
-add_item-all-requires c =
+pub add_item-all-requires-clause-entries_value : goal.add_item-all-requires-clause-entries_value
+add_item-all-requires-clause-entries_value c =
     let parts = area c.args.items.now c.args.entries.now c.args.bytes.now in
     let its = area c.args.its_items.now c.args.its_entries.now c.args.its_bytes.now in
-    let m = c.loop-j.invariant.1 in
-    let test = c.loop-j-test.true in record { stored = m.added.wf; stored_2 = c.requires.stored_2; j_lt_from = test; entries_value = adding-room c.args.store parts c.args.from.items its c.loop-j.j c.loop-j.all (area c.loop-j.items c.loop-j.entries c.loop-j.bytes) m test }
+    adding-room c.args.store parts c.args.from.items its c.loop-j.j c.loop-j.all (area c.loop-j.items c.loop-j.entries c.loop-j.bytes) c.loop-j.invariant c.loop-j-test.true
 
 pub loop-j-preserved : goal.loop-j-preserved
 loop-j-preserved c =
     let parts = area c.args.items.now c.args.entries.now c.args.bytes.now in
     let its = area c.args.its_items.now c.args.its_entries.now c.args.its_bytes.now in
     let test = c.loop-j-test.true in
-    (omega arith, adding-next c.args.store parts c.args.from.items its c.loop-j.j c.loop-j.all (area c.loop-j.items c.loop-j.entries c.loop-j.bytes) c.loop-j.invariant.1 test _ _ c.add_item-all.ensures)
-
-pub returns : goal.returns
-returns c =
-    let parts = area c.args.items.now c.args.entries.now c.args.bytes.now in
-    let its = area c.args.its_items.now c.args.its_entries.now c.args.its_bytes.now in
-    adding-end c.args.store parts c.args.from.items its c.args.from c.loop-j.j c.loop-j.all (area c.loop-j.items c.loop-j.entries c.loop-j.bytes) refl c.loop-j-test.false c.loop-j.invariant.0 c.loop-j.invariant.1
+    adding-next c.args.store parts c.args.from.items its c.loop-j.j c.loop-j.all (area c.loop-j.items c.loop-j.entries c.loop-j.bytes) c.loop-j.invariant test _ _ c.add_item-all.ensures

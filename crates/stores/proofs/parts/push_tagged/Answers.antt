@@ -6,21 +6,11 @@ use lib.ListN.{length}
 use mathlib.Core.Path.{refl}
 use Rattle.stores.proofs.parts.push_tagged.Goals as goal
 
-pub returns-in_default : goal.returns-in_default
-returns-in_default c = (rw c.in_default.is at c.push-pushed.ensures, refl)
-
-pub bounds-tags-at : goal.bounds-tags-at
-bounds-tags-at c =
-    let parts = area c.args.items.now c.args.entries.now c.args.bytes.now in
-    let its = item_of c.args.item c.args.its_entries.now c.args.its_bytes.now in
-    let added = rw c.in-Done.is at c.push-pushed.ensures in
-    added-place c.args.store parts its _ _ (length c.args.tags.now) added c.requires.in_bounds
-
 pub returns : goal.returns
 returns c =
     let parts = area c.args.items.now c.args.entries.now c.args.bytes.now in
     let its = item_of c.args.item c.args.its_entries.now c.args.its_bytes.now in
-    let added = rw c.in-Done.is at c.push-pushed.ensures in
+    let added = c.in_ok-all.ensures in
     let place = added-place c.args.store parts its _ _ (length c.args.tags.now) added c.requires.in_bounds in
     record {
       added = added;

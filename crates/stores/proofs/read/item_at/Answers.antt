@@ -9,12 +9,12 @@ open_item-requires c =
     let parts = area c.args.items.now c.args.entries.now c.args.bytes.now in
     stored_row c.args.store parts c.requires.stored c.args.j c.requires.j_lt_store
 
-pub returns-in_default : goal.returns-in_default
-returns-in_default c =
-    let parts = area c.args.items.now c.args.entries.now c.args.bytes.now in
-    absurd (stored-not-refused c.args.store parts c.requires.stored c.args.j c.requires.j_lt_store _ (sym c.open_item.ensures.value ∙ c.in_default.is))
-
 pub returns : goal.returns
 returns c =
     let parts = area c.args.items.now c.args.entries.now c.args.bytes.now in
-    stored-item c.args.store parts c.requires.stored c.args.j c.requires.j_lt_store _ (sym c.open_item.ensures.value ∙ c.in-Item.is)
+    stored-item c.args.store parts c.requires.stored c.args.j c.requires.j_lt_store _ (sym c.open_item.ensures.value ∙ c.in-Ok.is)
+
+pub unreachable-requires : goal.unreachable-requires
+unreachable-requires c =
+    let parts = area c.args.items.now c.args.entries.now c.args.bytes.now in
+    absurd (stored-not-refused c.args.store parts c.requires.stored c.args.j c.requires.j_lt_store _ (sym c.open_item.ensures.value ∙ c.in_default.is))

@@ -16,4 +16,4 @@ append-answer-requires c = rw c.head_in-head.ensures (record { wf = c.requires.n
 pub returns : goal.returns
 unfolding entry_rows_at part
 returns c =
-    record { by_index = λ b w. laying _ _ c.args.p.now c.append-answer.new.part c.args.rows.now c.append-answer.auto.part _ _ b w _ (rw c.head_in-head.ensures at c.append-answer.ensures) c.settle_laid.ensures.0 c.settle_laid.ensures.1; leaves_rows = laying-leaves c.args.keys_at c.args.p.now c.append-answer.new.part c.requires.numbers_at c.append-answer.auto.part _ (appended c.args.live (window c.args.first (length c.args.rows.now / 8) c.args.rows.now)) 0 c.args.first c.args.rows.now c.requires.lent (append-keeps c.args.live (head_part c.args.p.now) (entry_rows_at c.args.keys_at c.args.p.now) c.args.first c.args.rows.now) _ (rw c.head_in-head.ensures at c.append-answer.ensures) c.settle_laid.ensures.1 }
+    record { by_index = λ b w. laying _ _ c.args.p.now c.append-answer.new.part c.args.rows.now c.append-answer.auto.part _ _ b w _ (rw c.head_in-head.ensures at c.append-answer.ensures) c.settle.ensures.0 c.settle.ensures.1; leaves_rows = laying-leaves c.args.keys_at c.args.p.now c.append-answer.new.part c.requires.numbers_at c.append-answer.auto.part _ (appended c.args.live (window c.args.first (length c.args.rows.now / 8) c.args.rows.now)) 0 c.args.first c.args.rows.now c.requires.lent (append-keeps c.args.live (head_part c.args.p.now) (entry_rows_at c.args.keys_at c.args.p.now) c.args.first c.args.rows.now) _ (rw c.head_in-head.ensures at c.append-answer.ensures) c.settle.ensures.1 }

@@ -11,4 +11,4 @@ merge_append_table-answer-requires c = rw c.head_in-head.ensures (record { wf = 
 pub returns : goal.returns
 unfolding entry_rows_at part
 returns c =
-    λ b w. laying _ _ c.args.p.now c.merge_append_table-answer.new.part c.args.rows.now c.merge_append_table-answer.auto.part _ _ b w _ (rw c.head_in-head.ensures at c.merge_append_table-answer.ensures) c.settle_laid.ensures.0 c.settle_laid.ensures.1
+    λ b w. laying _ _ c.args.p.now c.merge_append_table-answer.new.part c.args.rows.now c.merge_append_table-answer.auto.part _ _ b w _ (rw c.head_in-head.ensures at c.merge_append_table-answer.ensures) c.settle.ensures.0 c.settle.ensures.1

@@ -12,4 +12,4 @@ replay_rewrite-answer-requires c = rw c.head_in-head.ensures (record { wf = c.re
 pub returns : goal.returns
 unfolding entry_rows_at part
 returns c =
-    record { by_index = λ b w. laying _ _ c.args.p.now c.replay_rewrite-answer.new.part c.args.rows.now c.replay_rewrite-answer.auto.part _ _ b w _ (rw c.head_in-head.ensures at c.replay_rewrite-answer.ensures) c.settle_laid.ensures.0 c.settle_laid.ensures.1; leaves_rows = laying-leaves c.args.keys_at c.args.p.now c.replay_rewrite-answer.new.part c.requires.numbers_at c.replay_rewrite-answer.auto.part _ _ 1 c.args.first c.args.rows.now c.requires.lent (replay-keeps (head_part c.args.p.now) (entry_rows_at c.args.keys_at c.args.p.now) c.args.first c.args.rows.now) _ (rw c.head_in-head.ensures at c.replay_rewrite-answer.ensures) c.settle_laid.ensures.1 }
+    record { by_index = λ b w. laying _ _ c.args.p.now c.replay_rewrite-answer.new.part c.args.rows.now c.replay_rewrite-answer.auto.part _ _ b w _ (rw c.head_in-head.ensures at c.replay_rewrite-answer.ensures) c.settle.ensures.0 c.settle.ensures.1; leaves_rows = laying-leaves c.args.keys_at c.args.p.now c.replay_rewrite-answer.new.part c.requires.numbers_at c.replay_rewrite-answer.auto.part _ _ 1 c.args.first c.args.rows.now c.requires.lent (replay-keeps (head_part c.args.p.now) (entry_rows_at c.args.keys_at c.args.p.now) c.args.first c.args.rows.now) _ (rw c.head_in-head.ensures at c.replay_rewrite-answer.ensures) c.settle.ensures.1 }

@@ -4,4 +4,4 @@ use Rattle.stretch.proofs.header.make.Goals as goal
 
 pub returns : goal.returns
 unfolding made_header
-returns c = c.copy_in_u64.ensures
+returns c = c.copy_in.ensures

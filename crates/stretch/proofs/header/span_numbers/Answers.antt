@@ -6,6 +6,6 @@ pub returns-in-None : goal.returns-in-None
 unfolding span_numbers
 returns-in-None c = rw c.in-None.is
 
-pub returns-in-Span : goal.returns-in-Span
+pub returns-in-Some : goal.returns-in-Some
 unfolding span_numbers
-returns-in-Span c = rw c.in-Span.is
+returns-in-Some c = rw c.in-Some.is

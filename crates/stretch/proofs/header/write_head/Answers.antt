@@ -6,4 +6,4 @@ use Rattle.stretch.proofs.header.write_head.Goals as goal
 
 pub returns : goal.returns
 unfolding head_numbers
-returns c = c.copy_in_u64.ensures ∙ rw (c.span_numbers-told.ensures, ← three-numbers c.args.head.atomic_group)
+returns c = c.copy_in.ensures ∙ rw (c.span_numbers-told.ensures, ← three-numbers c.args.head.atomic_group)

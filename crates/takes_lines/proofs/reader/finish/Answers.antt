@@ -1,22 +1,17 @@
 -- `takes_lines::reader::finish` meets its contract. Assumes nothing.
-use mathlib.Core.Path.{sym, ◌∙◌}
-use Rattle.takes_lines.proofs.ReadWays.{malformed-finishes, closed-malformed, cut-finishes, merge-finishes, batch-finishes}
+use Rattle.std.proofs.Common.{sym, ◌∙◌, arith}
+use Rattle.std.proofs.Common.{rules, true≢false}
+use denote.Enum.Bare.{same_true}
+use Rattle.takes_lines.specs.contracts.fields.Field.{the_type}
+use Rattle.takes_lines.proofs.ReadWays.{merge-finishes, batch-finishes}
 use Rattle.takes_lines.proofs.reader.finish.Goals as goal
 
-pub returns-then-h : goal.returns-then-h
-returns-then-h c = malformed-finishes c.args.h c.args.rows.now c.args.items.now c.if-h.true
+pub returns-then-eq-clause-finishes : goal.returns-then-eq-clause-finishes
+returns-then-eq-clause-finishes c =
+    rw c.in_ok-reader.was
+    (merge-finishes c.in_ok-reader.field-0 c.args.lent.now.rows c.in_ok-line.line c.args.lent.now.items _ (rw c.in_ok-line.was at c.close.ensures) (sym c.is_last.ensures ∙ c.if-not-is_last.false) (same_true the_type (search rules) _ _ (sym c.eq.ensures ∙ c.if-eq.true)))
 
-pub returns-then-closed : goal.returns-then-closed
-returns-then-closed c = closed-malformed c.args.h c.args.rows.now c.close-closed.result c.args.items.now _ c.if-h.false c.close-closed.ensures c.if-closed.true
-
-pub returns-then-not-is_last : goal.returns-then-not-is_last
-returns-then-not-is_last c = cut-finishes c.args.h c.args.rows.now c.close-closed.result c.args.items.now _ c.if-h.false c.close-closed.ensures c.if-closed.false (sym c.is_last.ensures ∙ c.if-not-is_last.true)
-
-pub returns-then-letter-eq77 : goal.returns-then-letter-eq77
-returns-then-letter-eq77 c =
-    merge-finishes c.args.h c.args.rows.now c.close-closed.result c.args.items.now _ c.if-h.false c.close-closed.ensures c.if-closed.false (sym c.is_last.ensures ∙ c.if-not-is_last.false) c.if-letter-eq77.true
-
-pub returns : goal.returns
-returns c =
-    rw c.copy_in_u64.ensures
-    (batch-finishes c.args.h c.args.rows.now c.close-closed.result c.args.items.now _ c.if-h.false c.close-closed.ensures c.if-closed.false (sym c.is_last.ensures ∙ c.if-not-is_last.false) c.item_row-row.result c.if-letter-eq77.false c.requires.len.1 c.requires.len.0 c.item_row-row.ensures)
+pub returns-clause-finishes : goal.returns-clause-finishes
+returns-clause-finishes c =
+    rw c.in_ok-reader.was
+    (batch-finishes c.in_ok-reader.field-0 c.args.lent.now.rows c.in_ok-line.line c.item_row-lent.result _ (rw c.in_ok-line.was at c.close.ensures) (sym c.is_last.ensures ∙ c.if-not-is_last.false) (λ e. true≢false (rw e at (sym c.eq.ensures ∙ c.if-eq.false))) (omega arith) c.item_row-lent.ensures)

@@ -10,4 +10,4 @@ pub returns-then-b-eq10 : goal.returns-then-b-eq10
 returns-then-b-eq10 c = record { stepped = newline-taken _ _ _ _ _ _ _ _ _ _ _ _ _ _ _ _ c.if-b-eq10.true c.end_line.ensures.stepped; lines_bound = c.end_line.ensures.lines_bound }
 
 pub returns : goal.returns
-returns c = record { stepped = byte-taken _ _ _ _ _ _ _ _ _ _ _ _ c.feed-more.ensures c.requires.fit.merged-area c.requires.fit.run-area c.if-b-eq10.false; lines_bound = omega arith }
+returns c = record { stepped = byte-taken _ _ _ _ _ _ _ _ _ _ _ _ c.feed.ensures c.requires.fit.merged-area c.requires.fit.run-area c.if-b-eq10.false; lines_bound = omega arith }

@@ -9,4 +9,4 @@ pub returns-then-known : goal.returns-then-known
 returns-then-known c = line-open _ _ _ _ _ _ _ _ _ _ _ _ _ _ _ c.if-known.true c.end_line.ensures.stepped
 
 pub returns : goal.returns
-returns c = line_empty _ _ _ _ _ _ _ _ _ c.if-known.false c.requires.fit
+returns c = line_empty _ _ _ _ _ _ _ _ c.if-known.false c.requires.fit

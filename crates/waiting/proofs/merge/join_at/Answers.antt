@@ -27,4 +27,4 @@ returns-in-Finish c =
 
 pub returns-in-Back : goal.returns-in-Back
 returns-in-Back c =
-    (joined_back c.args.ws.now c.args.vs.now c.requires.room_wf c.args.group c.args.k c.args.status c.args.start c.args.end (items_from c.args.us.now c.args.ds.now c.args.its) c.requires.at_cell c.step_at-step.result c.step_at-step.ensures c.in-Back.is, refl, refl)
+    (refl, joined_back c.args.ws.now c.args.vs.now c.requires.room_wf c.args.group c.args.k c.args.status c.args.start c.args.end (items_from c.args.us.now c.args.ds.now c.args.its) c.requires.at_cell c.step_at-step.result c.step_at-step.ensures c.in-Back.is, refl, refl)

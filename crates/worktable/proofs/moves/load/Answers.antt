@@ -10,27 +10,27 @@ overflow_mul-entries c = omega (arith, load-few c.args.k c.args.xs.now c.args.bs
 pub overflow_add-entries-2 : goal.overflow_add-entries-2
 overflow_add-entries-2 c = omega (arith, load-few c.args.k c.args.xs.now c.args.bs.now c.requires.wf.0)
 
-pub shift_up_u64-requires : goal.shift_up_u64-requires
-shift_up_u64-requires c =
+pub shift-requires : goal.shift-requires
+shift-requires c =
     let few = load-few c.args.k c.args.xs.now c.args.bs.now c.requires.wf.0 in
     let pre = c.requires.k_bound in omega (arith, few, pre)
 
 pub overflow_mul-keys : goal.overflow_mul-keys
 overflow_mul-keys c = omega (arith, load-few c.args.k c.args.xs.now c.args.bs.now c.requires.wf.0)
 
-pub shift_up_u64-requires-2 : goal.shift_up_u64-requires-2
-shift_up_u64-requires-2 c =
+pub shift-requires-2 : goal.shift-requires-2
+shift-requires-2 c =
     let few = load-few c.args.k c.args.xs.now c.args.bs.now c.requires.wf.0 in
     let pre = c.requires.k_bound in omega (arith, few, pre)
 
 pub overflow_mul-keys-2 : goal.overflow_mul-keys-2
 overflow_mul-keys-2 c = omega (arith, load-few c.args.k c.args.xs.now c.args.bs.now c.requires.wf.0)
 
-pub shift_up_u8-requires : goal.shift_up_u8-requires
-shift_up_u8-requires c =
+pub shift-requires-3 : goal.shift-requires-3
+shift-requires-3 c =
     let few = load-few c.args.k c.args.xs.now c.args.bs.now c.requires.wf.0 in
     let pre = c.requires.k_bound in omega (arith, few, pre)
 
 pub returns : goal.returns
 returns c =
-    loaded c.args.k c.args.xs.now c.args.bs.now c.requires.k_bound.0 c.requires.k_bound.1 c.requires.k_bound.2 c.requires.wf.0 c.requires.wf.1 _ _ _ _ _ refl refl c.shift_up_u64.ensures c.shift_up_u64-2.ensures c.shift_up_u8.ensures
+    loaded c.args.k c.args.xs.now c.args.bs.now c.requires.k_bound.0 c.requires.k_bound.1 c.requires.k_bound.2 c.requires.wf.0 c.requires.wf.1 _ _ _ _ _ refl refl c.shift.ensures c.shift-2.ensures c.shift-3.ensures

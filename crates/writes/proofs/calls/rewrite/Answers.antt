@@ -14,7 +14,7 @@ pub kind_in-kind-requires : goal.kind_in-kind-requires
 kind_in-kind-requires c = rw (part_to_end c.args.xs.now 9376) (zero_below (drop 9376 c.args.xs.now) c.requires.rest.numbers-are)
 
 pub returns-then-not-takes : goal.returns-then-not-takes
-returns-then-not-takes c = rw c.wrong_kind.ensures (rewrite_wrong c.args.xs.now c.args.bs.now _ c.kind_in-kind.ensures c.args.file _ _ _ _ c.requires (sym c.takes.ensures ∙ c.if-not-takes.true))
+returns-then-not-takes c = rw c.from.ensures (rewrite_wrong c.args.xs.now c.args.bs.now _ c.kind_in-kind.ensures c.args.file _ _ _ _ c.requires (sym c.takes.ensures ∙ c.if-not-takes.true))
 
 pub write_rewrite-requires : goal.write_rewrite-requires
 unfolding is_rewrite_replay call_of

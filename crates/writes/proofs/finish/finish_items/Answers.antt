@@ -22,11 +22,11 @@ run_both-answer-requires c =
 
 pub go_back-requires : goal.go_back-requires
 go_back-requires c =
-    let g = ends_back _ _ _ _ _ c.args.xs.now c.args.bs.now c.requires.formed (rw c.if-not-has_items.false at (c.has_items.ensures c.args.mark.at c.args.bs.now c.requires.formed)) _ (begun-room c.args.xs.now c.args.bs.now _ c.requires.formed (c.begin.ensures _ c.requires.formed.groups)) (begun-context c.args.xs.now c.args.bs.now _ c.requires.formed (c.begin.ensures _ c.requires.formed.groups)) _ _ (finish-going c.args.xs.now c.args.bs.now _ _ _ c.requires.formed (c.begin.ensures _ c.requires.formed.groups) c.counts_in-counts.ensures.0 c.counts_in-counts.ensures.1) _ _ _ _ (rw c.in-Refused.is at c.run_both-answer.ensures) in record { formed = (rw c.in-Refused.is at c.run_both-answer.ensures).formed; undoable = g.undoable; wf = g.lists-wf }
+    let g = ends_back _ _ _ _ _ c.args.xs.now c.args.bs.now c.requires.formed (rw c.if-not-has_items.false at (c.has_items.ensures c.args.mark.at c.args.bs.now c.requires.formed)) _ (begun-room c.args.xs.now c.args.bs.now _ c.requires.formed (c.begin.ensures _ c.requires.formed.groups)) (begun-context c.args.xs.now c.args.bs.now _ c.requires.formed (c.begin.ensures _ c.requires.formed.groups)) _ _ (finish-going c.args.xs.now c.args.bs.now _ _ _ c.requires.formed (c.begin.ensures _ c.requires.formed.groups) c.counts_in-counts.ensures.0 c.counts_in-counts.ensures.1) _ _ _ _ (rw c.in-Err.is at c.run_both-answer.ensures) in record { formed = (rw c.in-Err.is at c.run_both-answer.ensures).formed; undoable = g.undoable; wf = g.lists-wf }
 
-pub returns-in-Refused : goal.returns-in-Refused
-returns-in-Refused c =
-    ends-refused _ _ _ _ _ c.args.xs.now c.args.bs.now c.requires.formed (rw c.if-not-has_items.false at (c.has_items.ensures c.args.mark.at c.args.bs.now c.requires.formed)) _ (begun-room c.args.xs.now c.args.bs.now _ c.requires.formed (c.begin.ensures _ c.requires.formed.groups)) (begun-context c.args.xs.now c.args.bs.now _ c.requires.formed (c.begin.ensures _ c.requires.formed.groups)) _ _ (finish-going c.args.xs.now c.args.bs.now _ _ _ c.requires.formed (c.begin.ensures _ c.requires.formed.groups) c.counts_in-counts.ensures.0 c.counts_in-counts.ensures.1) _ _ _ _ (rw c.in-Refused.is at c.run_both-answer.ensures) _ _ c.go_back.ensures
+pub returns-in-Err : goal.returns-in-Err
+returns-in-Err c =
+    ends-refused _ _ _ _ _ c.args.xs.now c.args.bs.now c.requires.formed (rw c.if-not-has_items.false at (c.has_items.ensures c.args.mark.at c.args.bs.now c.requires.formed)) _ (begun-room c.args.xs.now c.args.bs.now _ c.requires.formed (c.begin.ensures _ c.requires.formed.groups)) (begun-context c.args.xs.now c.args.bs.now _ c.requires.formed (c.begin.ensures _ c.requires.formed.groups)) _ _ (finish-going c.args.xs.now c.args.bs.now _ _ _ c.requires.formed (c.begin.ensures _ c.requires.formed.groups) c.counts_in-counts.ensures.0 c.counts_in-counts.ensures.1) _ _ _ _ (rw c.in-Err.is at c.run_both-answer.ensures) _ _ c.go_back.ensures
 
 pub returns : goal.returns
 returns c =

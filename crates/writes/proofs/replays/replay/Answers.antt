@@ -16,7 +16,7 @@ pub kind_in-kind-requires : goal.kind_in-kind-requires
 kind_in-kind-requires c = rw (part_to_end c.args.xs.now 9376) (zero_below (drop 9376 c.args.xs.now) c.requires.rest.numbers-are)
 
 pub returns-then-not-is_context : goal.returns-then-not-is_context
-returns-then-not-is_context c = rw c.wrong_kind.ensures (replay_wrong-kind c.args.xs.now c.args.bs.now _ c.kind_in-kind.ensures c.args.file _ _ _ c.requires (sym c.is_context.ensures ∙ c.if-not-is_context.true))
+returns-then-not-is_context c = rw c.from.ensures (replay_wrong-kind c.args.xs.now c.args.bs.now _ c.kind_in-kind.ensures c.args.file _ _ _ c.requires (sym c.is_context.ensures ∙ c.if-not-is_context.true))
 
 pub write_replay_append-requires : goal.write_replay_append-requires
 unfolding is_rewrite_replay call_of append_call

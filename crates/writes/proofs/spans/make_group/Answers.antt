@@ -7,12 +7,12 @@ use Rattle.batches.specs.ActLaws.{secured_by, found-still, acted-change}
 use Rattle.writes.specs.SpanLaws.{making}
 use Rattle.writes.proofs.spans.make_group.Goals as goal
 
-pub change_found-requires : goal.change_found-requires
+pub apply-requires : goal.apply-requires
 unfolding Ready
-change_found-requires c =
+apply-requires c =
     record { wf = c.secure.ensures.wf; found = found-still c.args.group c.find-slot.result false (ReadyFor Make c.find-slot.result) c.args.xs.now c.args.bs.now _ _ c.find-slot.ensures (secured_by false _ _ _ _ _ c.secure.ensures); ready = tt }
 
 pub returns : goal.returns
 unfolding rule_of
 returns c =
-    acted-change c.args.group c.find-slot.result false c.args.xs.now c.args.bs.now _ _ c.find-slot.ensures Make making (secured_by false _ _ _ _ _ c.secure.ensures) _ _ _ c.change_found.ensures.changed_group c.change_found.ensures.leaves_slot
+    acted-change c.args.group c.find-slot.result false c.args.xs.now c.args.bs.now _ _ c.find-slot.ensures Make making (secured_by false _ _ _ _ _ c.secure.ensures) _ _ _ c.apply.ensures.changed_group c.apply.ensures.leaves_slot

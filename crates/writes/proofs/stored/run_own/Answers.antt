@@ -11,9 +11,9 @@ unfolding call_of
 turn-answer-requires c =
     let i = c.loop-i.invariant in record { formed = i.formed; undoable = i.back.undo.undoable; i_bound = rw c.row_count-n.ensures at c.loop-i-test.true; bytes_value = c.requires.bytes_value; keeping = i.own }
 
-pub returns-in-Refused : goal.returns-in-Refused
+pub returns-in-Err : goal.returns-in-Err
 unfolding call_of
-returns-in-Refused c = own-refused _ _ _ _ c.row_count-n.ensures _ _ _ _ _ c.loop-i.invariant c.loop-i-test.true _ _ _ (rw c.in-Refused.is at c.turn-answer.ensures)
+returns-in-Err c = own-refused _ _ _ _ c.row_count-n.ensures _ _ _ _ _ c.loop-i.invariant c.loop-i-test.true _ _ _ (rw c.in-Err.is at c.turn-answer.ensures)
 
 pub loop-i-preserved : goal.loop-i-preserved
 unfolding call_of

@@ -14,8 +14,8 @@ pub stored_turn-answer-requires : goal.stored_turn-answer-requires
 stored_turn-answer-requires c =
     let i = c.loop-j.invariant.0 in record { formed = i.formed; undoable = i.back.undo.undoable; j_bound = rw (c.stored_count-n.ensures ∙ sym (count_same _ _ _ _ i.back.room)) at c.loop-j-test.true; bs_value = passed_now _ _ _ _ _ _ i; keeping = i.own; rows_len = (c.loop-j.invariant.1, c.loop-j.invariant.2) }
 
-pub returns-in-Refused : goal.returns-in-Refused
-returns-in-Refused c = stored_refused _ _ _ _ _ _ c.loop-j.invariant.0 _ _ _ c.stored_turn-answer.ensures _ _ c.in-Refused.is
+pub returns-in-Err : goal.returns-in-Err
+returns-in-Err c = stored_refused _ _ _ _ _ _ c.loop-j.invariant.0 _ _ _ c.stored_turn-answer.ensures _ _ c.in-Err.is
 
 pub loop-j-preserved : goal.loop-j-preserved
 loop-j-preserved c =

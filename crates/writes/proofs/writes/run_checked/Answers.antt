@@ -10,14 +10,14 @@ run_items-requires c = record { formed = c.requires.formed; bytes_value = c.requ
 pub replay_marked-requires : goal.replay_marked-requires
 unfolding mark_as
 replay_marked-requires c =
-    let m = rw c.in-Found.is at c.mark_for-first.ensures in record { formed = c.requires.formed; kept_at = marked-kept _ _ (call_of c.args.call) _ m c.requires.keeping; bytes_value = marked-checks _ _ (call_of c.args.call) m c.requires.bytes_value }
+    let m = rw c.in-Some.is at c.mark_for-first.ensures in record { formed = c.requires.formed; kept_at = marked-kept _ _ (call_of c.args.call) _ m c.requires.keeping; bytes_value = marked-checks _ _ (call_of c.args.call) m c.requires.bytes_value }
 
-pub returns-in-Absent : goal.returns-in-Absent
+pub returns-in-None : goal.returns-in-None
 unfolding mark_as
-returns-in-Absent c =
-    written_run (call_of c.args.call) c.args.seq (items_of c.args.items.now c.args.entries.now c.args.bytes.now) c.args.xs.now c.args.bs.now _ _ _ c.requires.bytes_value (rw c.in-Absent.is at c.mark_for-first.ensures) c.run_items.ensures
+returns-in-None c =
+    written_run (call_of c.args.call) c.args.seq (items_of c.args.items.now c.args.entries.now c.args.bytes.now) c.args.xs.now c.args.bs.now _ _ _ c.requires.bytes_value (rw c.in-None.is at c.mark_for-first.ensures) c.run_items.ensures
 
-pub returns-in-Found : goal.returns-in-Found
+pub returns-in-Some : goal.returns-in-Some
 unfolding mark_as mark_of
-returns-in-Found c =
-    written-marked (call_of c.args.call) c.args.seq (items_of c.args.items.now c.args.entries.now c.args.bytes.now) c.args.xs.now c.args.bs.now _ _ _ c.requires.bytes_value _ (rw c.in-Found.is at c.mark_for-first.ensures) c.replay_marked.ensures
+returns-in-Some c =
+    written-marked (call_of c.args.call) c.args.seq (items_of c.args.items.now c.args.entries.now c.args.bytes.now) c.args.xs.now c.args.bs.now _ _ _ c.requires.bytes_value _ (rw c.in-Some.is at c.mark_for-first.ensures) c.replay_marked.ensures

@@ -2,6 +2,7 @@
 use mathlib.Core.Path.{sym}
 use Rattle.log_batch.specs.Lent.{items_of}
 use Rattle.log_batch.specs.Judged.{call_of, checked_as}
+use Rattle.std.proofs.lemmas.Result.{err_from_is_err_and}
 use Rattle.writes.proofs.WriteWays.{written-refused, written_run}
 use Rattle.writes.proofs.writes.write.Goals as goal
 
@@ -14,12 +15,13 @@ returns-then-is_single_put c =
 
 pub run_checked-requires : goal.run_checked-requires
 unfolding checked_as
-run_checked-requires c = record { formed = c.requires.formed; bytes_value = sym (rw c.in-Passed.is at c.check-answer.ensures); keeping = c.requires.keeping }
+run_checked-requires c = record { formed = c.requires.formed; bytes_value = sym (rw c.in_ok-check.was at c.check.ensures); keeping = c.requires.keeping }
 
-pub returns-in-Refused : goal.returns-in-Refused
+pub returns-in_err-check : goal.returns-in_err-check
 unfolding checked_as
-returns-in-Refused c =
-    written-refused (call_of c.args.call) c.args.seq (items_of c.args.items.now c.args.entries.now c.args.bytes.now) c.args.xs.now c.args.bs.now _ _ c.requires.formed (rw c.in-Refused.is at c.check-answer.ensures)
+returns-in_err-check c =
+    let x = err_from_is_err_and c.from_residual.result c.from_residual.ensures.1 in
+    rw (x.1, x.2) (written-refused (call_of c.args.call) c.args.seq (items_of c.args.items.now c.args.entries.now c.args.bytes.now) c.args.xs.now c.args.bs.now _ c.requires.formed (rw c.in_err-check.was at c.check.ensures))
 
-pub returns-in-Passed : goal.returns-in-Passed
-returns-in-Passed c = c.run_checked.ensures
+pub returns : goal.returns
+returns c = c.run_checked.ensures

@@ -1,8 +1,0 @@
--- `scripts::told::told_place` meets its contract. Assumes nothing.
-use Rattle.scripts.proofs.told.told_place.Goals as goal
-
-pub returns-in-None : goal.returns-in-None
-returns-in-None c = rw c.in-None.is
-
-pub returns-in-At : goal.returns-in-At
-returns-in-At c = rw c.in-At.is

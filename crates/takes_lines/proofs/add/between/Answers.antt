@@ -1,9 +1,0 @@
--- `takes_lines::add::between` meets its contract. Assumes nothing.
-use borrow.Author.Tests.{le-leb, lt-leb}
-use Rattle.takes_lines.proofs.add.between.Goals as goal
-
-pub returns-then-b-low : goal.returns-then-b-low
-returns-then-b-low c = rw (lt-leb _ _ c.if-b-low.true)
-
-pub returns : goal.returns
-returns c = rw (le-leb _ _ c.if-b-low.false)
