@@ -7,7 +7,7 @@ import os
 import shutil
 import sys
 
-QUEUES, KINDS = ['Append', 'Rewrite'], ['None', 'Lz4']
+QUEUES, KINDS = ['Append', 'Rewrite'], ['compression.None', 'compression.Lz4']
 ABSENT, REFUSED, OK = 2 ** 64, 2 ** 65, 2 ** 66
 
 
@@ -48,9 +48,9 @@ class Tokens:
     def maybe(self, read):
         if self.words[self.at] == '-':
             self.at += 1
-            return 'none', [ABSENT]
+            return 'None', [ABSENT]
         term, numbers = read()
-        return '(some %s)' % term, numbers
+        return '(Some %s)' % term, numbers
 
     def row(self, *reads):
         got = [read() for read in reads]
@@ -143,10 +143,10 @@ QUERIES = {
 CHANGES = {
     'append': ('appended true %s', lambda t: [t.entries]),
     'replay_append': ('appended false %s', lambda t: [t.entries]),
-    'replay_rewrite': ('λ t. ok (replayed_rewrite %s t)', lambda t: [t.entries]),
+    'replay_rewrite': ('λ t. Ok (replayed_rewrite %s t)', lambda t: [t.entries]),
     'rewrite': ('rewritten %s %s', lambda t: [lambda: t.maybe(t.number), t.entries]),
-    'put': ('λ t. ok (put_key %s (record { value = %s; file = %s }) t)', lambda t: [t.bytes, t.bytes, t.file]),
-    'delete': ('λ t. ok (delete_key %s t)', lambda t: [t.bytes]),
+    'put': ('λ t. Ok (put_key %s (record { value = %s; file = %s }) t)', lambda t: [t.bytes, t.bytes, t.file]),
+    'delete': ('λ t. Ok (delete_key %s t)', lambda t: [t.bytes]),
     'rewrite_key': ('rewritten_key %s %s %s', lambda t: [t.bytes, lambda: t.maybe(t.number), t.number]),
     'apply_rewrite_atomic_group': ('spanned (record { start = %s; end = %s })', lambda t: [t.number, t.number]),
 }
