@@ -73,7 +73,7 @@ module _ (c : Call) (items es bs : List ℕ) (n : ℕ) where
     under_back k zs gs s = going_on t m (context_of ys ds) xs fs zs gs (u.going l) (s.left k refl)
 
     -- and has gone back
-    pub under-refused : (k : Cause) (zs gs vs hs : List ℕ) → Stepped c here (eqb (i + 1) n) xs fs (Err k) zs gs → WentBack t m zs gs vs hs → (xs₁ bs₁ : List ℕ) → context_of ys ds ≡ context_of xs₁ bs₁ → n ≡ row_count_of items → Answered (run limited c (placed_from 0 (items_of items es bs))) xs₁ bs₁ (Err (record { cause = k; place = (Some i) })) vs hs
+    pub under-refused : (k : Cause) (zs gs vs hs : List ℕ) → Stepped c here (eqb (i + 1) n) xs fs (Err k) zs gs → WentBack t m zs gs vs hs → (xs₁ bs₁ : List ℕ) → context_of ys ds ≡ context_of xs₁ bs₁ → n ≡ row_count_of items → Answered (run limited c (placed_from 0 (items_of items es bs))) xs₁ bs₁ (Err (record { cause = k; place = Some i })) vs hs
     unfolding answer_as left
     under-refused k zs gs vs hs s b xs₁ bs₁ e q =
         let going = under_back k zs gs s in

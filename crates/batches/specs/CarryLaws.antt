@@ -87,7 +87,7 @@ module _ (c : call.Call) (it : lent.LogItem) (es ds : List ℕ) (ready : ItemRea
       carried-refused k e =
           stepped-refused (call_of c) item last rows key value does xs bs w u says (room_of_lem ∙ y) ys fs k (rw e at a)
 
-      pub carried-done : o ≡ (Ok tt) → (zs gs : List ℕ) → AreaGrown t n item ys fs zs gs → Stepped (call_of c) item last xs bs (Ok tt) zs gs
+      pub carried-done : o ≡ Ok tt → (zs gs : List ℕ) → AreaGrown t n item ys fs zs gs → Stepped (call_of c) item last xs bs (Ok tt) zs gs
       unfolding item_of
       carried-done e zs gs g =
           stepped-done (call_of c) item last rows key value does xs bs w u says (room_of_lem ∙ y) ys fs (rw e at a) zs gs (rw (et, en) at g)

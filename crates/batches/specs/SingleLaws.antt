@@ -163,7 +163,7 @@ module _ (c : call.Call) (it : lent.LogItem) (items es ds xs bs ys fs : List ℕ
       let r : run limited (call_of c) (placed_from 0 (items_of items es ds)) (context_of xs bs) ≡ Ok (context_of ys fs) = runs (context_of xs bs) ∙ run-done (call_of c) items es ds 1 0 (context_of xs bs) (context_of ys fs) (omega arith) (rw is-item (sym (a.rule (Some 0)))) ∙ run_end (call_of c) items es ds 1 1 (context_of ys fs) (omega arith) in
       record { answers = sym r; leaves = sym (ap (left (context_of xs bs)) r); formed = a.formed }
 
-  single-refused : (k : Cause) → Alone (call_of c) (item_of it es ds) xs bs (Err k) ys fs → Answered (run limited (call_of c) (placed_from 0 (items_of items es ds))) xs bs (Err (record { cause = k; place = (Some 0) })) ys fs
+  single-refused : (k : Cause) → Alone (call_of c) (item_of it es ds) xs bs (Err k) ys fs → Answered (run limited (call_of c) (placed_from 0 (items_of items es ds))) xs bs (Err (record { cause = k; place = Some 0 })) ys fs
   unfolding answer_as left
   single-refused k a =
       let r = runs (context_of xs bs) ∙ run-refused (call_of c) items es ds 1 0 (context_of xs bs) (record { cause = k; place = Some 0 }) (omega arith) (rw is-item (sym (a.rule (Some 0)))) in

@@ -79,5 +79,5 @@ pub record Alone (c : Call) (it : LogItem) (xs bs : List ℕ) (r : ByCause (Unit
 
 -- the answer to a batch of one item
 unfoldable pub answer_of : ByCause (Unit {0}) → Result (Unit {0})
-answer_of (Ok _) = (Ok tt)
-answer_of (Err n) = Err (record { cause = n; place = (Some 0) })
+answer_of (Ok _) = Ok tt
+answer_of (Err n) = Err (record { cause = n; place = Some 0 })

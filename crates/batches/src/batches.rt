@@ -73,17 +73,14 @@ pub fn run_items(
     let counts = lists::counts_in(&xs[a..]);
     groups::begin(xs);
     let n = row_count(items);
-    let mut i = 0;
-    while i < n {
-        let answer = turn(xs, bs, call, items, entries, bytes, i, i + 1 == n);
-        if let Err(cause) = answer {
+    for i in 0..n {
+        if let Err(cause) = turn(xs, bs, call, items, entries, bytes, i, i + 1 == n) {
             go_back(xs, bs, counts);
             return Err(Refusal {
                 cause,
                 place: Some(i),
             });
         }
-        i += 1;
     }
     Ok(())
 }

@@ -1,11 +1,10 @@
 -- A fresh context: the stretches are freed one by one, and the room of waiting parts and the lists cleared. Assumes nothing.
 use mathlib.Core.List.{List, []}
-use mathlib.Core.Path.{◌≡◌, refl, sym, ap, ◌∙◌}
-use Prim.Native.Nat.{ℕ, ◌+◌, ◌-◌, ◌*◌, ◌≤◌, ◌<◌}
-use native.Mathlib.Decide.{dec_lt}
+use mathlib.Core.Path.{◌≡◌, sym, ap, ◌∙◌}
+use Prim.Native.Nat.{ℕ, ◌-◌, ◌*◌, ◌≤◌, ◌<◌}
 use native.Mathlib.Omega.{arith}
-use lib.ListN.{length, get_or, set, take, drop, length-set, length-drop}
-use lib.Seq.{get_or-set_same, get_or-set_other, get_or-take}
+use lib.ListN.{length, get_or, take, drop, length-drop}
+use lib.Seq.{get_or-take}
 use borrow.Author.Rules.{part_to_end}
 use borrow.Rule.Slice.PartMut.{put_mid}
 use Rattle.cells.specs.Part.{part, put}
@@ -24,21 +23,6 @@ use Rattle.lists.specs.Calls.{Becomes}
 use Rattle.room.specs.Layout.{context_cells, waiting_of, Empty}
 use Rattle.contexts.specs.Contexts.{rest_at, context_of, Cleared, FreshArea}
 use Rattle.contexts.specs.AreaLaws.{before_back, behind_back, lists-room, none-wait}
-
-pub cleared-none : (xs : List ℕ) → Cleared 0 xs xs
-cleared-none xs = record { free = λ k l. absurd (omega arith); length-is = refl }
-
-pub cleared_more : (n : ℕ) (xs ys : List ℕ) → n < 8 → length xs ≡ 17231 → Cleared n xs ys → Cleared (n + 1) xs (set ys (n * 586) 0)
-cleared_more n xs ys h e c =
-    let l = c.length-is in
-    record {
-      free = λ k b.
-          elim (dec_lt k n) [
-            | yes p ↦ get_or-set_other ys (n * 586) (k * 586) 0 0 (λ s. omega arith) ∙ c.free k p
-            | no p ↦ let s : k ≡ n = omega arith in rw s (get_or-set_same ys (n * 586) 0 0 (omega arith))
-          ];
-      length-is = length-set ys (n * 586) 0 ∙ l;
-    }
 
 module _ (q : LogQueue) (xs ys bs v s : List ℕ) (n : length xs ≡ 17231) (m : length bs ≡ 38912) (c : Cleared 8 xs ys)
     (r : (vs : List ℕ) → length vs ≡ 8192 → Empty context_cells v vs)
@@ -77,9 +61,6 @@ module _ (q : LogQueue) (xs ys bs v s : List ℕ) (n : length xs ≡ 17231) (m :
 
   fits-still : 9376 ≤ length zs
   fits-still = front_fits 9376 us zs (sym (before_back 9376 us s numbers_fit)) numbers_fit
-
-  pub fresh-length : length zs ≡ 17231
-  fresh-length = omega (arith, fits-still, lists-are.wf.numbers-are, length-drop 9376 zs)
 
   -- the room is the one that was cleared
   room-is : part 10019 3490 zs ≡ v

@@ -27,10 +27,8 @@ fn clear_groups(xs: &mut [u64])
     requires { length xs.old ≡ 17231 }
     ensures { Cleared 8 xs.old xs.new }
 {
-    let mut k = 0;
-    while k < SLOTS {
+    for k in 0..SLOTS {
         xs[k * STRETCH] = 0;
-        k += 1;
     }
 }
 

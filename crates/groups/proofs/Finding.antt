@@ -1,13 +1,18 @@
 -- The search for a group through the eight stretches, from any of them on. Assumes nothing.
-use mathlib.Core.Bool.{true, false, cond}
+use mathlib.Core.Bool.{true, false}
 use mathlib.Core.List.{List}
-use mathlib.Core.Path.{◌≡◌, sym, ◌∙◌}
-use Prim.Native.Nat.{ℕ, ◌+◌, ◌-◌, ◌*◌, ◌%◌, ◌≤◌, ◌<◌}
+use mathlib.Core.Path.{◌≡◌, sym, ap, ◌∙◌}
+use Prim.Native.Nat.{ℕ, ◌+◌, ◌-◌, ◌*◌, ◌%◌, ◌<◌}
 use native.Mathlib.Nat.{add-zero, mod-lt, mod-eq_of_lt, add-mod_right}
 use native.Mathlib.Decide.{dec_lt}
 use native.Mathlib.Omega.{arith}
 use lib.Dec.{eqb}
 use lib.ListN.{get_or}
+use Rattle.std.specs.Prelude.{Option, None, Some}
+use Rattle.std.specs.Option.{option_or}
+use Rattle.std.proofs.lemmas.Option.{none-some}
+use Rattle.maps.specs.Lists.{or_else}
+use Rattle.maps.specs.ListLaws.{some-none}
 use borrow.Author.Tests.{eq-eqb, ne_eqb, eqb-true, eqb-false}
 use Rattle.cells.specs.PartLaws.{get_or-part}
 use Rattle.maps.specs.OrderLaws.{split}
@@ -48,27 +53,23 @@ found_here g k xs l u e = record { inside = l; used = used_if k xs u; number = g
 
 -- ---- the stretches that were passed
 
--- the i stretches from s on are not of group g, and `free` is a free one of them, or there is none and it is 8
-pub record Passed (g : ℕ) (xs : List ℕ) (s free i : ℕ) : Type 0 where
+-- the i stretches from s on are not of group g, and `free` is a free one of them, if there is one
+pub record Passed (g : ℕ) (xs : List ℕ) (s : ℕ) (free : Option ℕ) (i : ℕ) : Type 0 where
   pub start : s < slots
-  pub turns : i ≤ slots
-  pub inside : free ≤ slots
-  pub none : free ≡ slots → (j : ℕ) → j < i → is_used (stretch_at ((s + j) % slots) xs) ≡ true
-  pub some : free < slots → is_used (stretch_at free xs) ≡ false
+  pub none : free ≡ None → (j : ℕ) → j < i → is_used (stretch_at ((s + j) % slots) xs) ≡ true
+  pub some : (k : ℕ) → free ≡ Some k → (k < slots) × (is_used (stretch_at k xs) ≡ false)
   pub absent : (j : ℕ) → j < i → is_of g (stretch_at ((s + j) % slots) xs) ≡ false
 
-pub passed_none : (g : ℕ) (xs : List ℕ) (s : ℕ) → s < slots → Passed g xs s slots 0
+pub passed_none : (g : ℕ) (xs : List ℕ) (s : ℕ) → s < slots → Passed g xs s None 0
 passed_none g xs s h =
     record {
       start = h;
-      turns = omega arith;
-      inside = omega arith;
       none = λ e j l. absurd (omega arith);
-      some = λ l. absurd (omega arith);
+      some = λ k e. absurd (none-some k e);
       absent = λ j l. absurd (omega arith);
     }
 
-module _ (g : ℕ) (xs : List ℕ) (s free i : ℕ) (b : i < slots) (p : Passed g xs s free i) where
+module _ (g : ℕ) (xs : List ℕ) (s : ℕ) (free : Option ℕ) (i : ℕ) (b : i < slots) (p : Passed g xs s free i) where
   -- what holds of the stretches passed and of this one
   more : (P : ℕ → Type 0) → ((j : ℕ) → j < i → P j) → P i → (j : ℕ) → j < i + 1 → P j
   more P f h j l =
@@ -83,8 +84,6 @@ module _ (g : ℕ) (xs : List ℕ) (s free i : ℕ) (b : i < slots) (p : Passed 
       let k = (s + i) % slots in
       record {
         start = p.start;
-        turns = omega arith;
-        inside = p.inside;
         none = λ e. more (λ j. is_used (stretch_at ((s + j) % slots) xs) ≡ true) (p.none e) (used_if k xs u);
         some = p.some;
         absent =
@@ -92,41 +91,35 @@ module _ (g : ℕ) (xs : List ℕ) (s free i : ℕ) (b : i < slots) (p : Passed 
             (rw (used_if k xs u) (ne_eqb _ g (λ e. n (sym (group-is k xs) ∙ e))));
       }
 
+  -- the first free one, with a further one behind it
+  or_none : (k : ℕ) (free : Option ℕ) → option_or free (Some k) ≡ None → ⊥
+  or_none k None e = some-none k e
+  or_none k (Some j) e = some-none j e
+
+  or_some : (P : ℕ → Type 0) (k : ℕ) (free : Option ℕ) → P k → ((j : ℕ) → free ≡ Some j → P j) → (j : ℕ) → option_or free (Some k) ≡ Some j → P j
+  unfolding or_else
+  or_some P k None h f j e = let d : k ≡ j = ap (or_else 0 (λ n. n)) e in rw d at h
+  or_some P k (Some m) h f j e = f j e
+
   -- a free one, which counts if it is the first
-  pub passed-free : (get_or xs ((s + i) % slots * stretch_width) 0 ≡ 1 → ⊥) → Passed g xs s (cond (eqb free slots) ((s + i) % slots) free) (i + 1)
+  pub passed-free : (get_or xs ((s + i) % slots * stretch_width) 0 ≡ 1 → ⊥) → Passed g xs s (option_or free (Some ((s + i) % slots))) (i + 1)
   unfolding is_of
   passed-free n =
       let k = (s + i) % slots in
       let l : k < slots = mod-lt (s + i) (omega arith) in
-      let absent-still = more (λ j. is_of g (stretch_at ((s + j) % slots) xs) ≡ false) p.absent (rw (free_if k xs n)) in
-      split (eqb free slots)
-      (λ e.
-      rw e
-      (record {
+      record {
         start = p.start;
-        turns = omega arith;
-        inside = omega arith;
-        none = λ f. absurd (omega arith);
-        some = λ h. free_if k xs n;
-        absent = absent-still;
-      }))
-      (λ e.
-      rw e
-      (record {
-        start = p.start;
-        turns = omega arith;
-        inside = p.inside;
-        none = λ f. absurd (eqb-false free slots e f);
-        some = p.some;
-        absent = absent-still;
-      }))
+        none = λ e. absurd (or_none k free e);
+        some = or_some (λ j. (j < slots) × (is_used (stretch_at j xs) ≡ false)) k free (l, free_if k xs n) p.some;
+        absent = more (λ j. is_of g (stretch_at ((s + j) % slots) xs) ≡ false) p.absent (rw (free_if k xs n));
+      }
 
 -- all were passed
-module _ (g : ℕ) (xs : List ℕ) (s free : ℕ) (p : Passed g xs s free slots) where
+module _ (g : ℕ) (xs : List ℕ) (s : ℕ) (free : Option ℕ) (p : Passed g xs s free slots) where
   all-absent : (j : ℕ) → j < slots → is_of g (stretch_at j xs) ≡ false
   all-absent j l = let r = reach s j p.start l in rw r.2 at (p.absent r.0 r.1)
 
-  pub passed-full : free ≡ slots → Found g xs Full
+  pub passed-full : free ≡ None → Found g xs Full
   unfolding Found
   passed-full e =
       record {
@@ -134,7 +127,6 @@ module _ (g : ℕ) (xs : List ℕ) (s free : ℕ) (p : Passed g xs s free slots)
         absent = all-absent;
       }
 
-  pub passed-some : (free ≡ slots → ⊥) → Found g xs (Free free)
+  pub passed-some : (k : ℕ) → free ≡ Some k → Found g xs (Free k)
   unfolding Found
-  passed-some n =
-      let l : free < slots = omega (arith, n, p.inside) in record { inside = l; free = p.some l; absent = all-absent }
+  passed-some k e = let f = p.some k e in record { inside = f.0; free = f.1; absent = all-absent }

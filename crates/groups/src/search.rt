@@ -1,19 +1,9 @@
 // Where a group stands.
-ghost use Rattle.std.specs.Prelude.{cond, ◌≡◌, ◌≤◌, eqb, length};
+ghost use Rattle.std.specs.Prelude.{◌≤◌, length};
 ghost use Rattle.groups.specs.Area.{Found};
 
 use crate::{SLOTS, Slot};
 use stretch::STRETCH;
-
-// The free stretch that was met first: `free`, or k where none was met before it.
-fn earlier(free: usize, k: usize) -> usize
-    ensures { result ≡ cond (eqb free 8) k free }
-{
-    if free == SLOTS {
-        return k;
-    }
-    free
-}
 
 // Looks for a group from the slot that its mixed number points to, through all eight in turn. A free stretch is the first one on the
 // way, so that a group that is made there is soon found again.
@@ -22,22 +12,18 @@ pub fn find(xs: &[u64], group: u64) -> Slot
     ensures { Found group xs.now result }
 {
     let start = util::slot_index(group) % SLOTS;
-    let mut free = SLOTS;
-    let mut i = 0;
-    while i < SLOTS {
+    let mut free = None;
+    for i in 0..SLOTS {
         let k = (start + i) % SLOTS;
         let at = k * STRETCH;
-        if xs[at] == 1 {
-            if xs[at + 1] == group {
-                return Slot::At(k);
-            }
-        } else {
-            free = earlier(free, k);
+        if xs[at] != 1 {
+            free = free.or(Some(k));
+        } else if xs[at + 1] == group {
+            return Slot::At(k);
         }
-        i += 1;
     }
-    if free == SLOTS {
-        return Slot::Full;
+    match free {
+        None => Slot::Full,
+        Some(k) => Slot::Free(k),
     }
-    Slot::Free(free)
 }

@@ -20,10 +20,8 @@ pub fn begin(xs: &mut [u64])
     requires { 9376 ≤ length xs.old }
     ensures { (bs : List ℕ) → Wf xs.old bs → Begun xs.old bs xs.new }
 {
-    let mut k = 0;
-    while k < SLOTS {
+    for k in 0..SLOTS {
         xs[(SLOTS + k) * STRETCH] = 0;
-        k += 1;
     }
 }
 
@@ -207,9 +205,7 @@ pub fn undo(xs: &mut [u64], bs: &mut [u8])
     requires undoable { Undoable xs.old bs.old }
     ensures { Undone xs.old bs.old xs.new bs.new }
 {
-    let mut k = 0;
-    while k < SLOTS {
+    for k in 0..SLOTS {
         undo_at(xs, bs, k);
-        k += 1;
     }
 }

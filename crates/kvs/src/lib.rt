@@ -17,7 +17,7 @@ use pipe_log::{APPEND, Cause, LogQueue};
 use rows::{ROW_BYTES, ROW_WIDTH, close_row, insert_row, key_at, move_file, value_at, write_row};
 use std::cmp::Ordering;
 
-// Looks for a key of any length, by halves.
+// Looks for a key of any length, by halves. std's search goes over one slice, and a key is a row of numbers and bytes in another.
 pub fn find(n: usize, rows: &[u64], bytes: &[u8], key: &[u8]) -> Result<usize, usize>
     requires { Wf n rows.now bytes.now }
     ensures { result ≡ place_of key.now (keys_in n rows.now bytes.now) }

@@ -2,7 +2,7 @@
 use mathlib.Core.Bool.{true, false}
 use mathlib.Core.List.{List, [], ◌∷◌}
 use Rattle.std.specs.Prelude.{Option, None, Some}
-use mathlib.Core.Path.{◌≡◌, refl, sym, ap, ◌∙◌, subst}
+use mathlib.Core.Path.{◌≡◌, refl, sym, ap, ◌∙◌}
 use Prim.Native.Nat.{ℕ, suc, ◌+◌, ◌*◌, ◌≤◌, ◌<◌}
 use native.Mathlib.Nat.{zero-add}
 use native.Mathlib.Omega.{arith}
@@ -27,10 +27,10 @@ use Rattle.room.specs.Layout.{room_of, waiting_of, tagged, RoomWf}
 use Rattle.parts.specs.declared.Ending.{Ending}
 use Rattle.parts.specs.Finishings.{finished_as}
 use Rattle.parts.specs.Finals.{tombs_of, finished_in}
-use Rattle.parts.specs.Walks.{beyond_of, Least}
+use Rattle.parts.specs.Walks.{beyond_of, Least, LeastAt}
 use Rattle.parts.specs.ItemLaws.{here-is, past_is, end_is, an_item}
-use Rattle.parts.specs.CellLaws.{in_cell, cells_count}
-use Rattle.parts.proofs.WalkWays.{walked_all, none_left, next-lookup, next-is}
+use Rattle.parts.specs.CellLaws.{cells_count}
+use Rattle.parts.proofs.WalkWays.{walked_all, none_left, next-group, lookup-group}
 
 -- ---- one item
 
@@ -89,10 +89,8 @@ module _ (g : ℕ) (ws vs us ds : List ℕ) (w : RoomWf 16 ws vs) (u : RoomWf 16
 -- ---- all groups
 
 -- the groups so far are counted
-pub record Counting (count i : ℕ) (b : Option ℕ) (ws vs us ds : List ℕ) : Type 0 where
-  pub turns : i ≤ 16
-  pub left : length (beyond_of b (waiting_of us ds)) + i ≤ 16
-  pub few : count ≤ i * 256
+pub record Counting (count : ℕ) (b : Option ℕ) (ws vs us ds : List ℕ) : Type 0 where
+  pub few : count + length (beyond_of b (waiting_of us ds)) * 256 ≤ 4096
   pub whole : count + length (finished_tombs (beyond_of b (waiting_of us ds)) (waiting_of ws vs)) ≡ length (finished_tombs (waiting_of us ds) (waiting_of ws vs))
 
 pub tombs-nil : (o : Map ℕ (List Part)) → finished_tombs [] o ≡ []
@@ -111,52 +109,30 @@ module _ (ws vs us ds : List ℕ) (u : RoomWf 16 us ds) where
   unfolding waiting_of waiting_in room_of
   few-groups = let n = cells_count us ds u in let m = length-le (Rattle.room.specs.Rooms.cells_of (part 2 160 us) (tagged us ds)) in omega (arith, n, m)
 
-  pub counting-none : Counting 0 0 None ws vs us ds
+  pub counting-none : Counting 0 None ws vs us ds
   counting-none =
       let q = walked_all (waiting_of us ds) in
       let l = few-groups in
-      record {
-        turns = omega arith;
-        left = rw q (omega (arith, l));
-        few = omega arith;
-        whole = rw q (zero-add _);
-      }
+      record { few = rw q (omega (arith, l)); whole = rw q (zero-add _) }
 
-  module _ (count i : ℕ) (b : Option ℕ) (c : Counting count i b ws vs us ds) where
-    pub counted-out : i ≡ 16 → count ≡ length (finished_tombs (waiting_of us ds) (waiting_of ws vs))
-    counted-out e =
-        let l = c.left in
+  module _ (count : ℕ) (b : Option ℕ) (c : Counting count b ws vs us ds) where
+    pub counted_all : Least b 16 (part 2 160 us) None → (count ≡ length (finished_tombs (waiting_of us ds) (waiting_of ws vs))) × (count ≤ 4096)
+    counted_all l =
         let w = c.whole in
-        let z = nothing_left (beyond_of b (waiting_of us ds)) (waiting_of ws vs) (empty (beyond_of b (waiting_of us ds)) (omega (arith, l, e))) in
-        omega (arith, w, z)
-      where
-        empty : (m : Map ℕ (List Part)) → length m ≡ 0 → m ≡ []
-        empty [] h = refl
-        empty (x ∷ xs) h = absurd (omega arith)
+        let few = c.few in
+        let z = nothing_left (beyond_of b (waiting_of us ds)) (waiting_of ws vs) (none_left b us ds u l) in
+        (omega (arith, w, z), omega (arith, few))
 
-    module _ (k : ℕ) (l : Least b 16 (part 2 160 us) k) where
-      pub counted_all : 16 ≤ k → count ≡ length (finished_tombs (waiting_of us ds) (waiting_of ws vs))
-      counted_all h =
-          let m = l.most in
-          let w = c.whole in
-          let z = nothing_left (beyond_of b (waiting_of us ds)) (waiting_of ws vs) (none_left b us ds u k l (omega (arith, m, h))) in
-          omega (arith, w, z)
+    module _ (k : ℕ) (l : LeastAt b 16 (part 2 160 us) k) (g : ℕ) (e : g ≡ get_or us (2 + k * 10 + 1) 0) where
+      abbrev ps : List Part
+      ps = parts_of (head_at k (part 2 160 us)) (tagged us ds)
 
-      pub counted-more : k < 16 → i < 16 → (g n : ℕ) → g ≡ get_or us (2 + k * 10 + 1) 0 → n ≡ length (tombs_in (finished_in g ws vs us ds)) → n ≤ 256 → Counting (count + n) (i + 1) (Some g) ws vs us ds
-      unfolding group_in
-      counted-more h j g n e q few =
-          let same : group_in (head_at k (part 2 160 us)) ≡ g = in_cell us k 1 h (omega arith) ∙ sym e in
-          let nx = subst (λ (y : ℕ). beyond_of b (waiting_of us ds) ≡ pair y (parts_of (head_at k (part 2 160 us)) (tagged us ds)) ∷ beyond_of (Some y) (waiting_of us ds)) same (next-is b us ds u k l h) in
-          let lk : lookup numbers g (waiting_of us ds) ≡ Some (parts_of (head_at k (part 2 160 us)) (tagged us ds)) = subst (λ (y : ℕ). lookup numbers y (waiting_of us ds) ≡ Some (parts_of (head_at k (part 2 160 us)) (tagged us ds))) same (next-lookup b us ds u k l h) in
+      pub counted-more : (n : ℕ) → n ≡ length (tombs_in (finished_in g ws vs us ds)) → n ≤ 256 → Counting (count + n) (Some g) ws vs us ds
+      counted-more n q few =
+          let nx = next-group b us ds u k l g e in
           let a : length (beyond_of b (waiting_of us ds)) ≡ suc (length (beyond_of (Some g) (waiting_of us ds))) = ap length nx in
-          let m : n ≡ length (tombs_in (finished_of (Some (parts_of (head_at k (part 2 160 us)) (tagged us ds))) (lookup numbers g (waiting_of ws vs)))) = q ∙ ap (λ o. length (tombs_in (finished_of o (lookup numbers g (waiting_of ws vs))))) lk in
+          let m : n ≡ length (tombs_in (finished_of (Some ps) (lookup numbers g (waiting_of ws vs)))) = q ∙ ap (λ o. length (tombs_in (finished_of o (lookup numbers g (waiting_of ws vs))))) (lookup-group b us ds u k l g e) in
           let t : length (finished_tombs (beyond_of b (waiting_of us ds)) (waiting_of ws vs)) ≡ n + length (finished_tombs (beyond_of (Some g) (waiting_of us ds)) (waiting_of ws vs)) = ap (λ (x : Map ℕ (List Part)). length (finished_tombs x (waiting_of ws vs))) nx ∙ tombs-cons g _ _ (waiting_of ws vs) ∙ rw (← m) in
-          let l0 = c.left in
           let f0 = c.few in
           let w0 = c.whole in
-          record {
-            turns = omega arith;
-            left = omega (arith, l0, a);
-            few = omega (arith, f0);
-            whole = omega (arith, w0, t);
-          }
+          record { few = omega (arith, f0, a); whole = omega (arith, w0, t) }

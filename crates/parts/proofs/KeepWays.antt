@@ -27,16 +27,14 @@ use Rattle.lists.specs.Rest.{tombstones_in, rest_of}
 use Rattle.lists.specs.Rest as lists
 use Rattle.lists.specs.Calls.{TombstonesAdded}
 use Rattle.lists.specs.Laws.{lengths, behind-then, keeps_all, keeps_then}
-use Rattle.room.specs.Rooms.{head_at, group_in, parts_of}
 use Rattle.room.specs.Layout.{waiting_of, tagged, RoomWf}
 use Rattle.parts.specs.declared.Ending.{Ending}
 use Rattle.parts.specs.Finishings.{finished_as}
 use Rattle.parts.specs.Finals.{tombs_of, finished_in, Keeping}
-use Rattle.parts.specs.Walks.{beyond_of, Least}
+use Rattle.parts.specs.Walks.{beyond_of, Least, LeastAt}
 use Rattle.parts.specs.ItemLaws.{here-is, past_is, end_is, an_item}
-use Rattle.parts.specs.CellLaws.{in_cell}
-use Rattle.parts.proofs.WalkWays.{walked_all, none_left, next-lookup, next-is}
-use Rattle.parts.proofs.FinalWays.{tomb-in, tomb-out, no-tombs, few-groups, tombs-nil}
+use Rattle.parts.proofs.WalkWays.{walked_all, none_left, next-group, lookup-group}
+use Rattle.parts.proofs.FinalWays.{tomb-in, tomb-out, no-tombs, tombs-nil}
 
 -- ---- tombstones added one after the other
 
@@ -180,9 +178,7 @@ module _ (g : ℕ) (ws vs us ds : List ℕ) (w : RoomWf 16 ws vs) (u : RoomWf 16
 -- ---- all groups
 
 -- those of the groups so far are kept
-pub record KeepingAll (i : ℕ) (b : Option ℕ) (ws vs us ds ys cs ys' cs' : List ℕ) : Type 0 where
-  pub turns : i ≤ 16
-  pub left : length (beyond_of b (waiting_of us ds)) + i ≤ 16
+pub record KeepingAll (b : Option ℕ) (ws vs us ds ys cs ys' cs' : List ℕ) : Type 0 where
   pub front : List rules.LogItem
   pub whole : finished_tombs (waiting_of us ds) (waiting_of ws vs) ≡ front ++ finished_tombs (beyond_of b (waiting_of us ds)) (waiting_of ws vs)
   pub added : TombstonesAdded front ys cs ys' cs'
@@ -192,78 +188,42 @@ tombs-cons : (g : ℕ) (ps : List Part) (w o : Map ℕ (List Part)) → finished
 unfolding finished_tombs
 tombs-cons g ps w o = refl
 
-empty : (m : Map ℕ (List Part)) → length m ≡ 0 → m ≡ []
-empty [] h = refl
-empty (x ∷ xs) h = absurd (omega arith)
-
 module _ (ws vs us ds : List ℕ) (u : RoomWf 16 us ds) (ys cs : List ℕ) (f : lists.Wf ys cs) where
   abbrev all : List rules.LogItem
   all = finished_tombs (waiting_of us ds) (waiting_of ws vs)
 
-  pub keeping_start : get_or ys 1 0 + length all ≤ 64 → KeepingAll 0 None ws vs us ds ys cs ys cs
+  pub keeping_start : get_or ys 1 0 + length all ≤ 64 → KeepingAll None ws vs us ds ys cs ys cs
   keeping_start h =
       let q = walked_all (waiting_of us ds) in
-      let l = few-groups ws vs us ds u in
-      record {
-        turns = omega arith;
-        left = rw q (omega (arith, l));
-        front = [];
-        whole = rw q;
-        added = added_none ys cs f;
-        room = rw q h;
-      }
+      record { front = []; whole = rw q; added = added_none ys cs f; room = rw q h }
 
-  module _ (i : ℕ) (b : Option ℕ) (ys' cs' : List ℕ) (c : KeepingAll i b ws vs us ds ys cs ys' cs') where
-    ended : beyond_of b (waiting_of us ds) ≡ [] → TombstonesAdded all ys cs ys' cs'
-    ended e =
-        let q : all ≡ c.front = c.whole ∙ ap (λ (l : List rules.LogItem). c.front ++ l) (ap (λ (m : Map ℕ (List Part)). finished_tombs m (waiting_of ws vs)) e ∙ tombs-nil (waiting_of ws vs)) ∙ append-nil c.front in
+  module _ (b : Option ℕ) (ys' cs' : List ℕ) (c : KeepingAll b ws vs us ds ys cs ys' cs') where
+    pub kept_all : Least b 16 (part 2 160 us) None → TombstonesAdded all ys cs ys' cs'
+    kept_all l =
+        let q : all ≡ c.front = c.whole ∙ ap (λ (l : List rules.LogItem). c.front ++ l) (ap (λ (m : Map ℕ (List Part)). finished_tombs m (waiting_of ws vs)) (none_left b us ds u l) ∙ tombs-nil (waiting_of ws vs)) ∙ append-nil c.front in
         subst (λ (l : List rules.LogItem). TombstonesAdded l ys cs ys' cs') (sym q) c.added
 
-    pub kept_out : i ≡ 16 → TombstonesAdded all ys cs ys' cs'
-    kept_out e = let l = c.left in ended (empty (beyond_of b (waiting_of us ds)) (omega (arith, l, e)))
+    module _ (k : ℕ) (l : LeastAt b 16 (part 2 160 us) k) (g : ℕ) (e : g ≡ get_or us (2 + k * 10 + 1) 0) where
+      group_here : finished_tombs (beyond_of b (waiting_of us ds)) (waiting_of ws vs) ≡ tombs_in (finished_in g ws vs us ds) ++ finished_tombs (beyond_of (Some g) (waiting_of us ds)) (waiting_of ws vs)
+      group_here =
+          ap (λ (m : Map ℕ (List Part)). finished_tombs m (waiting_of ws vs)) (next-group b us ds u k l g e)
+          ∙ tombs-cons g _ _ (waiting_of ws vs)
+          ∙ ap (λ (o : Option (List Part)). tombs_in (finished_of o (lookup numbers g (waiting_of ws vs))) ++ finished_tombs (beyond_of (Some g) (waiting_of us ds)) (waiting_of ws vs)) (sym (lookup-group b us ds u k l g e))
 
-    module _ (k : ℕ) (l : Least b 16 (part 2 160 us) k) where
-      pub kept_all : 16 ≤ k → TombstonesAdded all ys cs ys' cs'
-      kept_all h = let m = l.most in ended (none_left b us ds u k l (omega (arith, m, h)))
+      group-sums : length (finished_tombs (beyond_of b (waiting_of us ds)) (waiting_of ws vs)) ≡ length (tombs_in (finished_in g ws vs us ds)) + length (finished_tombs (beyond_of (Some g) (waiting_of us ds)) (waiting_of ws vs))
+      group-sums = ap length group_here ∙ length-append (tombs_in (finished_in g ws vs us ds)) _
 
-      module _ (h : k < 16) (g : ℕ) (e : g ≡ get_or us (2 + k * 10 + 1) 0) where
-        abbrev ps : List Part
-        ps = parts_of (head_at k (part 2 160 us)) (tagged us ds)
+      pub group-fits : get_or ys' 1 0 + length (tombs_in (finished_in g ws vs us ds)) ≤ 64
+      group-fits = let s = group-sums in let r = c.room in omega (arith, s, r)
 
-        same : group_in (head_at k (part 2 160 us)) ≡ g
-        unfolding group_in
-        same = in_cell us k 1 h (omega arith) ∙ sym e
-
-        nx : beyond_of b (waiting_of us ds) ≡ pair g ps ∷ beyond_of (Some g) (waiting_of us ds)
-        nx = subst (λ (y : ℕ). beyond_of b (waiting_of us ds) ≡ pair y ps ∷ beyond_of (Some y) (waiting_of us ds)) same (next-is b us ds u k l h)
-
-        lk : lookup numbers g (waiting_of us ds) ≡ Some ps
-        lk = subst (λ (y : ℕ). lookup numbers y (waiting_of us ds) ≡ Some ps) same (next-lookup b us ds u k l h)
-
-        group_here : finished_tombs (beyond_of b (waiting_of us ds)) (waiting_of ws vs) ≡ tombs_in (finished_in g ws vs us ds) ++ finished_tombs (beyond_of (Some g) (waiting_of us ds)) (waiting_of ws vs)
-        group_here =
-            ap (λ (m : Map ℕ (List Part)). finished_tombs m (waiting_of ws vs)) nx
-            ∙ tombs-cons g ps _ (waiting_of ws vs)
-            ∙ ap (λ (o : Option (List Part)). tombs_in (finished_of o (lookup numbers g (waiting_of ws vs))) ++ finished_tombs (beyond_of (Some g) (waiting_of us ds)) (waiting_of ws vs)) (sym lk)
-
-        group-sums : length (finished_tombs (beyond_of b (waiting_of us ds)) (waiting_of ws vs)) ≡ length (tombs_in (finished_in g ws vs us ds)) + length (finished_tombs (beyond_of (Some g) (waiting_of us ds)) (waiting_of ws vs))
-        group-sums = ap length group_here ∙ length-append (tombs_in (finished_in g ws vs us ds)) _
-
-        pub group-fits : get_or ys' 1 0 + length (tombs_in (finished_in g ws vs us ds)) ≤ 64
-        group-fits = let s = group-sums in let r = c.room in omega (arith, s, r)
-
-        pub kept_more : i < 16 → (ys'' cs'' : List ℕ) → TombstonesAdded (tombs_in (finished_in g ws vs us ds)) ys' cs' ys'' cs'' → KeepingAll (i + 1) (Some g) ws vs us ds ys cs ys'' cs''
-        kept_more j ys'' cs'' k =
-            let s = group-sums in
-            let r = c.room in
-            let l0 = c.left in
-            let a : length (beyond_of b (waiting_of us ds)) ≡ suc (length (beyond_of (Some g) (waiting_of us ds))) = ap length nx in
-            let p = count-after (tombs_in (finished_in g ws vs us ds)) ys' cs' ys'' cs'' c.added.wf k in
-            record {
-              turns = omega arith;
-              left = omega (arith, l0, a);
-              front = c.front ++ tombs_in (finished_in g ws vs us ds);
-              whole = c.whole ∙ ap (λ (x : List rules.LogItem). c.front ++ x) group_here ∙ sym (append_assoc c.front (tombs_in (finished_in g ws vs us ds)) _);
-              added = added_then c.front (tombs_in (finished_in g ws vs us ds)) ys cs ys' cs' ys'' cs'' c.added k;
-              room = omega (arith, s, r, p);
-            }
+      pub kept_more : (ys'' cs'' : List ℕ) → TombstonesAdded (tombs_in (finished_in g ws vs us ds)) ys' cs' ys'' cs'' → KeepingAll (Some g) ws vs us ds ys cs ys'' cs''
+      kept_more ys'' cs'' k =
+          let s = group-sums in
+          let r = c.room in
+          let p = count-after (tombs_in (finished_in g ws vs us ds)) ys' cs' ys'' cs'' c.added.wf k in
+          record {
+            front = c.front ++ tombs_in (finished_in g ws vs us ds);
+            whole = c.whole ∙ ap (λ (x : List rules.LogItem). c.front ++ x) group_here ∙ sym (append_assoc c.front (tombs_in (finished_in g ws vs us ds)) _);
+            added = added_then c.front (tombs_in (finished_in g ws vs us ds)) ys cs ys' cs' ys'' cs'' c.added k;
+            room = omega (arith, s, r, p);
+          }

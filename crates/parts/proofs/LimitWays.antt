@@ -1,11 +1,10 @@
 -- The ways of judging what waits in a room by its counts. Assumes nothing.
-use mathlib.Core.Bool.{false, ◌&&◌}
+use mathlib.Core.Bool.{◌&&◌}
 use mathlib.Core.List.{List}
 use mathlib.Core.Path.{◌≡◌, sym, ◌∙◌}
-use Prim.Native.Nat.{ℕ, ◌≤◌, ◌<◌}
+use Prim.Native.Nat.{ℕ}
 use lib.Dec.{leb}
 use lib.ListN.{length, get_or}
-use borrow.Author.Tests.{le-leb, lt-leb}
 use Rattle.cells.specs.Part.{part}
 use Rattle.rules.specs.Context.{waiting_fits}
 use Rattle.room.specs.Rooms.{waiting_items, waiting_entries}
@@ -32,14 +31,5 @@ module _ (ws : List ℕ) (used : ℕ) (e : used ≡ used_from 16 0 (part 2 160 w
     unfolding waiting_of store_of
     entries-are = w.wf.all-entries
 
-    by-counts : waiting_fits (waiting_of ws vs) ≡ (leb used 8 && leb (get_or ws 0 0) 64 && leb (get_or ws 1 0) 128)
-    by-counts = fits_by (waiting_of ws vs) ∙ rw (groups-are, items-are, entries-are)
-
-  pub groups-pass : 8 < used → (vs : List ℕ) → RoomWf 16 ws vs → false ≡ waiting_fits (waiting_of ws vs)
-  groups-pass l vs w = rw (by-counts vs w, lt-leb used 8 l)
-
-  pub items-pass : used ≤ 8 → 64 < get_or ws 0 0 → (vs : List ℕ) → RoomWf 16 ws vs → false ≡ waiting_fits (waiting_of ws vs)
-  items-pass g l vs w = rw (by-counts vs w, le-leb used 8 g, lt-leb (get_or ws 0 0) 64 l)
-
-  pub entries-tell : used ≤ 8 → get_or ws 0 0 ≤ 64 → (vs : List ℕ) → RoomWf 16 ws vs → leb (get_or ws 1 0) 128 ≡ waiting_fits (waiting_of ws vs)
-  entries-tell g l vs w = rw (by-counts vs w, le-leb used 8 g, le-leb (get_or ws 0 0) 64 l)
+    pub by_counts : waiting_fits (waiting_of ws vs) ≡ (leb used 8 && leb (get_or ws 0 0) 64 && leb (get_or ws 1 0) 128)
+    by_counts = fits_by (waiting_of ws vs) ∙ rw (groups-are, items-are, entries-are)

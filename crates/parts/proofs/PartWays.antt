@@ -1,31 +1,34 @@
 -- The ways of finding what finishes: the heads of two cells tell, and a group's cell is what the map has of it. Assumes nothing.
-use mathlib.Core.Bool.{true, false, not, cond}
+use mathlib.Core.Bool.{Bool, true, false, not, cond, ◌||◌}
 use mathlib.Core.List.{List, [], ◌∷◌, ◌++◌}
 use Rattle.std.specs.Prelude.{Option, None, Some}
 use mathlib.Core.Path.{◌≡◌, refl, sym, ap, ◌∙◌}
 use Prim.Native.Nat.{ℕ, ◌+◌, ◌*◌, ◌≤◌, ◌<◌}
-use native.Mathlib.Numerals.{add-one}
 use native.Mathlib.Omega.{arith}
 use lib.Dec.{eqb}
-use lib.ListN.{length, get_or, drop}
+use lib.ListN.{length, get_or, take}
+use Rattle.std.specs.List.{list_any}
 use borrow.Author.Tests.{eq-eqb, ne_eqb, eqb-true, not-true}
 use Rattle.cells.specs.Part.{part}
-use Rattle.cells.specs.PartLaws.{get_or-part}
+use Rattle.cells.specs.PartLaws.{take_part}
 use Rattle.maps.specs.BoolLaws.{clash, both_left, both_right}
-use Rattle.maps.specs.Lists.{last, or_else}
+use Rattle.maps.specs.Lists.{last, or_else, select}
 use Rattle.maps.specs.Maps.{lookup, numbers}
 use Rattle.maps.specs.MapLaws.{pair}
 use Rattle.maps.specs.Cells.{holds}
 use Rattle.maps.proofs.CellLaws.{lookup_at, lookup_absent}
 use Rattle.maps.specs.OrderLaws.{split}
 use Rattle.rules.specs.Items.{status_of}
+use Rattle.rules.specs.Items as rules
 use Rattle.rules.specs.Context.{Part}
 use Rattle.rules.specs.Waiting.{accept}
 use Rattle.rules_by_group.specs.Group.{Finished, finished_by, finished_of}
 use Rattle.rules_by_group.specs.Group as group
 use Rattle.rules_by_group.proofs.ResultLaws.{by_option}
 use Rattle.stores.specs.Tags.{Tagged, items_with}
-use Rattle.stores.specs.TagLaws.{with_here, with-past, with-end}
+use Rattle.stores.specs.Tags as tags
+use Rattle.stores.specs.Stores.{store_items}
+use Rattle.stores.specs.StoreLaws.{length-stored}
 use Rattle.room.specs.Rooms.{head_at, count_in, group_in, newest_tag, older_tag, newest, older, parts_of, cell_of, cells_of, items_in, area_in, waiting_in}
 use Rattle.room.specs.Layout.{store_of, room_of, waiting_of, tagged, RoomWf}
 use Rattle.waiting.specs.declared.Place as place
@@ -34,35 +37,8 @@ use Rattle.waiting.specs.Steps.{is_of, step_of, stepped, AtCell, Found}
 use Rattle.waiting.specs.StepLaws.{accept_step}
 use Rattle.parts.specs.declared.Ending.{Ending}
 use Rattle.parts.specs.Finishings.{finished_as, oldest_at, oldest, is_finish, has_items}
-use Rattle.parts.specs.ItemLaws.{enough-tags, count_all, tag_at, an_item}
+use Rattle.parts.specs.ItemLaws.{enough-tags, few-items}
 use Rattle.parts.specs.CellLaws.{in_cell, count-is, cells_count, cell_at_lem}
-
--- ---- which step finishes
-
-module _ (s : step.Step) where
-  pub replace-not : s ≡ step.TheVariants.Replace → false ≡ is_finish s
-  unfolding is_finish
-  replace-not e = rw e
-
-  pub front-not : s ≡ step.TheVariants.Front → false ≡ is_finish s
-  unfolding is_finish
-  front-not e = rw e
-
-  pub join-not : s ≡ step.TheVariants.Join → false ≡ is_finish s
-  unfolding is_finish
-  join-not e = rw e
-
-  pub drop-not : s ≡ step.TheVariants.Drop → false ≡ is_finish s
-  unfolding is_finish
-  drop-not e = rw e
-
-  pub finish-is : s ≡ step.TheVariants.Finish → true ≡ is_finish s
-  unfolding is_finish
-  finish-is e = rw e
-
-  pub back-not : s ≡ step.TheVariants.Back → false ≡ is_finish s
-  unfolding is_finish
-  back-not e = rw e
 
 -- ---- the oldest part of a cell
 
@@ -228,40 +204,23 @@ newer-absent g ws us f vs ds w u = rw (lookup_no-cell us ds u g f) (none-newer (
 
 -- ---- whether a room has an item with a tag
 
--- among the items before item j there is none
-pub record NoneBefore (t : ℕ) (ws : List ℕ) (j : ℕ) : Type 0 where
-  pub rest : (vs : List ℕ) → RoomWf 16 ws vs → has_items (items_with t (drop j (tagged ws vs))) ≡ has_items (items_with t (tagged ws vs))
+has-first : (b : Bool) (t u : ℕ) (x : rules.LogItem) (xs : List rules.LogItem) (ts : List ℕ) → eqb u t ≡ b → has_items (items_with t (tags.tagged (u ∷ ts) (x ∷ xs))) ≡ b || has_items (items_with t (tags.tagged ts xs))
+unfolding has_items tags.items_with tags.has_tag tags.tagged select
+has-first true t u x xs ts e = rw e
+has-first false t u x xs ts e = rw e
 
-pub none_before : (t : ℕ) (ws : List ℕ) → NoneBefore t ws 0
-none_before t ws = record { rest = λ vs w. refl }
+has-tagged : (t : ℕ) (ts : List ℕ) (xs : List rules.LogItem) → length xs ≤ length ts → has_items (items_with t (tags.tagged ts xs)) ≡ list_any (λ u. eqb u t) (take (length xs) ts)
+unfolding has_items tags.items_with tags.tagged select
+has-tagged t ts [] h = refl
+has-tagged t [] (x ∷ xs) h = absurd (omega arith)
+has-tagged t (u ∷ ts) (x ∷ xs) h =
+    has-first (eqb u t) t u x xs ts refl ∙ ap (λ (b : Bool). eqb u t || b) (has-tagged t ts xs (omega arith))
 
-module _ (t : ℕ) (ws vs : List ℕ) (w : RoomWf 16 ws vs) where
-  abbrev r : Rattle.room.specs.Rooms.Room
-  r = room_of 16 ws vs
-
-  counted : length (tagged ws vs) ≡ get_or ws 0 0
-  unfolding items_in store_of
-  counted = count_all (store_of ws) (area_in r) r.tags w.wf.stored (enough-tags ws vs w)
-
-  tag_of : (j : ℕ) → j < get_or ws 0 0 → get_or ws 0 0 ≤ 128 → (get_or (tagged ws vs) j an_item).tag ≡ get_or ws (162 + j) 0
-  unfolding items_in store_of room_of
-  tag_of j l f = tag_at (store_of ws) (area_in r) r.tags w.wf.stored (enough-tags ws vs w) 0 j l an_item ∙ get_or-part 162 128 ws j 0 (omega arith)
-
-module _ (t : ℕ) (ws : List ℕ) (j : ℕ) (f : get_or ws 0 0 ≤ 128) (b : NoneBefore t ws j) where
-  pub item_here : j < get_or ws 0 0 → get_or ws (162 + j) 0 ≡ t → (vs : List ℕ) → RoomWf 16 ws vs → true ≡ has_items (items_with t (tagged ws vs))
-  item_here l e vs w =
-      let n = counted t ws vs w in
-      sym (sym (b.rest vs w) ∙ rw (with_here t (tagged ws vs) j an_item (omega (arith, n)) (tag_of t ws vs w j l f ∙ e)) (unfold has_items in refl))
-
-  pub item-not : j < get_or ws 0 0 → (get_or ws (162 + j) 0 ≡ t → ⊥) → NoneBefore t ws (j + 1)
-  item-not l e =
-      record {
-        rest = λ vs w.
-            let n = counted t ws vs w in
-            rw (add-one j) (ap has_items (sym (with-past t (tagged ws vs) j an_item (omega (arith, n)) (λ u. e (sym (tag_of t ws vs w j l f) ∙ u)))) ∙ b.rest vs w);
-      }
-
-  pub item_nowhere : get_or ws 0 0 ≤ j → (vs : List ℕ) → RoomWf 16 ws vs → false ≡ has_items (items_with t (tagged ws vs))
-  item_nowhere l vs w =
-      let n = counted t ws vs w in
-      sym (sym (b.rest vs w) ∙ rw (with-end t (tagged ws vs) j an_item (omega (arith, n))) (unfold has_items in refl))
+pub has-tag : (t : ℕ) (ws vs : List ℕ) → RoomWf 16 ws vs → list_any (λ u. eqb u t) (part 162 (get_or ws 0 0) ws) ≡ has_items (items_with t (tagged ws vs))
+unfolding items_in store_of room_of tags.store_tagged
+has-tag t ws vs w =
+    let r = room_of 16 ws vs in
+    let n = length-stored (store_of ws) (area_in r) w.wf.stored in
+    let f = few-items ws vs w in
+    let e = enough-tags ws vs w in
+    sym (has-tagged t r.tags (store_items (store_of ws) (area_in r)) (rw n e) ∙ rw (n, take_part (get_or ws 0 0) 162 128 ws f))

@@ -2,9 +2,9 @@
 use Rattle.std.specs.Prelude.{Option, None, Some}
 use mathlib.Core.List.{List, [], ◌∷◌}
 use mathlib.Core.Path.{◌≡◌, refl, sym, ap, ◌∙◌, subst}
-use Prim.Native.Nat.{ℕ, suc, ◌+◌, ◌*◌, ◌≤◌, ◌<◌}
+use Prim.Native.Nat.{ℕ, ◌+◌, ◌*◌, ◌<◌}
 use native.Mathlib.Omega.{arith}
-use lib.ListN.{length, get_or}
+use lib.ListN.{get_or}
 use borrow.Author.Tests.{ne_eqb}
 use Rattle.cells.specs.Part.{part}
 use Rattle.maps.specs.Maps.{Pair, Map, lookup, numbers}
@@ -25,7 +25,7 @@ use Rattle.room.specs.LimitLaws.{fits-few}
 use Rattle.waiting.specs.Accepts.{parts_at}
 use Rattle.waiting.specs.Merges.{items_from, MergedAs, Joined, Finished, RoomFor}
 use Rattle.waiting.specs.Forms.{part_with}
-use Rattle.parts.specs.Walks.{beyond_of, Least}
+use Rattle.parts.specs.Walks.{beyond_of, Least, LeastAt}
 use Rattle.parts.specs.CellLaws.{in_cell, count-is}
 use Rattle.parts.specs.Takings.{newer_part, Taken, PartRefused, TakenAs, newer_cell, RoomForAll, PartsTaken}
 use Rattle.parts.specs.TakingLaws.{one-taken, one-refused, two-taken, two-refused, room_here, room_next, room-one, room-older, room-newer}
@@ -169,9 +169,6 @@ module _ (us ds : List ℕ) (k : ℕ) (l : k < 16) where
 
       -- the older part is accepted; the newest follows
       module _ (ws' vs' : List ℕ) (older-taken : Taken group older_part ws vs ws' vs') where
-        pub older_wf : RoomWf 16 ws' vs'
-        older_wf = older-taken.room
-
         pub newest-room : RoomForAll (newer_cell k us ds ∷ []) (waiting_of ws vs) → RoomFor group (items_from us ds (get_or us (at + 2) 0)) ws' vs'
         unfolding newer_part
         newest-room h = room-newer group newest_part older_part ws vs (room_two h) (ascends ws vs) ws' vs' (only-taken group older_part ws vs (Ok tt) ws' vs' older-taken).0
@@ -188,9 +185,7 @@ module _ (us ds : List ℕ) (k : ℕ) (l : k < 16) where
 -- ---- all cells
 
 -- the parts of the cells so far are accepted, and there is room for the others
-pub record Taking (i : ℕ) (b : Option ℕ) (us ds ws vs ws' vs' : List ℕ) : Type 0 where
-  pub turns : i ≤ 16
-  pub left : length (beyond_of b (waiting_of us ds)) + i ≤ 16
+pub record Taking (b : Option ℕ) (us ds ws vs ws' vs' : List ℕ) : Type 0 where
   pub whole : waiting_after (beyond_of b (waiting_of us ds)) (waiting_of ws' vs') ≡ waiting_after (waiting_of us ds) (waiting_of ws vs)
   pub fits : RoomForAll (beyond_of b (waiting_of us ds)) (waiting_of ws' vs')
   pub room : RoomWf 16 ws' vs'
@@ -203,15 +198,11 @@ after_more : (x : Pair ℕ (List Part)) (xs w : Map ℕ (List Part)) → waiting
 unfolding waiting_after Rattle.rules.specs.Causes.in_order
 after_more x xs w = refl
 
-empty : (m : Map ℕ (List Part)) → length m ≡ 0 → m ≡ []
-empty [] h = refl
-empty (x ∷ xs) h = absurd (omega arith)
-
 module _ (us ds ws vs : List ℕ) (u : RoomWf 16 us ds) where
   abbrev newer : Map ℕ (List Part)
   newer = waiting_of us ds
 
-  pub taking-start : ContextRoom us ds → ContextRoom ws vs → Taking 0 None us ds ws vs ws vs
+  pub taking-start : ContextRoom us ds → ContextRoom ws vs → Taking None us ds ws vs ws vs
   taking-start n o =
       let q = walked_all newer in
       let l = few-groups ws vs us ds u in
@@ -224,54 +215,41 @@ module _ (us ds ws vs : List ℕ) (u : RoomWf 16 us ds) where
       let gi = g.items in
       let ge = g.entries in
       record {
-        turns = omega arith;
-        left = rw q (omega (arith, l));
         whole = rw q;
         fits = rw q (record { groups = omega (arith, fg, gg); items = omega (arith, fi, gi); entries = omega (arith, fe, ge) });
         room = o.room;
       }
 
-  module _ (i : ℕ) (b : Option ℕ) (ws' vs' : List ℕ) (c : Taking i b us ds ws vs ws' vs') where
-    ended : beyond_of b newer ≡ [] → PartsTaken (waiting_after newer (waiting_of ws vs)) (Ok tt) ws' vs'
-    ended e = (sym c.whole ∙ ap (λ (m : Map ℕ (List Part)). waiting_after m (waiting_of ws' vs')) e ∙ after_none (waiting_of ws' vs'), c.room)
+  module _ (b : Option ℕ) (ws' vs' : List ℕ) (c : Taking b us ds ws vs ws' vs') where
+    pub taken_all : Least b 16 (part 2 160 us) None → PartsTaken (waiting_after newer (waiting_of ws vs)) (Ok tt) ws' vs'
+    taken_all l = (sym c.whole ∙ ap (λ (m : Map ℕ (List Part)). waiting_after m (waiting_of ws' vs')) (none_left b us ds u l) ∙ after_none (waiting_of ws' vs'), c.room)
 
-    pub taken_out : i ≡ 16 → PartsTaken (waiting_after newer (waiting_of ws vs)) (Ok tt) ws' vs'
-    taken_out e = let l = c.left in ended (empty (beyond_of b newer) (omega (arith, l, e)))
+    module _ (k : ℕ) (l : LeastAt b 16 (part 2 160 us) k) where
+      abbrev rest : Map ℕ (List Part)
+      rest = beyond_of (Some (group_in (head_at k (part 2 160 us)))) newer
 
-    module _ (k : ℕ) (l : Least b 16 (part 2 160 us) k) where
-      pub taken_all : 16 ≤ k → PartsTaken (waiting_after newer (waiting_of ws vs)) (Ok tt) ws' vs'
-      taken_all h = let m = l.most in ended (none_left b us ds u k l (omega (arith, m, h)))
+      next : beyond_of b newer ≡ newer_cell k us ds ∷ rest
+      next = next-is b us ds u k l
 
-      module _ (h : k < 16) where
-        abbrev rest : Map ℕ (List Part)
-        rest = beyond_of (Some (group_in (head_at k (part 2 160 us)))) newer
+      room_for : RoomForAll (newer_cell k us ds ∷ rest) (waiting_of ws' vs')
+      room_for = subst (λ (m : Map ℕ (List Part)). RoomForAll m (waiting_of ws' vs')) next c.fits
 
-        next : beyond_of b newer ≡ newer_cell k us ds ∷ rest
-        next = next-is b us ds u k l h
+      pub cell_room : RoomForAll (newer_cell k us ds ∷ []) (waiting_of ws' vs')
+      cell_room = room_here (newer_cell k us ds) rest (waiting_of ws' vs') room_for
 
-        room_for : RoomForAll (newer_cell k us ds ∷ rest) (waiting_of ws' vs')
-        room_for = subst (λ (m : Map ℕ (List Part)). RoomForAll m (waiting_of ws' vs')) next c.fits
+      here : waiting_after newer (waiting_of ws vs) ≡ and_then (accept_parts_of (newer_cell k us ds) (waiting_of ws' vs')) (waiting_after rest)
+      here = sym c.whole ∙ ap (λ (m : Map ℕ (List Part)). waiting_after m (waiting_of ws' vs')) next ∙ after_more (newer_cell k us ds) rest (waiting_of ws' vs')
 
-        pub cell_room : RoomForAll (newer_cell k us ds ∷ []) (waiting_of ws' vs')
-        cell_room = room_here (newer_cell k us ds) rest (waiting_of ws' vs') room_for
+      pub taken-refused : (e : Cause) → accept_parts_of (newer_cell k us ds) (waiting_of ws' vs') ≡ refuse e → waiting_after newer (waiting_of ws vs) ≡ refuse e
+      taken-refused e x =
+          here ∙ and_then-refused (accept_parts_of (newer_cell k us ds) (waiting_of ws' vs')) (waiting_after rest) (refusal_of e) x
 
-        here : waiting_after newer (waiting_of ws vs) ≡ and_then (accept_parts_of (newer_cell k us ds) (waiting_of ws' vs')) (waiting_after rest)
-        here = sym c.whole ∙ ap (λ (m : Map ℕ (List Part)). waiting_after m (waiting_of ws' vs')) next ∙ after_more (newer_cell k us ds) rest (waiting_of ws' vs')
-
-        pub taken-refused : (e : Cause) → accept_parts_of (newer_cell k us ds) (waiting_of ws' vs') ≡ refuse e → waiting_after newer (waiting_of ws vs) ≡ refuse e
-        taken-refused e x =
-            here ∙ and_then-refused (accept_parts_of (newer_cell k us ds) (waiting_of ws' vs')) (waiting_after rest) (refusal_of e) x
-
-        module _ (ws'' vs'' : List ℕ) (x : (accept_parts_of (newer_cell k us ds) (waiting_of ws' vs') ≡ Ok (waiting_of ws'' vs'')) × RoomWf 16 ws'' vs'') where
-          pub taken_more : i < 16 → (g : ℕ) → g ≡ get_or us (2 + k * 10 + 1) 0 → Taking (i + 1) (Some g) us ds ws vs ws'' vs''
-          taken_more j g e =
-              let a : length (beyond_of b newer) ≡ suc (length rest) = ap length next in
-              let l0 = c.left in
-              rw (e ∙ sym (group-is us ds k h))
-              (record {
-                turns = omega arith;
-                left = omega (arith, l0, a);
-                whole = sym (here ∙ and_then_of (accept_parts_of (newer_cell k us ds) (waiting_of ws' vs')) (waiting_after rest) (waiting_of ws'' vs'') x.0);
-                fits = room_next (newer_cell k us ds) rest (waiting_of ws' vs') (ascends ws' vs') (waiting_of ws'' vs'') x.0 room_for;
-                room = x.1;
-              })
+      module _ (ws'' vs'' : List ℕ) (x : (accept_parts_of (newer_cell k us ds) (waiting_of ws' vs') ≡ Ok (waiting_of ws'' vs'')) × RoomWf 16 ws'' vs'') where
+        pub taken_more : (g : ℕ) → g ≡ get_or us (2 + k * 10 + 1) 0 → Taking (Some g) us ds ws vs ws'' vs''
+        taken_more g e =
+            rw (e ∙ sym (group-is us ds k l.inside))
+            (record {
+              whole = sym (here ∙ and_then_of (accept_parts_of (newer_cell k us ds) (waiting_of ws' vs')) (waiting_after rest) (waiting_of ws'' vs'') x.0);
+              fits = room_next (newer_cell k us ds) rest (waiting_of ws' vs') (ascends ws' vs') (waiting_of ws'' vs'') x.0 room_for;
+              room = x.1;
+            })

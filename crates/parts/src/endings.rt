@@ -15,17 +15,11 @@ use waiting::find::{find, step_at};
 use waiting::{Place, Step};
 
 // Whether a step finishes a part.
+#[tactic(auto, unfolding(crate::specs::Finishings::is_finish))]
 fn is_finish(step: Step) -> bool
     ensures { result ≡ is_finish step }
 {
-    match step {
-        Step::Replace => false,
-        Step::Front => false,
-        Step::Join => false,
-        Step::Drop => false,
-        Step::Finish => true,
-        Step::Back => false,
-    }
+    matches!(step, Step::Finish)
 }
 
 // Where the tag of the oldest part of cell j stands; status, start and end stand behind it.
@@ -67,8 +61,7 @@ fn finishing_at(ws: &[u64], us: &[u64], group: u64, j: usize) -> Option<Ending>
     requires { (length ws.now ≡ 3490) × (length us.now ≡ 3490) × (j < 16) }
     ensures { (vs : List ℕ) (ys : List Tagged) → RoomWf 16 ws.now vs → finished_of (Some (parts_of (head_at j (part 2 160 us.now)) ys)) (lookup numbers group (waiting_of ws.now vs)) ≡ finished_as result (tagged ws.now vs) ys }
 {
-    let place = find(ws, CELLS, group);
-    match place {
+    match find(ws, CELLS, group) {
         Place::At(k) => finishing_by(ws, us, k, j),
         Place::Free(_) => None,
         Place::Full => None,
@@ -80,8 +73,7 @@ pub fn find_finishing(ws: &[u64], us: &[u64], group: u64) -> Option<Ending>
     requires { (length ws.now ≡ 3490) × (length us.now ≡ 3490) }
     ensures { (vs ds : List ℕ) → RoomWf 16 ws.now vs → RoomWf 16 us.now ds → finished_of (lookup numbers group (waiting_of us.now ds)) (lookup numbers group (waiting_of ws.now vs)) ≡ finished_as result (tagged ws.now vs) (tagged us.now ds) }
 {
-    let place = find(us, CELLS, group);
-    match place {
+    match find(us, CELLS, group) {
         Place::At(j) => finishing_at(ws, us, group, j),
         Place::Free(_) => None,
         Place::Full => None,
@@ -93,14 +85,6 @@ pub fn has_items(ws: &[u64], tag: u64) -> bool
     requires { (length ws.now ≡ 3490) × (get_or ws.now 0 0 ≤ 128) }
     ensures { (vs : List ℕ) → RoomWf 16 ws.now vs → result ≡ has_items (items_with tag (tagged ws.now vs)) }
 {
-    let n = ws[0] as usize;
     let from = HEADS_AT + CELLS * room::TAGS_FROM;
-    let mut j = 0;
-    while j < n {
-        if ws[from + j] == tag {
-            return true;
-        }
-        j += 1;
-    }
-    false
+    ws[from..from + ws[0] as usize].contains(&tag)
 }

@@ -1,4 +1,6 @@
 // How many tombstones there are among the items of parts that finish.
+#![tactic(auto, unfolding(rules::specs::Items::is_tombstone, log_batch::specs::Lent::content_of, log_batch::specs::Lent::key_content, log_batch::specs::Lent::key_change, log_batch::specs::Lent::change_of))]
+
 ghost use Rattle.std.specs.Prelude.{List, ◌≡◌, ℕ, ◌+◌, ◌≤◌, ◌<◌, length, drop};
 ghost use Rattle.rules.specs.Items.{is_tombstone};
 ghost use Rattle.rules_by_group.specs.Stage.{tombs_in, finished_tombs};
@@ -9,9 +11,9 @@ ghost use Rattle.room.specs.Layout.{waiting_of, tagged, RoomWf};
 ghost use Rattle.parts.specs.Finals.{tombs_of, finished_in};
 
 use crate::endings::find_finishing;
-use crate::walks::next_cell;
+use crate::walks::{group_at, next_cell};
 use log_batch::item::{LogItemContent, OpType};
-use room::{CELLS, HEAD_WIDTH, HEADS_AT};
+use room::{CELLS, HEADS_AT};
 use stores::Store;
 use stores::read::item_at;
 
@@ -20,15 +22,9 @@ pub fn is_tombstone(content: LogItemContent) -> bool
     ensures { (es bs : List ℕ) → result ≡ is_tombstone (content_of content es bs) }
 {
     match content {
-        LogItemContent::EntryIndexes(list) => false,
-        LogItemContent::Command(command) => true,
-        LogItemContent::Kv(kv) => {
-            let op_type = kv.op_type;
-            match op_type {
-                OpType::Put => false,
-                OpType::Del => true,
-            }
-        }
+        LogItemContent::EntryIndexes(_) => false,
+        LogItemContent::Command(_) => true,
+        LogItemContent::Kv(kv) => matches!(kv.op_type, OpType::Del),
     }
 }
 
@@ -48,16 +44,15 @@ fn count_at(
     ensures tags_value { result + length (tombs_of (items_with tag (drop (j + 1) (store_tagged store (area items.now entries.now bytes.now) tags.now)))) ≡ count + length (tombs_of (items_with tag (drop j (store_tagged store (area items.now entries.now bytes.now) tags.now)))) }
     ensures upper_bound { result ≤ j + 1 }
 {
-    let its = tags[j];
-    if its != tag {
+    if tags[j] != tag {
         return count;
     }
     let item = item_at(store, items, entries, bytes, j);
-    let content = item.content;
-    if !is_tombstone(content) {
-        return count;
+    if is_tombstone(item.content) {
+        count + 1
+    } else {
+        count
     }
-    count + 1
 }
 
 // How many items of a store have the tag and are tombstones.
@@ -73,12 +68,9 @@ fn count_tag(
     ensures value { result ≡ length (tombs_of (items_with tag (store_tagged store (area items.now entries.now bytes.now) tags.now))) }
     ensures upper_bound { result ≤ 128 }
 {
-    let n = store.items;
     let mut count = 0;
-    let mut j = 0;
-    while j < n {
+    for j in 0..store.items {
         count = count_at(count, store, tag, tags, items, entries, bytes, j);
-        j += 1;
     }
     count
 }
@@ -106,14 +98,9 @@ fn count_group(ws: &[u64], vs: &[u8], us: &[u64], ds: &[u8], group: u64) -> usiz
     ensures value { result ≡ length (tombs_in (finished_in group ws.now vs.now us.now ds.now)) }
     ensures upper_bound { result ≤ 256 }
 {
-    let found = find_finishing(ws, us, group);
-    match found {
+    match find_finishing(ws, us, group) {
         None => 0,
-        Some(ending) => {
-            let older = count_part(ws, vs, ending.older);
-            let newer = count_part(us, ds, ending.newer);
-            older + newer
-        }
+        Some(ending) => count_part(ws, vs, ending.older) + count_part(us, ds, ending.newer),
     }
 }
 
@@ -126,16 +113,10 @@ pub fn count_finals(ws: &[u64], vs: &[u8], us: &[u64], ds: &[u8]) -> usize
 {
     let mut count = 0;
     let mut bound = None;
-    let mut i = 0;
-    while i < CELLS {
-        let k = next_cell(us, bound);
-        if CELLS <= k {
-            return count;
-        }
-        let group = us[HEADS_AT + k * HEAD_WIDTH + 1];
+    while let Some(k) = next_cell(us, bound) {
+        let group = group_at(us, k);
         count += count_group(ws, vs, us, ds, group);
         bound = Some(group);
-        i += 1;
     }
     count
 }

@@ -10,8 +10,8 @@ ghost use Rattle.parts.specs.Finals.{tombs_of, finished_in, Keeping};
 
 use crate::endings::find_finishing;
 use crate::finals::is_tombstone;
-use crate::walks::next_cell;
-use room::{CELLS, HEAD_WIDTH, HEADS_AT};
+use crate::walks::{group_at, next_cell};
+use room::{CELLS, HEADS_AT};
 use stores::Store;
 use stores::read::item_at;
 
@@ -32,16 +32,13 @@ fn keep_at(
     requires tags_bound { get_or ys.old 1 0 + length (tombs_of (items_with tag (drop j (store_tagged store (area items.now entries.now bytes.now) tags.now)))) ≤ 64 }
     ensures { Keeping (items_with tag (drop j (store_tagged store (area items.now entries.now bytes.now) tags.now))) (items_with tag (drop (j + 1) (store_tagged store (area items.now entries.now bytes.now) tags.now))) ys.old cs.old ys.new cs.new }
 {
-    let its = tags[j];
-    if its != tag {
+    if tags[j] != tag {
         return;
     }
     let item = item_at(store, items, entries, bytes, j);
-    let content = item.content;
-    if !is_tombstone(content) {
-        return;
+    if is_tombstone(item.content) {
+        lists::add_tombstone(ys, cs, item, entries, bytes);
     }
-    lists::add_tombstone(ys, cs, item, entries, bytes);
 }
 
 // Keeps the items of a store that have the tag and are tombstones.
@@ -60,11 +57,8 @@ fn keep_tag(
     requires tags_bound { get_or ys.old 1 0 + length (tombs_of (items_with tag (store_tagged store (area items.now entries.now bytes.now) tags.now))) ≤ 64 }
     ensures { TombstonesAdded (tombs_of (items_with tag (store_tagged store (area items.now entries.now bytes.now) tags.now))) ys.old cs.old ys.new cs.new }
 {
-    let n = store.items;
-    let mut j = 0;
-    while j < n {
+    for j in 0..store.items {
         keep_at(ys, cs, store, tag, tags, items, entries, bytes, j);
-        j += 1;
     }
 }
 
@@ -101,13 +95,9 @@ fn keep_group(
     requires ds_bound { get_or ys.old 1 0 + length (tombs_in (finished_in group ws.now vs.now us.now ds.now)) ≤ 64 }
     ensures { TombstonesAdded (tombs_in (finished_in group ws.now vs.now us.now ds.now)) ys.old cs.old ys.new cs.new }
 {
-    let found = find_finishing(ws, us, group);
-    match found {
-        None => {}
-        Some(ending) => {
-            keep_part(ys, cs, ws, vs, ending.older);
-            keep_part(ys, cs, us, ds, ending.newer);
-        }
+    if let Some(ending) = find_finishing(ws, us, group) {
+        keep_part(ys, cs, ws, vs, ending.older);
+        keep_part(ys, cs, us, ds, ending.newer);
     }
 }
 
@@ -120,15 +110,9 @@ pub fn keep_finals(ys: &mut [u64], cs: &mut [u8], ws: &[u64], vs: &[u8], us: &[u
     ensures { TombstonesAdded (finished_tombs (waiting_of us.now ds.now) (waiting_of ws.now vs.now)) ys.old cs.old ys.new cs.new }
 {
     let mut bound = None;
-    let mut i = 0;
-    while i < CELLS {
-        let k = next_cell(us, bound);
-        if CELLS <= k {
-            return;
-        }
-        let group = us[HEADS_AT + k * HEAD_WIDTH + 1];
+    while let Some(k) = next_cell(us, bound) {
+        let group = group_at(us, k);
         keep_group(ys, cs, ws, vs, us, ds, group);
         bound = Some(group);
-        i += 1;
     }
 }

@@ -7,16 +7,12 @@ use room::{CELLS, MAX_ENTRIES, MAX_GROUPS, MAX_ITEMS};
 use waiting::count_used;
 
 // Whether what waits in a room passes no limit.
+#[tactic(auto, using(crate::proofs::LimitWays::by_counts))]
 pub fn room_fits(ws: &[u64]) -> bool
     requires { length ws.now ≡ 3490 }
     ensures { (vs : List ℕ) → RoomWf 16 ws.now vs → result ≡ waiting_fits (waiting_of ws.now vs) }
 {
-    let used = count_used(ws, CELLS);
-    if MAX_GROUPS < used {
-        return false;
-    }
-    if MAX_ITEMS < ws[0] as usize {
-        return false;
-    }
-    ws[1] as usize <= MAX_ENTRIES
+    count_used(ws, CELLS) <= MAX_GROUPS
+        && ws[0] as usize <= MAX_ITEMS
+        && ws[1] as usize <= MAX_ENTRIES
 }

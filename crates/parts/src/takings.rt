@@ -5,9 +5,9 @@ ghost use Rattle.room.specs.Layout.{waiting_of, RoomWf, ContextRoom};
 ghost use Rattle.waiting.specs.Merges.{items_from, RoomFor};
 ghost use Rattle.parts.specs.Takings.{newer_part, TakenAs, newer_cell, RoomForAll, PartsTaken};
 
-use crate::walks::next_cell;
+use crate::walks::{group_at, next_cell};
 use pipe_log::Cause;
-use room::{CELLS, HEAD_WIDTH, HEADS_AT, NEWEST_AT, OLDER_AT};
+use room::{HEAD_WIDTH, HEADS_AT, NEWEST_AT, OLDER_AT};
 use waiting::accept_part;
 
 // Accepts the newer part of a group whose tag is number `at` of the newer room.
@@ -48,9 +48,8 @@ fn accept_cell(ws: &mut [u64], vs: &mut [u8], us: &[u64], ds: &[u8], k: usize) -
     ensures { PartsTaken (accept_parts_of (newer_cell k us.now ds.now) (waiting_of ws.old vs.old)) result ws.new vs.new }
 {
     let at = HEADS_AT + k * HEAD_WIDTH;
-    let count = us[at];
     let group = us[at + 1];
-    if count == 1 {
+    if us[at] == 1 {
         return accept_at(ws, vs, us, ds, group, at + NEWEST_AT);
     }
     accept_at(ws, vs, us, ds, group, at + OLDER_AT)?;
@@ -64,15 +63,9 @@ pub fn take_parts(ws: &mut [u64], vs: &mut [u8], us: &[u64], ds: &[u8]) -> Resul
     ensures { PartsTaken (waiting_after (waiting_of us.now ds.now) (waiting_of ws.old vs.old)) result ws.new vs.new }
 {
     let mut bound = None;
-    let mut i = 0;
-    while i < CELLS {
-        let k = next_cell(us, bound);
-        if CELLS <= k {
-            return Ok(());
-        }
+    while let Some(k) = next_cell(us, bound) {
         accept_cell(ws, vs, us, ds, k)?;
-        bound = Some(us[HEADS_AT + k * HEAD_WIDTH + 1]);
-        i += 1;
+        bound = Some(group_at(us, k));
     }
     Ok(())
 }

@@ -29,7 +29,7 @@ unfolding answer_as
 refused-is call a z n p h = sym h.answers
 
 -- a call of which the rules accept is answered so
-pub answers-accepted : (call : Context → Result Context) (a z : Area) (r : Result (Unit {0})) (d : Context) → CallOn call a r z → call (context_in a) ≡ Ok d → r ≡ (Ok tt)
+pub answers-accepted : (call : Context → Result Context) (a z : Area) (r : Result (Unit {0})) (d : Context) → CallOn call a r z → call (context_in a) ≡ Ok d → r ≡ Ok tt
 unfolding answer_as
 answers-accepted call a z (Ok _) d h e = refl
 answers-accepted call a z (Err r) d h e = absurd (refused_not_ok (h.answers ∙ e))

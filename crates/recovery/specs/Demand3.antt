@@ -17,7 +17,7 @@ pub record Demand3 (batches taken : List Batch) (a : Area) : Type 1 where
       → taken ≡ before ++ (so_far ++ (b ∷ after))
       → MadeBy (run so_far) c
       → CallOn (replay b) c r z
-      → r ≡ (Ok tt)
+      → r ≡ Ok tt
   -- 'and merge': of neighbouring stretches of the history, newer into older, each made by runs and merges of its own
   pub merge-accepted :
       (before after : List Batch) (older newer : Runs) (c d z : Area) (r : Result (Unit {0}))
@@ -25,7 +25,7 @@ pub record Demand3 (batches taken : List Batch) (a : Area) : Type 1 where
       → MadeBy older c
       → MadeBy newer d
       → CallOn (merge (context_in d)) c r z
-      → r ≡ (Ok tt)
+      → r ≡ Ok tt
   -- 'The last context': of runs that the whole history was cut into
   pub last : (runs : Runs) (z : Area) → batches_of runs ≡ taken → MadeBy runs z → Last batches (context_in z)
   -- it 'equals the one that took the whole list'

@@ -20,7 +20,8 @@ pub fn numbers_are(got: &[u64], want: &[u64], at: usize) -> bool
     stored.starts_with(got)
 }
 
-// The same of bytes, each as a number; one function of both would need a conversion of numbers to themselves.
+// The same of bytes, each as a number. One function of both would have to say in its contract what a conversion gives, and numbers need
+// none.
 pub fn bytes_are(got: &[u8], want: &[u64], at: usize) -> bool
     ensures { SameNumbers got.now (length got.now) want.now at result }
 {

@@ -4,11 +4,12 @@ ghost use Rattle.std.specs.Prelude.{◌≤◌, length};
 ghost use Rattle.contexts.specs.Contexts.{Wf};
 ghost use Rattle.scripts.specs.Agreement.{Stored};
 
-use crate::asks::{fetch_of, option_of};
+use crate::asks::fetch_of;
 use crate::compare::{ROWS, is_told, numbers_are, record_is};
 use crate::row::Row;
 use crate::told::told_count;
 use pipe_log::{Cause, CompressionType, ENTRY_WIDTH, EntryIndex};
+use records::Fetch;
 use stretch::MAX_ENTRIES;
 
 // The numbers of a list with a row for each entry of a group.
@@ -31,8 +32,7 @@ fn columns_are(told: [u64; 3], columns: &[[u64; MAX_ENTRIES]; ENTRY_WIDTH], want
     true
 }
 
-// Whether a fetch into slices, one for each number in the row of a record, is answered as stored: 50 fetch_entries_to,
-// 51 fetch_entry_indexes_before, otherwise fetch_rewritten_entry_indexes.
+// Whether a fetch into slices, one for each number in the row of a record, is answered as stored.
 fn in_slices(row: Row, xs: &[u64], bs: &[u8], want: &[u64]) -> bool
     requires { Wf xs.now bs.now }
 {
@@ -46,14 +46,18 @@ fn in_slices(row: Row, xs: &[u64], bs: &[u8], want: &[u64]) -> bool
         mut entry_offset,
         mut entry_len,
     ] = [[0; MAX_ENTRIES]; ENTRY_WIDTH];
-    let answer = match row.what {
-        50 => index::fetch_entries_to(
+    let answer = match fetch_of(row) {
+        Fetch::EntriesTo {
+            begin,
+            end,
+            max_size,
+        } => index::fetch_entries_to(
             xs,
             bs,
             row.group,
-            row.a,
-            row.b,
-            option_of(row.c, row.d),
+            begin,
+            end,
+            max_size,
             &mut index,
             &mut queue,
             &mut seq,
@@ -63,11 +67,11 @@ fn in_slices(row: Row, xs: &[u64], bs: &[u8], want: &[u64]) -> bool
             &mut entry_offset,
             &mut entry_len,
         ),
-        51 => index::fetch_entry_indexes_before(
+        Fetch::EntryIndexesBefore { gate } => index::fetch_entry_indexes_before(
             xs,
             bs,
             row.group,
-            row.a,
+            gate,
             &mut index,
             &mut queue,
             &mut seq,
@@ -77,7 +81,7 @@ fn in_slices(row: Row, xs: &[u64], bs: &[u8], want: &[u64]) -> bool
             &mut entry_offset,
             &mut entry_len,
         ),
-        _ => index::fetch_rewritten_entry_indexes(
+        Fetch::RewrittenEntryIndexes => index::fetch_rewritten_entry_indexes(
             xs,
             bs,
             row.group,
@@ -104,19 +108,19 @@ fn in_slices(row: Row, xs: &[u64], bs: &[u8], want: &[u64]) -> bool
     columns_are(told_count(answer), &columns, want)
 }
 
-// The fetch into a list of rows that a row of the script names: 50 fetch_rows_to, 51 fetch_rows_before, otherwise
-// fetch_rewritten_rows.
+// The fetch into a list of rows that a row of the script names.
 fn fetch_rows(row: Row, xs: &[u64], bs: &[u8], out: &mut [u64]) -> Result<usize, Cause>
     requires { Wf xs.now bs.now }
 {
     let group = row.group;
-    match row.what {
-        50 => {
-            let max_size = option_of(row.c, row.d);
-            index::fetch_rows_to(xs, bs, group, row.a, row.b, max_size, out)
-        }
-        51 => index::fetch_rows_before(xs, bs, group, row.a, out),
-        _ => index::fetch_rewritten_rows(xs, bs, group, out),
+    match fetch_of(row) {
+        Fetch::EntriesTo {
+            begin,
+            end,
+            max_size,
+        } => index::fetch_rows_to(xs, bs, group, begin, end, max_size, out),
+        Fetch::EntryIndexesBefore { gate } => index::fetch_rows_before(xs, bs, group, gate, out),
+        Fetch::RewrittenEntryIndexes => index::fetch_rewritten_rows(xs, bs, group, out),
     }
 }
 

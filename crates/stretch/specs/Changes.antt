@@ -80,7 +80,7 @@ pub record Changed (by : Table → Result Table) (p b : List ℕ) (r : ByCause (
 -- ---- what the tables' answers become: the answer, and the header with the head that they give
 
 abbrev pub laid_outcome : ByCause Head → ByCause (Unit {0})
-laid_outcome (Ok h) = (Ok tt)
+laid_outcome (Ok h) = Ok tt
 laid_outcome (Err e) = Err e
 
 abbrev pub laid_numbers : ByCause Head → List ℕ → List ℕ

@@ -5,7 +5,7 @@ use mathlib.Core.Path.{◌≡◌, refl, sym, ◌∙◌}
 use Prim.Native.Nat.{ℕ, ◌+◌, ◌*◌, ◌≤◌, ◌<◌}
 use native.Mathlib.Nat.{add-zero}
 use native.Mathlib.Omega.{arith}
-use lib.ListN.{length, get_or}
+use lib.ListN.{get_or}
 use Rattle.cells.specs.Part.{part}
 use Rattle.rules.specs.Items as rules
 use Rattle.rules.specs.Context.{Part}
@@ -17,7 +17,7 @@ use Rattle.room.specs.LayoutLaws.{cell-count}
 use Rattle.room.specs.HeadLaws.{heads-are, head_number}
 use Rattle.room.specs.Batches.{counts_for}
 use Rattle.room.specs.Changes.{Became}
-use Rattle.room.specs.Parts.{first_head, front_head, renewed_head, part_for, WroteIn}
+use Rattle.room.specs.Parts.{front_head, renewed_head, part_for, WroteIn}
 use Rattle.room.specs.PartLaws.{one-part, two-parts}
 use Rattle.waiting.specs.declared.Form as form
 use Rattle.waiting.specs.Accepts.{parts_at}
@@ -52,13 +52,6 @@ module _ (n : ℕ) (ws : List ℕ) (k : ℕ) (l : k < n) where
   joined-head-is status last joined start h e s r =
       r ∙ rw (e, s, number 3 (omega arith), number 4 (omega arith))
 
-pub form-length : (f : form.Form) (h : List ℕ) (k g st start last : ℕ) (old : List ℕ) → h ≡ form_head f k g st start last old → length h ≡ 10
-unfolding form_head first_head front_head renewed_head
-form-length form.TheVariants.First h k g st start last old e = rw e
-form-length form.TheVariants.Front h k g st start last old e = rw e
-form-length form.TheVariants.Replace h k g st start last old e = rw e
-form-length form.TheVariants.Join h k g st start last old e = rw e
-
 -- ---- the form in a room
 
 pub form-inside : (f : form.Form) (g n : ℕ) (hs : List ℕ) (k st start : ℕ) → FormAt f g n hs k st start → k < n
@@ -82,9 +75,6 @@ module _ (n : ℕ) (ws vs : List ℕ) (w : RoomWf n ws vs) (f : form.Form) (g k 
 
   pub form_in : FormAt f g (cell_count r.heads) r.heads k st start
   form_in = rw (cell-count n ws vs w.numbers-are w.bytes-are, heads-are n ws vs) a
-
-  pub freed-stored : (tag : ℕ) (t : Store) (q : Room) → Freed f s r tag t q → Stored t (area_in q)
-  freed-stored tag t q e = freed_wf f s r tag t q w.wf.stored e
 
   module _ (its : List rules.LogItem) (last : ℕ) (tag : ℕ) (x : tag ≡ form_tag f k (head_at k (part 2 (n * 10) ws))) (t : Store) (q : Room) (e : Freed f s r tag t q) where
     abbrev new : Part

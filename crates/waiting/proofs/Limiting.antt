@@ -3,7 +3,7 @@ use mathlib.Core.Bool.{cond}
 use mathlib.Core.List.{List}
 use mathlib.Core.Path.{◌≡◌, refl, ◌∙◌}
 use Prim.Native.Nat.{ℕ, suc, ◌+◌, ◌-◌, ◌*◌, ◌≤◌, ◌<◌}
-use native.Mathlib.Nat.{add-zero, zero-add}
+use native.Mathlib.Nat.{add-zero}
 use native.Mathlib.Numerals.{add-one}
 use native.Mathlib.Omega.{arith}
 use lib.Dec.{eqb}
@@ -40,9 +40,6 @@ pub record Using (n : ℕ) (hs : List ℕ) (used k : ℕ) : Type 0 where
   pub few : used ≤ k
   pub most : k ≤ n
 
-pub using-none : (n : ℕ) (hs : List ℕ) → Using n hs 0 0
-using-none n hs = let e : n - 0 ≡ n = omega arith in record { rest = rw e (zero-add (used_from n 0 hs)); few = omega arith; most = omega arith }
-
 from_here : (m k : ℕ) (hs : List ℕ) → used_from (suc m) k hs ≡ used_at k hs + used_from m (suc k) hs
 unfolding used_from
 from_here m k hs = refl
@@ -58,15 +55,6 @@ using-more n hs used k c l e b u =
     let h = from_here (n - (k + 1)) k hs in
     let few = u.few in
     record { rest = rw (add-one k) (omega (arith, rw (add-one k) at h, rw (add-one k) at f)); few = omega arith; most = omega arith }
-
-pub using_all : (n : ℕ) (hs : List ℕ) (used k : ℕ) → n ≤ k → Using n hs used k → (used ≡ used_from n 0 hs) × (used ≤ n)
-using_all n hs used k l u =
-    let m : n - k ≡ 0 = omega arith in
-    let f = rw m at u.rest in
-    let z = from_end k hs in
-    let few = u.few in
-    let most = u.most in
-    (omega arith, omega arith)
 
 -- ---- the items of a tag
 

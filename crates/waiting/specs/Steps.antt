@@ -1,5 +1,5 @@
 -- Where the parts of a group wait, and what becomes of a part that comes to them.
-use Rattle.std.specs.Prelude.{Bool, true, false, cond, ◌&&◌, not, List, ◌∷◌, ◌++◌, ◌≡◌, ℕ, ◌≤◌, ◌<◌, eqb, ltb, leb, get_or}
+use Rattle.std.specs.Prelude.{Option, Some, None, Bool, true, false, cond, ◌&&◌, not, List, ◌∷◌, ◌++◌, ◌≡◌, ℕ, ◌<◌, eqb, ltb, leb, get_or}
 use Rattle.rules.specs.Items.{Status, begin, middle, end}
 use Rattle.rules.specs.Context.{Part}
 use Rattle.rules.specs.Waiting.{Accepted, wait, finish, back}
@@ -15,11 +15,15 @@ is_of g h = not (eqb (count_in h) 0) && eqb (group_in h) g
 unfoldable pub is_free_cell : List ℕ → Bool
 is_free_cell h = eqb (count_in h) 0
 
--- k is the first of n cells that meets p, or n
-pub record FirstOf (p : List ℕ → Bool) (n : ℕ) (hs : List ℕ) (k : ℕ) : Type 0 where
-  pub most : k ≤ n
-  pub here : k < n → p (head_at k hs) ≡ true
+-- the first of n cells that meets p, if one does
+pub record FirstAt (p : List ℕ → Bool) (n : ℕ) (hs : List ℕ) (k : ℕ) : Type 0 where
+  pub inside : k < n
+  pub here : p (head_at k hs) ≡ true
   pub before : (j : ℕ) → j < k → p (head_at j hs) ≡ false
+
+abbrev pub FirstOf : (List ℕ → Bool) → ℕ → List ℕ → Option ℕ → Type 0
+FirstOf p n hs (Some k) = FirstAt p n hs k
+FirstOf p n hs None = (j : ℕ) → j < n → p (head_at j hs) ≡ false
 
 pub record AtCell (g n : ℕ) (hs : List ℕ) (k : ℕ) : Type 0 where
   pub inside : k < n

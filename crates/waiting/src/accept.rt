@@ -65,54 +65,15 @@ fn accept_at(
     requires bytes_value { checks replay_rewrite (items_of items.now entries.now bytes.now) ≡ None }
     ensures { AcceptedAs group (part_for status seq (unmarked (items_of items.now entries.now bytes.now))) ws.old vs.old result ws.new vs.new }
 {
-    let step = step_at(ws, CELLS, k, status, seq);
-    match step {
-        Step::Replace => {
-            accept_form(
-                ws,
-                vs,
-                k,
-                Form::Replace,
-                group,
-                status,
-                seq,
-                items,
-                entries,
-                bytes,
-            )
-        }
-        Step::Front => {
-            accept_form(
-                ws,
-                vs,
-                k,
-                Form::Front,
-                group,
-                status,
-                seq,
-                items,
-                entries,
-                bytes,
-            )
-        }
-        Step::Join => {
-            accept_form(
-                ws,
-                vs,
-                k,
-                Form::Join,
-                group,
-                status,
-                seq,
-                items,
-                entries,
-                bytes,
-            )
-        }
-        Step::Drop => Ok(None),
-        Step::Finish => Ok(Some(k)),
-        Step::Back => Err(Cause::FilesGoBack),
-    }
+    let form = match step_at(ws, CELLS, k, status, seq) {
+        Step::Replace => Form::Replace,
+        Step::Front => Form::Front,
+        Step::Join => Form::Join,
+        Step::Drop => return Ok(None),
+        Step::Finish => return Ok(Some(k)),
+        Step::Back => return Err(Cause::FilesGoBack),
+    };
+    accept_form(ws, vs, k, form, group, status, seq, items, entries, bytes)
 }
 
 // The part of a batch from file `seq` comes to the room of a context. Within the limits a cell is free for a first part.
@@ -130,24 +91,13 @@ pub fn accept_batch(
     requires bytes_value { checks replay_rewrite (items_of items.now entries.now bytes.now) ≡ None }
     ensures { AcceptedAs group (part_for status seq (unmarked (items_of items.now entries.now bytes.now))) ws.old vs.old result ws.new vs.new }
 {
-    let place = find(ws, CELLS, group);
-    match place {
+    match find(ws, CELLS, group) {
         Place::At(k) => accept_at(ws, vs, k, group, status, seq, items, entries, bytes),
         Place::Free(k) => {
-            accept_form(
-                ws,
-                vs,
-                k,
-                Form::First,
-                group,
-                status,
-                seq,
-                items,
-                entries,
-                bytes,
-            )
+            let form = Form::First;
+            accept_form(ws, vs, k, form, group, status, seq, items, entries, bytes)
         }
-        Place::Full => Err(Cause::LimitPassed),
+        Place::Full => unreachable!(),
     }
 }
 

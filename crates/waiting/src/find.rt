@@ -1,4 +1,6 @@
 // Where the parts of a group wait, and what becomes of a part that comes to them.
+#![tactic(auto, unfolding(crate::specs::Steps::is_of, crate::specs::Steps::is_free_cell, crate::specs::Steps::step_by, crate::specs::Steps::step_of, crate::specs::Steps::Found))]
+
 ghost use Rattle.std.specs.Prelude.{◌≡◌, ◌+◌, ◌*◌, ◌<◌, length};
 ghost use Rattle.cells.specs.Part.{part};
 ghost use Rattle.room.specs.Rooms.{head_at};
@@ -13,26 +15,15 @@ fn is_of(ws: &[u64], cells: usize, group: u64, k: usize) -> bool
     ensures { result ≡ is_of group (head_at k (part 2 (cells * 10) ws.now)) }
 {
     let at = HEADS_AT + k * HEAD_WIDTH;
-    let count = ws[at];
-    if count == 0 {
-        return false;
-    }
-    ws[at + 1] == group
+    ws[at] != 0 && ws[at + 1] == group
 }
 
-// The cell of a group, or the number of cells.
-fn cell_of(ws: &[u64], cells: usize, group: u64) -> usize
+// The cell of a group.
+fn cell_of(ws: &[u64], cells: usize, group: u64) -> Option<usize>
     requires { length ws.now ≡ 2 + cells * 218 }
     ensures { FirstOf (is_of group) cells (part 2 (cells * 10) ws.now) result }
 {
-    let mut k = 0;
-    while k < cells {
-        if is_of(ws, cells, group, k) {
-            return k;
-        }
-        k += 1;
-    }
-    k
+    (0..cells).find(|k| is_of(ws, cells, group, *k))
 }
 
 // Whether cell `k` is free.
@@ -43,19 +34,12 @@ fn is_free(ws: &[u64], cells: usize, k: usize) -> bool
     ws[HEADS_AT + k * HEAD_WIDTH] == 0
 }
 
-// The first free cell, or the number of cells.
-fn free_cell(ws: &[u64], cells: usize) -> usize
+// The first free cell.
+fn free_cell(ws: &[u64], cells: usize) -> Option<usize>
     requires { length ws.now ≡ 2 + cells * 218 }
     ensures { FirstOf is_free_cell cells (part 2 (cells * 10) ws.now) result }
 {
-    let mut k = 0;
-    while k < cells {
-        if is_free(ws, cells, k) {
-            return k;
-        }
-        k += 1;
-    }
-    k
+    (0..cells).find(|k| is_free(ws, cells, *k))
 }
 
 // Where a group waits.
@@ -63,15 +47,13 @@ pub fn find(ws: &[u64], cells: usize, group: u64) -> Place
     requires { length ws.now ≡ 2 + cells * 218 }
     ensures { Found group cells (part 2 (cells * 10) ws.now) result }
 {
-    let k = cell_of(ws, cells, group);
-    if k < cells {
+    if let Some(k) = cell_of(ws, cells, group) {
         return Place::At(k);
     }
-    let free = free_cell(ws, cells);
-    if free < cells {
-        return Place::Free(free);
+    match free_cell(ws, cells) {
+        Some(k) => Place::Free(k),
+        None => Place::Full,
     }
-    Place::Full
 }
 
 // What becomes of a part with a status and a first file, by the status and the last file of the newest part.
@@ -80,23 +62,19 @@ fn step_of(status: u64, start: u64, old: u64, end: u64) -> Step
 {
     if status == BEGIN {
         if old < END {
-            return Step::Replace;
+            Step::Replace
+        } else {
+            Step::Front
         }
-        return Step::Front;
+    } else if old >= END {
+        Step::Drop
+    } else if start < end {
+        Step::Back
+    } else if status == MIDDLE || old == MIDDLE {
+        Step::Join
+    } else {
+        Step::Finish
     }
-    if END <= old {
-        return Step::Drop;
-    }
-    if start < end {
-        return Step::Back;
-    }
-    if status == MIDDLE {
-        return Step::Join;
-    }
-    if old == MIDDLE {
-        return Step::Join;
-    }
-    Step::Finish
 }
 
 // The same for the newest part of cell `k`.

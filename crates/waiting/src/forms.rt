@@ -1,4 +1,6 @@
 // How a part that waits is put into a cell: the tag and the head that it gets, and the items that leave for it.
+#![tactic(auto, unfolding(crate::specs::Forms::form_tag, crate::specs::Forms::joined_number, crate::specs::Forms::form_head))]
+
 ghost use Rattle.std.specs.Prelude.{List, ◌≡◌, ℕ, ◌+◌, ◌*◌, ◌≤◌, ◌<◌, length, get_or, None, Some};
 ghost use Rattle.cells.specs.Part.{part};
 ghost use Rattle.rules.specs.Items.{replay_rewrite};
@@ -28,8 +30,7 @@ pub fn form_tag(ws: &[u64], cells: usize, k: usize, form: Form) -> u64
     match form {
         Form::First => k as u64 * 2,
         Form::Front => k as u64 * 4 + 1 - tag,
-        Form::Replace => tag,
-        Form::Join => tag,
+        Form::Replace | Form::Join => tag,
     }
 }
 
@@ -93,10 +94,7 @@ fn renewed_head(
 fn joined_number(old: u64, status: u64) -> u64
     ensures { result ≡ joined_number old status }
 {
-    if status == MIDDLE {
-        return old;
-    }
-    status
+    if status == MIDDLE { old } else { status }
 }
 
 // The head of cell `k` with a part joined to its newest one, whose start stays.
@@ -140,10 +138,8 @@ pub fn free_items(ws: &mut [u64], vs: &mut [u8], cells: usize, form: Form, tag: 
 {
     let store = counts_in(ws);
     match form {
-        Form::First => store,
-        Form::Front => store,
         Form::Replace => take_out(ws, vs, cells, store, tag),
-        Form::Join => store,
+        Form::First | Form::Front | Form::Join => store,
     }
 }
 

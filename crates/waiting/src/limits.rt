@@ -1,4 +1,6 @@
 // The limits of what waits, judged from counts before anything is written.
+#![tactic(auto, unfolding(crate::specs::Forms::form_groups, crate::specs::Forms::used_from))]
+
 ghost use Rattle.std.specs.Prelude.{cond, ◌&&◌, ◌≡◌, ◌+◌, ◌*◌, ◌≤◌, ◌<◌, eqb, leb, length};
 ghost use Rattle.cells.specs.Part.{part};
 ghost use Rattle.stores.specs.Stores.{entries_before};
@@ -21,11 +23,11 @@ fn used_at(ws: &[u64], cells: usize, k: usize) -> usize
     ensures value { result ≡ cond (eqb (count_in (head_at k (part 2 (cells * 10) ws.now))) 0) 0 1 }
     ensures upper_bound { result ≤ 1 }
 {
-    let count = ws[HEADS_AT + k * HEAD_WIDTH];
-    if count == 0 {
-        return 0;
+    if ws[HEADS_AT + k * HEAD_WIDTH] == 0 {
+        0
+    } else {
+        1
     }
-    1
 }
 
 // How many cells are in use.
@@ -35,10 +37,8 @@ pub fn count_used(ws: &[u64], cells: usize) -> usize
     ensures upper_bound { result ≤ cells }
 {
     let mut used = 0;
-    let mut k = 0;
-    while k < cells {
+    for k in 0..cells {
         used += used_at(ws, cells, k);
-        k += 1;
     }
     used
 }
@@ -51,9 +51,7 @@ pub fn groups_with(ws: &[u64], cells: usize, form: Form) -> usize
     let used = count_used(ws, cells);
     match form {
         Form::First => used + 1,
-        Form::Front => used,
-        Form::Replace => used,
-        Form::Join => used,
+        Form::Front | Form::Replace | Form::Join => used,
     }
 }
 
@@ -93,10 +91,8 @@ pub fn counts_left(ws: &[u64], cells: usize, k: usize, form: Form) -> Store
 {
     let store = counts_in(ws);
     match form {
-        Form::First => store,
-        Form::Front => store,
         Form::Replace => counts_without(ws, cells, k, store),
-        Form::Join => store,
+        Form::First | Form::Front | Form::Join => store,
     }
 }
 
@@ -105,11 +101,7 @@ pub fn within_limits(groups: usize, left: Store, more: Store) -> bool
     requires { (left.items ≤ 64) × (left.entries ≤ 128) × (more.items ≤ 32) × (more.entries ≤ 1024) }
     ensures { result ≡ (leb groups 8 && leb (left.items + more.items) 64 && leb (left.entries + more.entries) 128) }
 {
-    if MAX_GROUPS < groups {
-        return false;
-    }
-    if MAX_ITEMS < left.items + more.items {
-        return false;
-    }
-    left.entries + more.entries <= MAX_ENTRIES
+    groups <= MAX_GROUPS
+        && left.items + more.items <= MAX_ITEMS
+        && left.entries + more.entries <= MAX_ENTRIES
 }

@@ -55,60 +55,18 @@ fn join_at(
     requires room_for { RoomFor group (items_from us.now ds.now its) ws.old vs.old }
     ensures { MergedAs group (part_with status (items_from us.now ds.now its) start end) ws.old vs.old result ws.new vs.new }
 {
-    let step = step_at(ws, CELLS, k, status, start);
-    match step {
-        Step::Replace => {
-            join_form(
-                ws,
-                vs,
-                k,
-                Form::Replace,
-                group,
-                status,
-                start,
-                end,
-                us,
-                ds,
-                its,
-            )
-        }
-        Step::Front => {
-            join_form(
-                ws,
-                vs,
-                k,
-                Form::Front,
-                group,
-                status,
-                start,
-                end,
-                us,
-                ds,
-                its,
-            )
-        }
-        Step::Join => {
-            join_form(
-                ws,
-                vs,
-                k,
-                Form::Join,
-                group,
-                status,
-                start,
-                end,
-                us,
-                ds,
-                its,
-            )
-        }
-        Step::Drop => Ok(None),
+    let form = match step_at(ws, CELLS, k, status, start) {
+        Step::Replace => Form::Replace,
+        Step::Front => Form::Front,
+        Step::Join => Form::Join,
+        Step::Drop => return Ok(None),
         Step::Finish => {
             take_part(ws, vs, CELLS, k);
-            Ok(Some(k))
+            return Ok(Some(k));
         }
-        Step::Back => Err(Cause::FilesGoBack),
-    }
+        Step::Back => return Err(Cause::FilesGoBack),
+    };
+    join_form(ws, vs, k, form, group, status, start, end, us, ds, its)
 }
 
 // A part with the items that have the tag `its` in another room comes to the room of a context, where there are rows for it, and a cell
@@ -129,24 +87,12 @@ pub fn accept_part(
     requires room_for { RoomFor group (items_from us.now ds.now its) ws.old vs.old }
     ensures { MergedAs group (part_with status (items_from us.now ds.now its) start end) ws.old vs.old result ws.new vs.new }
 {
-    let place = find(ws, CELLS, group);
-    match place {
+    match find(ws, CELLS, group) {
         Place::At(k) => join_at(ws, vs, k, group, status, start, end, us, ds, its),
         Place::Free(k) => {
-            join_form(
-                ws,
-                vs,
-                k,
-                Form::First,
-                group,
-                status,
-                start,
-                end,
-                us,
-                ds,
-                its,
-            )
+            let form = Form::First;
+            join_form(ws, vs, k, form, group, status, start, end, us, ds, its)
         }
-        Place::Full => Err(Cause::LimitPassed),
+        Place::Full => unreachable!(),
     }
 }

@@ -55,12 +55,11 @@ fn push_one(
     requires has_room { HasRoom context_cells store its (tagged us.now ds.now) j }
     ensures { (z : Tagged) → PushedAll store (room_of context_cells ws.old vs.old) tag (items_with its (get_or (tagged us.now ds.now) j z ∷ [])) result (room_of context_cells ws.new vs.new) }
 {
-    let old = tag_at(us, j);
-    if old == its {
-        let item = item_in(us, ds, CELLS, j);
-        return add_from(ws, vs, store, tag, item, us, ds);
+    if tag_at(us, j) != its {
+        return store;
     }
-    store
+    let item = item_in(us, ds, CELLS, j);
+    add_from(ws, vs, store, tag, item, us, ds)
 }
 
 // Adds the items of another room that have the tag `its`, for which there is room, with a tag.
@@ -79,12 +78,9 @@ pub fn push_part(
     requires its_bound { (store.items + (counts_for (items_from us.now ds.now its)).items ≤ context_cells * 8) × (store.entries + (counts_for (items_from us.now ds.now its)).entries ≤ context_cells * 16) }
     ensures { PushedAll store (room_of context_cells ws.old vs.old) tag (items_from us.now ds.now its) result (room_of context_cells ws.new vs.new) }
 {
-    let n = us[0] as usize;
     let mut all = store;
-    let mut j = 0;
-    while j < n {
+    for j in 0..us[0] as usize {
         all = push_one(ws, vs, all, tag, us, ds, its, j);
-        j += 1;
     }
     all
 }

@@ -40,14 +40,14 @@ pub record TurnedFrom (tag j : ℕ) (xs bs : List ℕ) (r : ByCause (Unit {0})) 
   pub rule : (p : Option ℕ) → run_stored tag j xs bs p (context_of xs bs) ≡ and_then (outcome_at p r (context_of xs' bs')) (run_stored tag (suc j) xs bs p)
   pub passed : every is_passed (stored_from tag (suc j) xs bs) ≡ true
   pub back : BackKept xs bs xs' bs'
-  pub own : r ≡ (Ok tt) → Keeping replay_rewrite (context_of xs' bs')
+  pub own : r ≡ Ok tt → Keeping replay_rewrite (context_of xs' bs')
   pub formed : Formed xs' bs'
 
 -- items in order, after which a batch can go back
 pub record Ran (to : Context → Result Context) (xs bs : List ℕ) (r : Result (Unit {0})) (xs' bs' : List ℕ) : Type 0 where
   pub answers : answer_as r (context_of xs' bs') ≡ to (context_of xs bs)
   pub back : BackKept xs bs xs' bs'
-  pub own : r ≡ (Ok tt) → Keeping replay_rewrite (context_of xs' bs')
+  pub own : r ≡ Ok tt → Keeping replay_rewrite (context_of xs' bs')
   pub formed : Formed xs' bs'
 
 -- whether a list has an element
@@ -65,7 +65,7 @@ pub record Ended (to : Context → Result Context) (xs bs : List ℕ) (r : Resul
 -- a call on an area that leaves the room of the waiting parts, if it is accepted
 pub record AnsweredKept (to : Context → Result Context) (xs bs : List ℕ) (r : Result (Unit {0})) (xs' bs' : List ℕ) : Type 0 where
   pub answered : Answered to xs bs r xs' bs'
-  pub room : r ≡ (Ok tt) → RoomKept xs bs xs' bs'
+  pub room : r ≡ Ok tt → RoomKept xs bs xs' bs'
 
 -- the span of group g, which is there, is set; bs are the area's bytes
 pub record SpannedGroup (g : ℕ) (s : Span) (xs bs : List ℕ) (r : ByCause (Unit {0})) (xs' : List ℕ) : Type 0 where

@@ -127,7 +127,7 @@ module _ (g at : ℕ) (s : Span) (xs bs : List ℕ) (w : Formed xs bs) (ys ds : 
   changed-formed b v =
       record { groups = v; rest = rest_wf xs bs ys ds b w.rest; waiting = room_wf xs bs ys ds (room-stays xs bs ys ds b) w.waiting }
 
-  pub ended-full : (n : Cause) → Acted (on_group making g) false xs bs (Err n) ys ds → Ended (set_span limited (Some at) g s) xs bs (Err (record { cause = n; place = (Some at) })) ys ds
+  pub ended-full : (n : Cause) → Acted (on_group making g) false xs bs (Err n) ys ds → Ended (set_span limited (Some at) g s) xs bs (Err (record { cause = n; place = Some at })) ys ds
   unfolding context_of with_groups answer_as
   ended-full n a =
       record {

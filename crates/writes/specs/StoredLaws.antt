@@ -128,7 +128,7 @@ module _ (tag j : ℕ) (xs bs : List ℕ) (w : Formed xs bs) (h : j < waiting_co
       unfolding run_stored run in_order placed_at
       turned-rule r ys fs s q = rw (item-is, s.rule q)
 
-      turned-own : (r : ByCause (Unit {0})) (ys fs : List ℕ) → Keeping replay_rewrite (context_of xs bs) → Stepped replay_rewrite (item_of it es ds) false xs bs r ys fs → r ≡ (Ok tt) → Keeping replay_rewrite (context_of ys fs)
+      turned-own : (r : ByCause (Unit {0})) (ys fs : List ℕ) → Keeping replay_rewrite (context_of xs bs) → Stepped replay_rewrite (item_of it es ds) false xs bs r ys fs → r ≡ Ok tt → Keeping replay_rewrite (context_of ys fs)
       turned-own r ys fs k s d =
           let f = rw d at s in
           keeping_step replay_rewrite (record { item = item_of it es ds; place = None }) (context_of xs bs) (context_of ys fs) (λ y. passed-clear (item_of it es ds) item-passed) k (sym (f.rule None))
@@ -182,7 +182,7 @@ module _ (tag : ℕ) (xs bs : List ℕ) where
       turned : (p : Option ℕ) → and_then (outcome_at p r (context_of zs es)) (run_stored tag (suc j) ys ds p) ≡ run_stored tag 0 xs bs p (context_of xs bs)
       turned p = sym (t.rule p) ∙ run_same j p (context_of ys ds) ∙ s.rest p
 
-      pub stored_more : r ≡ (Ok tt) → StoredUnder tag xs bs (j + 1) zs es
+      pub stored_more : r ≡ Ok tt → StoredUnder tag xs bs (j + 1) zs es
       stored_more d =
           record {
             rest = λ p. rw (add-one j) (sym (run_same (suc j) p (context_of zs es)) ∙ go p);
@@ -195,7 +195,7 @@ module _ (tag : ℕ) (xs bs : List ℕ) where
           go : (p : Option ℕ) → run_stored tag (suc j) ys ds p (context_of zs es) ≡ run_stored tag 0 xs bs p (context_of xs bs)
           go p = unfold and_then in (rw d at (turned p))
 
-      pub stored_refused : (n : Cause) (at : ℕ) → r ≡ Err n → Ran (run_stored tag 0 xs bs (Some at)) xs bs (Err (record { cause = n; place = (Some at) })) zs es
+      pub stored_refused : (n : Cause) (at : ℕ) → r ≡ Err n → Ran (run_stored tag 0 xs bs (Some at)) xs bs (Err (record { cause = n; place = Some at })) zs es
       stored_refused n at e =
           record {
             answers = unfold answer_as and_then in (rw e at (turned (Some at)));
@@ -204,7 +204,7 @@ module _ (tag : ℕ) (xs bs : List ℕ) where
             formed = t.formed;
           }
         where
-          accepted-not : ◌≡◌ {A = Result (Unit {0})} (Err (record { cause = n; place = (Some at) })) (Ok tt) → ⊥
+          accepted-not : ◌≡◌ {A = Result (Unit {0})} (Err (record { cause = n; place = Some at })) (Ok tt) → ⊥
           accepted-not a = let z : ◌≡◌ {A = ℕ} 0 1 = cc in omega arith
 
     stored-ended : (p : Option ℕ) → waiting_count xs ≤ j → Formed xs bs → run_stored tag j xs bs p (context_of ys ds) ≡ Ok (context_of ys ds)
@@ -259,7 +259,7 @@ module _ (items es bs : List ℕ) (n : ℕ) (q : n ≡ row_count_of items) (ys d
           formed = s.formed;
         }
 
-    pub own-refused : i < n → (k : Cause) (zs gs : List ℕ) → Stepped replay_rewrite here false xs fs (Err k) zs gs → Ran runs ys ds (Err (record { cause = k; place = (Some i) })) zs gs
+    pub own-refused : i < n → (k : Cause) (zs gs : List ℕ) → Stepped replay_rewrite here false xs fs (Err k) zs gs → Ran runs ys ds (Err (record { cause = k; place = Some i })) zs gs
     own-refused l k zs gs s =
         record {
           answers = unfold answer_as in (sym (run-refused replay_rewrite items es bs n i (context_of xs fs) _ l (sym (s.rule (Some i)))) ∙ u.rest ∙ run-start replay_rewrite items es bs n (context_of ys ds) q);
@@ -268,7 +268,7 @@ module _ (items es bs : List ℕ) (n : ℕ) (q : n ≡ row_count_of items) (ys d
           formed = s.formed;
         }
       where
-        accepted-not : ◌≡◌ {A = Result (Unit {0})} (Err (record { cause = k; place = (Some i) })) (Ok tt) → ⊥
+        accepted-not : ◌≡◌ {A = Result (Unit {0})} (Err (record { cause = k; place = Some i })) (Ok tt) → ⊥
         accepted-not a = let z : ◌≡◌ {A = ℕ} 0 1 = cc in omega arith
 
     pub own_all : n ≤ i → Ran runs ys ds (Ok tt) xs fs

@@ -99,16 +99,13 @@ fn run_stored_in(
     ensures { Ran (run_stored tag 0 xs.old bs.old (Some at)) xs.old bs.old result xs.new bs.new }
 {
     let n = stored_count(xs);
-    let mut j = 0;
-    while j < n {
-        let answer = stored_turn(xs, bs, tag, j, rows, text);
-        if let Err(cause) = answer {
+    for j in 0..n {
+        if let Err(cause) = stored_turn(xs, bs, tag, j, rows, text) {
             return Err(Refusal {
                 cause,
                 place: Some(at),
             });
         }
-        j += 1;
     }
     Ok(())
 }
@@ -132,12 +129,10 @@ pub fn holds_any(xs: &[u64], tag: u64) -> bool
     ensures { (bs : List ℕ) → Formed xs.now bs → HasAny result (stored_from tag 0 xs.now bs) }
 {
     let n = stored_count(xs);
-    let mut j = 0;
-    while j < n {
+    for j in 0..n {
         if stored_tag(xs, j) == tag {
             return true;
         }
-        j += 1;
     }
     false
 }
@@ -157,16 +152,13 @@ pub fn run_own(
     ensures { Ran (run limited replay_rewrite (placed_from 0 (items_of items.now entries.now bytes.now))) xs.old bs.old result xs.new bs.new }
 {
     let n = row_count(items);
-    let mut i = 0;
-    while i < n {
-        let answer = turn(xs, bs, Call::ReplayRewrite, items, entries, bytes, i, false);
-        if let Err(cause) = answer {
+    for i in 0..n {
+        if let Err(cause) = turn(xs, bs, Call::ReplayRewrite, items, entries, bytes, i, false) {
             return Err(Refusal {
                 cause,
                 place: Some(i),
             });
         }
-        i += 1;
     }
     Ok(())
 }

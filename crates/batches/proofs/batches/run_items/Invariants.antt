@@ -6,6 +6,3 @@ use Rattle.batches.proofs.batches.run_items.Given as goal
 
 abbrev pub invariant-loop-i : goal.invariant-loop-i
 invariant-loop-i l = Under (call_of l.call) l.items l.entries l.bytes l.n l.counts.tombstones l.counts.cleaned l.initial.xs l.initial.bs l.i l.xs l.bs
-
-abbrev pub decreases-loop-i : goal.decreases-loop-i
-decreases-loop-i l = l.n - l.i

@@ -1,27 +1,35 @@
 -- `columns::copies::copy_rows` meets its contract. Assumes nothing.
+use mathlib.Core.Path.{◌≡◌}
 use native.Mathlib.Omega.{arith}
 use Rattle.memtable.specs.Fetches.{entries_at}
 use Rattle.memtable.specs.RowLaws.{held-row, any-drop}
-use Rattle.columns.proofs.ColumnWays.{index-fits, left-asked, right-asked, rows_short, rows-done}
+use Rattle.columns.proofs.ColumnWays.{index-none, cell-none, index-more, cell-more, rows_short, rows-done}
 use Rattle.columns.proofs.copies.copy_rows.Goals as goal
 
 pub returns-then-index-count : goal.returns-then-index-count
 unfolding entries_at
 returns-then-index-count c = rows_short _ _ _ _ c.if-index-count.true
 
-pub overflow_add-first : goal.overflow_add-first
-overflow_add-first c = index-fits c.args.head c.args.part.now c.requires.wf c.args.from c.args.count c.requires.count_bound
+pub loop-i-init : goal.loop-i-init
+loop-i-init c = record { index = index-none _ _; queue = cell-none _ _ _; seq = cell-none _ _ _; offset = cell-none _ _ _; len = cell-none _ _ _; compression = cell-none _ _ _; entry_offset = cell-none _ _ _; entry_len = cell-none _ _ _ }
 
-pub copy_left-requires : goal.copy_left-requires
-copy_left-requires c = left-asked c.args.head c.args.part.now c.requires.wf c.args.from c.args.count c.requires.count_bound _ c.requires.same_length c.if-index-count.false
-
-pub copy_right-requires : goal.copy_right-requires
-copy_right-requires c = right-asked c.args.head c.args.part.now c.requires.wf c.args.from c.args.count c.requires.count_bound _ c.requires.same_length c.if-index-count.false
+pub loop-i-preserved : goal.loop-i-preserved
+loop-i-preserved c =
+    let v = c.loop-i.invariant in
+    record {
+      index = index-more _ _ c.loop-i.i (omega arith) _ v.index;
+      queue = cell-more _ _ c.loop-i.i (omega arith) c.args.part.now c.args.from 1 v.queue;
+      seq = cell-more _ _ c.loop-i.i (omega arith) c.args.part.now c.args.from 2 v.seq;
+      offset = cell-more _ _ c.loop-i.i (omega arith) c.args.part.now c.args.from 3 v.offset;
+      len = cell-more _ _ c.loop-i.i (omega arith) c.args.part.now c.args.from 4 v.len;
+      compression = cell-more _ _ c.loop-i.i (omega arith) c.args.part.now c.args.from 5 v.compression;
+      entry_offset = cell-more _ _ c.loop-i.i (omega arith) c.args.part.now c.args.from 6 v.entry_offset;
+      entry_len = cell-more _ _ c.loop-i.i (omega arith) c.args.part.now c.args.from 7 v.entry_len;
+    }
 
 pub returns : goal.returns
 unfolding entries_at
 returns c =
-    let left = c.copy_left.ensures in
-    let right = c.copy_right.ensures in
-    let n = c.requires.count_bound in
-    rows-done _ _ _ _ c.if-index-count.false (λ i b. any-drop _ c.args.from i (held-row _ _ c.requires.wf _ (omega arith))) _ left.0 left.1 left.2 left.3 right.0 right.1 right.2 right.3
+    let e : c.loop-i.i ≡ c.args.count = omega arith in
+    let v = c.loop-i.invariant in
+    rows-done _ _ _ _ c.if-index-count.false (λ i b. any-drop _ c.args.from i (held-row _ _ c.requires.wf _ (omega arith))) _ (rw e at v.index) (rw e at v.queue) (rw e at v.seq) (rw e at v.offset) (rw e at v.len) (rw e at v.compression) (rw e at v.entry_offset) (rw e at v.entry_len)

@@ -1,7 +1,7 @@
 -- `columns::fetch::fetch_entries_to` meets its contract. Assumes nothing.
 use Rattle.rules.specs.TableQueries.{fetch_entries_to}
 use Rattle.queries.specs.PlaceLaws.{asked-absent}
-use Rattle.queries.proofs.Ways.{numbers-there, entries_wf, by_entries_lem}
+use Rattle.queries.proofs.Ways.{numbers-there, by_entries_lem}
 use Rattle.columns.proofs.SliceWays.{range-there, fetched-refused}
 use Rattle.columns.proofs.fetch.fetch_entries_to.Goals as goal
 
@@ -11,21 +11,10 @@ returns-in_err-k c = fetched-refused (asked-absent _ _ _ _ _ _ (c.place_of.ensur
 pub head_at-head-requires : goal.head_at-head-requires
 head_at-head-requires c = numbers-there ((c.place_of.ensures _ c.requires).at _ c.in_ok-k.was) c.requires
 
-pub entry_rows-rows-requires : goal.entry_rows-rows-requires
-entry_rows-rows-requires c = numbers-there ((c.place_of.ensures _ c.requires).at _ c.in_ok-k.was) c.requires
-
-pub range_to-requires : goal.range_to-requires
-range_to-requires c = entries_wf ((c.place_of.ensures _ c.requires).at _ c.in_ok-k.was) c.head_at-head.ensures c.entry_rows-rows.ensures
-
 pub returns-in_err-range : goal.returns-in_err-range
 returns-in_err-range c =
     let s = (c.place_of.ensures _ c.requires).at _ c.in_ok-k.was in
     fetched-refused (by_entries_lem s c.head_at-head.ensures (fetch_entries_to c.args.begin c.args.end c.args.max_size) c.entry_rows-rows.ensures _ (rw c.in_err-range.was at c.range_to.ensures).rule) c.from_residual-in_err-range.result c.from_residual-in_err-range.ensures.1
-
-pub answer_rows-requires : goal.answer_rows-requires
-answer_rows-requires c =
-    let s = (c.place_of.ensures _ c.requires).at _ c.in_ok-k.was in
-    record { wf = entries_wf s c.head_at-head.ensures c.entry_rows-rows.ensures; range_bound = (rw c.in_ok-range.was at c.range_to.ensures).within }
 
 pub returns : goal.returns
 returns c =

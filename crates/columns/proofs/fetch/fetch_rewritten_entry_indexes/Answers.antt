@@ -12,9 +12,6 @@ returns-in_err-k c = fetched-refused (asked-absent _ _ _ _ _ _ (c.place_of.ensur
 pub head_at-head-requires : goal.head_at-head-requires
 head_at-head-requires c = numbers-there ((c.place_of.ensures _ c.requires).at _ c.in_ok-k.was) c.requires
 
-pub entry_rows-rows-requires : goal.entry_rows-rows-requires
-entry_rows-rows-requires c = numbers-there ((c.place_of.ensures _ c.requires).at _ c.in_ok-k.was) c.requires
-
 pub returns-in_err-range : goal.returns-in_err-range
 returns-in_err-range c =
     let s = (c.place_of.ensures _ c.requires).at _ c.in_ok-k.was in

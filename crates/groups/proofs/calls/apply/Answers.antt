@@ -10,15 +10,9 @@ apply_at-requires c =
     let a = found_at_lem _ _ _ _ c.requires.found c.in-At.is in
     record { wf = c.requires.wf; k_bound = (a.inside, a.used); ready = rw (at_table _ _ _ _ c.requires.wf a) at c.requires.ready }
 
-pub apply_made-requires : goal.apply_made-requires
-apply_made-requires c = record { wf = c.requires.wf; found = rw c.in-Free.is at c.requires.found; ready = c.requires.ready }
-
 pub returns-in-At : goal.returns-in-At
 returns-in-At c =
     rw c.in-At.is (record { changed_group = at-changed (rule_of c.args.change c.args.rows.now c.args.key.now c.args.value.now) _ _ c.args.xs.now c.args.bs.now _ _ _ c.requires.wf (found_at_lem _ _ _ _ c.requires.found c.in-At.is) c.apply_at.ensures.changed_at; leaves_slot = at-leaves c.args.change _ _ c.args.xs.now c.args.bs.now _ _ _ c.apply_at.ensures.changed_at c.apply_at.ensures.leaves_stretch })
-
-pub returns-in-Free : goal.returns-in-Free
-returns-in-Free c = rw c.in-Free.is c.apply_made.ensures
 
 pub returns-in-Full : goal.returns-in-Full
 returns-in-Full c =

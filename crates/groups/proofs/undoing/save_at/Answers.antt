@@ -1,14 +1,10 @@
 -- `groups::undoing::save_at` meets its contract. Assumes nothing.
 use Rattle.groups.proofs.Savings.{entries-few}
-use Rattle.groups.proofs.Securings.{kept-restorable, kept-ready, keys-ready, covering-rows, covering-keys}
+use Rattle.groups.proofs.Securings.{kept-restorable, keys-ready, covering-rows, covering-keys}
 use Rattle.groups.proofs.undoing.save_at.Goals as goal
 
 pub save_header-requires : goal.save_header-requires
 save_header-requires c = record { k_bound = (c.requires.restorable.inside, c.requires.restorable.numbers_fit); xs_bound = entries-few _ _ (c.requires.restorable.used c.requires.xs_value) }
-
-pub save_rows-requires : goal.save_rows-requires
-save_rows-requires c =
-    let ready = kept-ready c.args.k c.args.xs.now c.args.bs.now _ _ c.requires.restorable (c.save_header.ensures c.args.bs.now c.requires.restorable c.requires.xs_value).kept in record { k_bound = (ready.0, ready.1); xs_bound = ready.2 }
 
 pub save_keys-requires : goal.save_keys-requires
 save_keys-requires c =

@@ -3,7 +3,7 @@ use native.Mathlib.Omega.{arith}
 use Rattle.groups.specs.Undo.{mark_at}
 use Prim.Native.Nat.{◌+◌}
 use mathlib.Core.Path.{refl}
-use Rattle.groups.proofs.Savings.{low_small, few-keys, keys_in_lem, keys-there, keys-saved_by}
+use Rattle.groups.proofs.Savings.{few-keys, keys_in_lem, keys-there, keys-saved_by}
 use Rattle.groups.proofs.undoing.save_keys.Goals as goal
 
 pub returns-then-mark-eq1 : goal.returns-then-mark-eq1
@@ -29,10 +29,6 @@ pub shift-requires-2 : goal.shift-requires-2
 unfolding mark_at
 shift-requires-2 c =
     let keys = few-keys c.args.k c.args.xs.now c.args.bs.now c.requires.restorable (omega (arith, c.if-mark-eq1.false, c.requires.bound)) in omega (arith, keys, keys_in_lem (8 + c.args.k) c.args.xs.now (omega arith), c.requires.restorable)
-
-pub overflow_add-xs : goal.overflow_add-xs
-unfolding mark_at
-overflow_add-xs c = let low = low_small c.args.k c.args.xs.now c.args.bs.now c.requires.restorable (omega (arith, c.if-mark-eq1.false, c.requires.bound)) in omega (arith, low, c.if-mark-eq1.false)
 
 pub returns : goal.returns
 unfolding mark_at

@@ -36,18 +36,6 @@ pub shift-requires : goal.shift-requires
 unfolding mark_at
 shift-requires c = omega (arith, c.requires)
 
-pub overflow_mul-xs : goal.overflow_mul-xs
-unfolding mark_at
-overflow_mul-xs c = omega (arith, c.requires)
-
-pub overflow_add-xs : goal.overflow_add-xs
-unfolding mark_at
-overflow_add-xs c = omega (arith, c.requires)
-
-pub overflow_add-xs-2 : goal.overflow_add-xs-2
-unfolding mark_at
-overflow_add-xs-2 c = omega (arith, c.requires)
-
 pub returns : goal.returns
 unfolding mark_at
 returns c = λ bs r. rows-saved c.args.k c.args.xs.now bs r c.args.first _ c.if-mark-lt2.false c.if-low-first.false c.shift.ensures

@@ -1,15 +1,12 @@
 -- `groups::undoing::secure_free` meets its contract. Assumes nothing.
 use native.Mathlib.Omega.{arith}
 use Rattle.groups.specs.Undo.{mark_at}
-use Rattle.groups.proofs.Securings.{low-few, kept-restorable, free-marked, covering_all}
+use Rattle.groups.proofs.Securings.{kept-restorable, free-marked, covering_all}
 use Rattle.groups.proofs.undoing.secure_free.Goals as goal
 
 pub returns-then-xs-to-eq0 : goal.returns-then-xs-to-eq0
 unfolding mark_at
 returns-then-xs-to-eq0 c = free-marked c.args.k c.args.xs.now c.args.bs.now c.requires.restorable c.requires.xs_value c.if-xs-to-eq0.true
-
-pub save_rows-requires : goal.save_rows-requires
-save_rows-requires c = record { k_bound = (c.requires.restorable.inside, c.requires.restorable.numbers_fit); xs_bound = low-few c.args.k c.args.xs.now c.args.bs.now c.requires.restorable }
 
 pub save_keys-requires : goal.save_keys-requires
 unfolding mark_at

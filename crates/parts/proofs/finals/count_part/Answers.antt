@@ -5,5 +5,6 @@ use Rattle.parts.proofs.finals.count_part.Goals as goal
 pub count_tag-requires : goal.count_tag-requires
 count_tag-requires c = let w = c.requires in (lent-stored _ _ w, lent-enough _ _ w, few-items _ _ w)
 
-pub returns : goal.returns
-returns c = let w = c.requires in record { value = rw (lent-tagged _ _ w) at c.count_tag.ensures.value; upper_bound = c.count_tag.ensures.upper_bound }
+pub returns-clause-value : goal.returns-clause-value
+returns-clause-value c =
+    let w = c.requires in rw (lent-tagged _ _ w) at c.count_tag.ensures.value

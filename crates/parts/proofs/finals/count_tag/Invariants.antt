@@ -1,6 +1,6 @@
 -- `parts::finals::count_tag` meets its contract. Assumes nothing.
 use mathlib.Core.Path.{◌≡◌}
-use Prim.Native.Nat.{◌+◌, ◌-◌, ◌≤◌}
+use Prim.Native.Nat.{◌+◌, ◌≤◌}
 use lib.ListN.{length, drop}
 use Rattle.stores.specs.Stores.{area}
 use Rattle.stores.specs.Tags.{store_tagged, items_with}
@@ -8,7 +8,4 @@ use Rattle.parts.specs.Finals.{tombs_of}
 use Rattle.parts.proofs.finals.count_tag.Given as goal
 
 abbrev pub invariant-loop-j : goal.invariant-loop-j
-invariant-loop-j l = (l.j ≤ l.n) × (l.count ≤ l.j) × (l.count + length (tombs_of (items_with l.tag (drop l.j (store_tagged l.store (area l.items l.entries l.bytes) l.tags)))) ≡ length (tombs_of (items_with l.tag (store_tagged l.store (area l.items l.entries l.bytes) l.tags))))
-
-abbrev pub decreases-loop-j : goal.decreases-loop-j
-decreases-loop-j l = l.n - l.j
+invariant-loop-j l = (l.count ≤ l.j) × (l.count + length (tombs_of (items_with l.tag (drop l.j (store_tagged l.store (area l.items l.entries l.bytes) l.tags)))) ≡ length (tombs_of (items_with l.tag (store_tagged l.store (area l.items l.entries l.bytes) l.tags))))

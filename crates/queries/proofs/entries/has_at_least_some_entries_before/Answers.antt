@@ -2,7 +2,7 @@
 use Rattle.rules.specs.Causes.{by_cause}
 use Rattle.rules.specs.TableQueries.{has_at_least_some_entries_before}
 use Rattle.queries.specs.PlaceLaws.{passed-on}
-use Rattle.queries.proofs.Ways.{numbers-there, entries_wf, by_entries_lem}
+use Rattle.queries.proofs.Ways.{numbers-there, by_entries_lem}
 use Rattle.queries.proofs.entries.has_at_least_some_entries_before.Goals as goal
 
 pub returns-in_err-k : goal.returns-in_err-k
@@ -10,12 +10,6 @@ returns-in_err-k c = passed-on _ (c.place_of.ensures _ c.requires) c.in_err-k.wa
 
 pub head_at-requires : goal.head_at-requires
 head_at-requires c = numbers-there ((c.place_of.ensures _ c.requires).at _ c.in_ok-k.was) c.requires
-
-pub entry_rows-requires : goal.entry_rows-requires
-entry_rows-requires c = numbers-there ((c.place_of.ensures _ c.requires).at _ c.in_ok-k.was) c.requires
-
-pub has_at_least_some_entries_before-requires : goal.has_at_least_some_entries_before-requires
-has_at_least_some_entries_before-requires c = entries_wf ((c.place_of.ensures _ c.requires).at _ c.in_ok-k.was) c.head_at.ensures c.entry_rows.ensures
 
 pub returns : goal.returns
 returns c =

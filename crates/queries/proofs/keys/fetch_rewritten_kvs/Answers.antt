@@ -11,9 +11,6 @@ returns-in_err-k c = keys-absent _ (c.place_of.ensures _ c.requires) c.in_err-k.
 pub key_count_at-n-requires : goal.key_count_at-n-requires
 key_count_at-n-requires c = numbers-there ((c.place_of.ensures _ c.requires).at _ c.in_ok-k.was) c.requires
 
-pub key_rows-rows-requires : goal.key_rows-rows-requires
-key_rows-rows-requires c = numbers-there ((c.place_of.ensures _ c.requires).at _ c.in_ok-k.was) c.requires
-
 pub key_bytes-bytes-requires : goal.key_bytes-bytes-requires
 key_bytes-bytes-requires c = bytes-there ((c.place_of.ensures _ c.requires).at _ c.in_ok-k.was) c.requires
 

@@ -5,8 +5,5 @@ use Rattle.records.proofs.fetching.fetch_records.Goals as goal
 pub returns-in_err-plan : goal.returns-in_err-plan
 returns-in_err-plan c = fetched-refused (rw c.in_err-plan.was at c.plan.ensures) c.from_residual.result c.from_residual.ensures.1
 
-pub fill_records-requires : goal.fill_records-requires
-fill_records-requires c = (rw c.in_ok-plan.was at c.plan.ensures).fillable
-
 pub returns : goal.returns
 returns c = rw c.fill_records.ensures (fetched-done (rw c.in_ok-plan.was at c.plan.ensures))

@@ -1,7 +1,7 @@
 -- `records::planning::plan` meets its contract. Assumes nothing.
 use native.Mathlib.Omega.{arith}
 use Rattle.queries.specs.PlaceLaws.{asked-absent}
-use Rattle.records.proofs.PlanWays.{numbers-there, rows_wf, range-answers, planned-refused, fits, plan-short, plan-done}
+use Rattle.records.proofs.PlanWays.{numbers-there, range-answers, planned-refused, fits, plan-short, plan-done}
 use Rattle.records.proofs.planning.plan.Goals as goal
 
 pub returns-in_err-k : goal.returns-in_err-k
@@ -9,12 +9,6 @@ returns-in_err-k c = planned-refused _ _ (asked-absent _ _ _ _ _ _ (c.place_of.e
 
 pub head_at-head-requires : goal.head_at-head-requires
 head_at-head-requires c = numbers-there c.requires ((c.place_of.ensures _ c.requires).at _ c.in_ok-k.was)
-
-pub entry_rows-requires : goal.entry_rows-requires
-entry_rows-requires c = numbers-there c.requires ((c.place_of.ensures _ c.requires).at _ c.in_ok-k.was)
-
-pub range_of-requires : goal.range_of-requires
-range_of-requires c = rows_wf c.requires ((c.place_of.ensures _ c.requires).at _ c.in_ok-k.was) c.head_at-head.ensures c.entry_rows.ensures
 
 pub returns-in_err-range : goal.returns-in_err-range
 returns-in_err-range c =

@@ -5,8 +5,5 @@ use Rattle.records.proofs.rows.fetch_rows.Goals as goal
 pub returns-in_err-plan : goal.returns-in_err-plan
 returns-in_err-plan c = rows-refused (rw c.in_err-plan.was at c.plan.ensures) c.from_residual.result c.from_residual.ensures.1
 
-pub fill_rows-requires : goal.fill_rows-requires
-fill_rows-requires c = (rw c.in_ok-plan.was at c.plan.ensures).fillable
-
 pub returns : goal.returns
 returns c = rows-done (rw c.in_ok-plan.was at c.plan.ensures) c.fill_rows.ensures

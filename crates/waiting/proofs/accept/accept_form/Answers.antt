@@ -8,9 +8,13 @@ use native.Mathlib.Omega.{arith}
 use mathlib.Core.Path.{refl, sym, ◌∙◌}
 use Rattle.waiting.proofs.accept.accept_form.Goals as goal
 
-pub counts_left-left-requires : goal.counts_left-left-requires
-counts_left-left-requires c =
-    let rows = rows-counted c.args.ws.now c.args.vs.now c.requires.context_room in record { ws_len = (c.requires.context_room.room.numbers-are, form-inside c.args.form c.args.group 16 _ c.args.k c.args.status c.args.seq c.requires.form_at, rows.0); ws_value = rows.1 }
+pub counts_left-left-requires-clause-ws_len : goal.counts_left-left-requires-clause-ws_len
+counts_left-left-requires-clause-ws_len c =
+    let rows = rows-counted c.args.ws.now c.args.vs.now c.requires.context_room in (c.requires.context_room.room.numbers-are, form-inside c.args.form c.args.group 16 _ c.args.k c.args.status c.args.seq c.requires.form_at, rows.0)
+
+pub counts_left-left-requires-clause-ws_value : goal.counts_left-left-requires-clause-ws_value
+counts_left-left-requires-clause-ws_value c =
+    let rows = rows-counted c.args.ws.now c.args.vs.now c.requires.context_room in rows.1
 
 pub within_limits-requires : goal.within_limits-requires
 within_limits-requires c =
@@ -29,10 +33,10 @@ returns-then-not-within_limits c =
     let fit = judged_form c.args.ws.now c.args.vs.now c.requires.context_room c.args.group c.args.k c.args.status c.args.seq its c.args.form c.requires.form_at _ _ _ c.groups_with-groups.ensures c.counts_left-left.ensures.keeps c.count_batch-more.ensures.value ∙ sym c.within_limits.ensures in
     (form-passes c.args.ws.now c.args.vs.now c.requires.context_room c.args.group c.args.k c.args.status c.args.seq its c.args.form c.requires.form_at (fit ∙ c.if-not-within_limits.true), refl, refl)
 
-pub write_form-requires : goal.write_form-requires
-write_form-requires c =
+pub write_form-requires-clause-vs_bound : goal.write_form-requires-clause-vs_bound
+write_form-requires-clause-vs_bound c =
     let its = unmarked (items_of c.args.items.now c.args.entries.now c.args.bytes.now) in
-    let fit = judged_form c.args.ws.now c.args.vs.now c.requires.context_room c.args.group c.args.k c.args.status c.args.seq its c.args.form c.requires.form_at _ _ _ c.groups_with-groups.ensures c.counts_left-left.ensures.keeps c.count_batch-more.ensures.value ∙ sym c.within_limits.ensures in record { room_wf = c.requires.context_room.room; form_at = c.requires.form_at; bytes_value = c.requires.bytes_value; vs_bound = form-fits c.args.ws.now c.args.vs.now c.requires.context_room c.args.group c.args.k c.args.status c.args.seq its c.args.form c.requires.form_at (fit ∙ c.if-not-within_limits.false) }
+    let fit = judged_form c.args.ws.now c.args.vs.now c.requires.context_room c.args.group c.args.k c.args.status c.args.seq its c.args.form c.requires.form_at _ _ _ c.groups_with-groups.ensures c.counts_left-left.ensures.keeps c.count_batch-more.ensures.value ∙ sym c.within_limits.ensures in form-fits c.args.ws.now c.args.vs.now c.requires.context_room c.args.group c.args.k c.args.status c.args.seq its c.args.form c.requires.form_at (fit ∙ c.if-not-within_limits.false)
 
 pub returns : goal.returns
 returns c =

@@ -1,16 +1,16 @@
--- `waiting::find::cell_of` meets its contract: the cells passed do not meet the test. Assumes nothing.
-use Rattle.waiting.proofs.Finding.{passed_none, passed-more, first_here, first-none}
-use mathlib.Core.Path.{sym, ◌∙◌}
+-- `waiting::find::cell_of` meets its contract. Assumes nothing.
+use Rattle.std.proofs.Common.{◌≡◌, ◌*◌, true, false, arith, rules, tests}
+use Rattle.std.proofs.lemmas.Iterator.{first_from_Range}
+use Rattle.cells.specs.Part.{part}
+use Rattle.room.specs.Rooms.{head_at}
+use Rattle.waiting.specs.Steps.{is_of}
+use Rattle.waiting.proofs.Finding.{first-of}
 use Rattle.waiting.proofs.find.cell_of.Goals as goal
 
-pub loop-k-init : goal.loop-k-init
-loop-k-init c = passed_none _ _ _
-
-pub returns-then-is_of : goal.returns-then-is_of
-returns-then-is_of c = first_here _ _ _ _ c.loop-k-test.true (sym c.is_of.ensures ∙ c.if-is_of.true) c.loop-k.invariant
-
-pub loop-k-preserved : goal.loop-k-preserved
-loop-k-preserved c = passed-more _ _ _ _ c.loop-k-test.true (sym c.is_of.ensures ∙ c.if-is_of.false) c.loop-k.invariant
-
 pub returns : goal.returns
-returns c = first-none _ _ _ _ c.loop-k-test.false c.loop-k.invariant
+returns c =
+    let heads = part 2 (c.args.cells * 10) c.args.ws.now in
+    first-of (is_of c.args.group) c.args.cells heads c.find.result
+    (first_from_Range _ _ _ c.find.result (λ k. is_of c.args.group (head_at k heads) ≡ true) (λ k. is_of c.args.group (head_at k heads) ≡ false) c.find.ensures.ran
+    (λ x q k. grind (arith, tests))
+    (λ x q k. (search rules, grind (arith, tests))))

@@ -1,9 +1,10 @@
 -- `waiting::find::is_of` meets its contract. Assumes nothing.
-use Rattle.waiting.proofs.Finding.{none_is, some_is}
+use Rattle.waiting.proofs.Finding.{is_of_lem}
 use Rattle.waiting.proofs.find.is_of.Goals as goal
+use borrow.Author.Tests.{eq-eqb, ne_eqb}
 
-pub returns-then-count-eq0 : goal.returns-then-count-eq0
-returns-then-count-eq0 c = none_is c.args.cells c.args.ws.now c.args.k c.requires.1 c.args.group c.if-count-eq0.true
+pub returns-then-ws-at-ne0 : goal.returns-then-ws-at-ne0
+returns-then-ws-at-ne0 c = rw (is_of_lem c.args.cells c.args.ws.now c.args.k c.requires.1, ne_eqb _ _ c.if-ws-at-ne0.true)
 
-pub returns : goal.returns
-returns c = some_is c.args.cells c.args.ws.now c.args.k c.requires.1 c.args.group c.if-count-eq0.false
+pub returns-else-ws-at-ne0 : goal.returns-else-ws-at-ne0
+returns-else-ws-at-ne0 c = rw (is_of_lem c.args.cells c.args.ws.now c.args.k c.requires.1, eq-eqb _ _ c.if-ws-at-ne0.false)

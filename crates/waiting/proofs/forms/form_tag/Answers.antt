@@ -1,6 +1,7 @@
 -- `waiting::forms::form_tag` meets its contract. Assumes nothing.
 use Rattle.waiting.proofs.Forming.{tag-there}
 use Rattle.waiting.specs.Forms.{form_tag}
+use mathlib.Core.Logic.{inl, inr}
 use native.Mathlib.Omega.{arith}
 use Rattle.waiting.proofs.forms.form_tag.Goals as goal
 
@@ -10,18 +11,12 @@ overflow_sub-result c =
     let b = rw c.in-Front.is at c.requires.tagging in
     omega arith
 
-pub returns-in-First : goal.returns-in-First
-unfolding form_tag
-returns-in-First c = rw c.in-First.is
-
 pub returns-in-Front : goal.returns-in-Front
 unfolding form_tag
 returns-in-Front c = rw c.in-Front.is (rw (tag-there c.args.cells c.args.ws.now c.args.k c.requires.ws_len.1))
 
 pub returns-in-Replace : goal.returns-in-Replace
 unfolding form_tag
-returns-in-Replace c = rw c.in-Replace.is (tag-there c.args.cells c.args.ws.now c.args.k c.requires.ws_len.1)
-
-pub returns-in-Join : goal.returns-in-Join
-unfolding form_tag
-returns-in-Join c = rw c.in-Join.is (tag-there c.args.cells c.args.ws.now c.args.k c.requires.ws_len.1)
+returns-in-Replace c =
+    let tag = tag-there c.args.cells c.args.ws.now c.args.k c.requires.ws_len.1 in
+    elim c.in-Replace.is [ inl e ↦ rw e tag | inr e ↦ rw e tag ]

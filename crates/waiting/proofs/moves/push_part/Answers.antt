@@ -2,8 +2,7 @@
 use Rattle.room.proofs.Copying.{below-count}
 use Rattle.room.specs.Rooms.{items_in}
 use Rattle.room.specs.Layout.{store_of, room_of}
-use Rattle.waiting.proofs.Moving.{many, row-there, moving-none, moving-room, moving-more, moving_all}
-use borrow.Author.Rules.{rules}
+use Rattle.waiting.proofs.Moving.{many, moving-none, moving-room, moving-more, moving_all}
 use Rattle.waiting.proofs.moves.push_part.Goals as goal
 
 pub loop-j-init : goal.loop-j-init
@@ -11,16 +10,15 @@ unfolding store_of
 loop-j-init c =
     moving-none (items_in (store_of c.args.us.now) (room_of 16 c.args.us.now c.args.ds.now)) _ c.args.its c.args.tag (many c.args.us.now c.args.ds.now c.requires.room_wf) c.args.store c.args.ws.now c.args.vs.now c.requires.ws_len.0 c.requires.ws_len.1 c.requires.stored
 
-pub push_one-all-requires : goal.push_one-all-requires
+pub push_one-all-requires-clause-j_bound : goal.push_one-all-requires-clause-j_bound
 unfolding store_of
-push_one-all-requires c =
-    let p = c.loop-j.invariant in record { ws_len = (p.numbers-are, p.bytes-are); stored = p.pushed.stored; room_wf = c.requires.room_wf; j_bound = below-count c.args.us.now c.loop-j.j c.loop-j-test.true; has_room = moving-room (items_in (store_of c.args.us.now) (room_of 16 c.args.us.now c.args.ds.now)) _ c.args.its c.args.tag (many c.args.us.now c.args.ds.now c.requires.room_wf) c.args.store c.args.ws.now c.args.vs.now c.loop-j.all c.loop-j.ws c.loop-j.vs c.loop-j.j c.loop-j-test.true c.loop-j.invariant c.requires.its_bound }
+push_one-all-requires-clause-j_bound c =
+    below-count c.args.us.now c.loop-j.j c.loop-j-test.true
 
-pub overflow_add-j : goal.overflow_add-j
+pub push_one-all-requires-clause-has_room : goal.push_one-all-requires-clause-has_room
 unfolding store_of
-overflow_add-j c =
-    let below = row-there c.args.us.now c.args.ds.now c.requires.room_wf c.loop-j.j c.loop-j-test.true in
-    search rules
+push_one-all-requires-clause-has_room c =
+    moving-room (items_in (store_of c.args.us.now) (room_of 16 c.args.us.now c.args.ds.now)) _ c.args.its c.args.tag (many c.args.us.now c.args.ds.now c.requires.room_wf) c.args.store c.args.ws.now c.args.vs.now c.loop-j.all c.loop-j.ws c.loop-j.vs c.loop-j.j c.loop-j-test.true c.loop-j.invariant c.requires.its_bound
 
 pub loop-j-preserved : goal.loop-j-preserved
 unfolding store_of

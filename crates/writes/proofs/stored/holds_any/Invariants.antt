@@ -8,6 +8,3 @@ use Rattle.writes.proofs.stored.holds_any.Given as goal
 
 abbrev pub invariant-loop-j : goal.invariant-loop-j
 invariant-loop-j l = (bs : List ℕ) → Formed l.xs bs → stored_from l.tag l.j l.xs bs ≡ stored_from l.tag 0 l.xs bs
-
-abbrev pub decreases-loop-j : goal.decreases-loop-j
-decreases-loop-j l = l.n - l.j

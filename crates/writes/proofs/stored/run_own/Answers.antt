@@ -6,18 +6,18 @@ use Rattle.writes.proofs.stored.run_own.Goals as goal
 pub loop-i-init : goal.loop-i-init
 loop-i-init c = own-start _ _ _ _ c.row_count-n.ensures _ _ c.requires.formed c.requires.undoable c.requires.keeping
 
-pub turn-answer-requires : goal.turn-answer-requires
+pub turn-requires : goal.turn-requires
 unfolding call_of
-turn-answer-requires c =
+turn-requires c =
     let i = c.loop-i.invariant in record { formed = i.formed; undoable = i.back.undo.undoable; i_bound = rw c.row_count-n.ensures at c.loop-i-test.true; bytes_value = c.requires.bytes_value; keeping = i.own }
 
 pub returns-in-Err : goal.returns-in-Err
 unfolding call_of
-returns-in-Err c = own-refused _ _ _ _ c.row_count-n.ensures _ _ _ _ _ c.loop-i.invariant c.loop-i-test.true _ _ _ (rw c.in-Err.is at c.turn-answer.ensures)
+returns-in-Err c = own-refused _ _ _ _ c.row_count-n.ensures _ _ _ _ _ c.loop-i.invariant c.loop-i-test.true _ _ _ (rw c.in-Err.is at c.turn.ensures)
 
 pub loop-i-preserved : goal.loop-i-preserved
 unfolding call_of
-loop-i-preserved c = own-more _ _ _ _ c.row_count-n.ensures _ _ _ _ _ c.loop-i.invariant c.loop-i-test.true c.requires.bytes_value _ _ (rw c.in_default.is at c.turn-answer.ensures)
+loop-i-preserved c = own-more _ _ _ _ c.row_count-n.ensures _ _ _ _ _ c.loop-i.invariant c.loop-i-test.true c.requires.bytes_value _ _ (rw c.in_default.is at c.turn.ensures)
 
 pub returns : goal.returns
 returns c = own_all _ _ _ _ c.row_count-n.ensures _ _ _ _ _ c.loop-i.invariant c.loop-i-test.false

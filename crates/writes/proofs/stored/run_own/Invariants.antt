@@ -5,6 +5,3 @@ use Rattle.writes.proofs.stored.run_own.Given as goal
 
 abbrev pub invariant-loop-i : goal.invariant-loop-i
 invariant-loop-i l = OwnUnder l.items l.entries l.bytes l.n l.initial.xs l.initial.bs l.i l.xs l.bs
-
-abbrev pub decreases-loop-i : goal.decreases-loop-i
-decreases-loop-i l = l.n - l.i

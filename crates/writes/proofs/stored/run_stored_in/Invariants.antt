@@ -7,6 +7,3 @@ use Rattle.writes.proofs.stored.run_stored_in.Given as goal
 
 abbrev pub invariant-loop-j : goal.invariant-loop-j
 invariant-loop-j l = StoredUnder l.tag l.initial.xs l.initial.bs l.j l.xs l.bs × (length l.rows ≡ 1024) × (length l.text ≡ 64)
-
-abbrev pub decreases-loop-j : goal.decreases-loop-j
-decreases-loop-j l = l.n - l.j
