@@ -1,8 +1,8 @@
 // A case of the file: a line that names it, a line of six numbers, and the numbers of the three slices.
 ghost use Rattle.std.specs.Prelude.{◌<◌, ◌≤◌, OnOk, OnSome, length};
 
-use log_batch::Call;
 use log_batch::open::ITEM_WIDTH;
+use log_batch::{Call, LogBatch};
 use pipe_log::{ENTRY_WIDTH, Refusal};
 use std::alloc::Global;
 use text::{ReadError, line_numbers};
@@ -25,7 +25,7 @@ fn next_numbers(alloc: Global, text: &mut &str) -> Result<Vec<u64>, ReadError>
     line_numbers(alloc, next_line(text).ok_or(ReadError::Malformed)?)
 }
 
-// The first `count` numbers of a text, in rows of `width`.
+// The first `count` numbers of a text, in rows of `width`. A row is as long as it is found to be, so no range counts the rows.
 fn next_rows(
     alloc: Global,
     text: &mut &str,
@@ -81,11 +81,11 @@ pub fn run(alloc: Global, text: &mut &str) -> Result<bool, ReadError>
         .iter()
         .map(|number| (number % 256) as u8)
         .collect(alloc)?;
-    let answer = log_batch::check(
-        call_of(*call),
-        items.as_slice(),
-        entries.as_slice(),
-        bytes.as_slice(),
-    );
+    let batch = LogBatch {
+        items: items.as_slice(),
+        entries: entries.as_slice(),
+        bytes: bytes.as_slice(),
+    };
+    let answer = log_batch::check(call_of(*call), &batch);
     Ok(is_expected(answer, *expected, *at))
 }

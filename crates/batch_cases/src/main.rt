@@ -7,6 +7,7 @@ use std::fs::File;
 use std::io;
 use text::ReadError;
 
+// Compares the cases one after another. A case takes as many lines as its head says, so no iterator gives them.
 fn compare_all(rt: &(impl AllocGlobal + Print), mut text: &str) -> io::Result<()> {
     let mut cases: u64 = 0;
     let mut differ: u64 = 0;

@@ -8,7 +8,7 @@ use Rattle.maps.specs.Cells.{map_of}
 use Rattle.rules.specs.Causes.{Cause, ByCause, Err, Result, Ok}
 use Rattle.rules.specs.Table.{Table, made}
 use Rattle.stretch.specs.Changes.{rule_of, Ready}
-use Rattle.groups.specs.declared.Slot.{Slot}
+use Rattle.cells.specs.declared.Slot.{Slot}
 use Rattle.groups.specs.Area.{groups_of, Wf, Found, OnlySlot}
 use Rattle.groups.specs.Calls.{on_group, ChangedGroup, RemovedGroup, LeavesSlot}
 use Rattle.groups.specs.Undo.{undone_cells, Undoable, ReadyFor, ReadyToGo, Securing}

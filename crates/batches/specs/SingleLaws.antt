@@ -32,8 +32,8 @@ use Rattle.log_batch.proofs.CheckLaws.{scan-start, scan-more, passed_at-end}
 use Rattle.stretch.specs.declared.Change as change
 use Rattle.stretch.specs.declared.Change.{Change}
 use Rattle.stretch.specs.Changes.{rule_of, Ready}
-use Rattle.groups.specs.declared.Slot.{Slot}
-use Rattle.groups.specs.declared.Slot.TheVariants.{At}
+use Rattle.cells.specs.declared.Slot.{Slot}
+use Rattle.cells.specs.declared.Slot.TheVariants.{At}
 use Rattle.groups.specs.Area.{groups_of, Found, OnlySlot}
 use Rattle.groups.specs.Area as groups
 use Rattle.groups.specs.Calls.{ChangedGroup, RemovedGroup}

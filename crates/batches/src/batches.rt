@@ -4,7 +4,7 @@ ghost use Rattle.std.specs.Prelude.{◌≡◌, ◌<◌, ◌*◌, drop};
 ghost use Rattle.rules.specs.Items.{placed_from};
 ghost use Rattle.rules.specs.Checks.{checks};
 ghost use Rattle.rules.specs.Context.{limited, run};
-ghost use Rattle.log_batch.specs.Lent.{row_count_of, item_at, items_of};
+ghost use Rattle.log_batch.specs.Batch.{count_in, item_in, items_in};
 ghost use Rattle.log_batch.specs.Judged.{call_of};
 ghost use Rattle.groups.specs.Undo.{Undoable};
 ghost use Rattle.lists.specs.Rest.{cut_to};
@@ -14,8 +14,8 @@ ghost use Rattle.batches.specs.Runs.{Keeping, Stepped, WentBack};
 
 use crate::items::carry_out;
 use lists::Counts;
-use log_batch::Call;
 use log_batch::open::{open_item, row_count};
+use log_batch::{Call, LogBatch};
 use pipe_log::{Cause, Refusal};
 
 // Carries out item i of a batch that passed the checks.
@@ -23,24 +23,22 @@ pub fn turn(
     xs: &mut [u64],
     bs: &mut [u8],
     call: Call,
-    items: &[u64],
-    entries: &[u64],
-    bytes: &[u8],
+    batch: &LogBatch,
     i: usize,
     last: bool,
 ) -> Result<(), Cause>
     requires formed { Formed xs.old bs.old }
     requires undoable { Undoable xs.old bs.old }
-    requires i_bound { i < row_count_of items.now }
-    requires bytes_value { checks (call_of call) (items_of items.now entries.now bytes.now) ≡ None }
+    requires i_bound { i < count_in batch.now }
+    requires passed { checks (call_of call) (items_in batch.now) ≡ None }
     requires keeping { Keeping (call_of call) (context_of xs.old bs.old) }
-    ensures { Stepped (call_of call) (item_at entries.now bytes.now (drop (i * 9) items.now)) last xs.old bs.old result xs.new bs.new }
+    ensures { Stepped (call_of call) (item_in i batch.now) last xs.old bs.old result xs.new bs.new }
 {
-    let opened = open_item(items, entries, bytes, i);
+    let opened = open_item(batch, i);
     let Ok(item) = opened else {
         return Ok(());
     };
-    carry_out(xs, bs, call, item, entries, bytes, last)
+    carry_out(xs, bs, call, item, batch.entries, batch.bytes, last)
 }
 
 // Takes an area back to where a batch began, which had so many tombstones and cleaned numbers.
@@ -56,25 +54,18 @@ pub fn go_back(xs: &mut [u64], bs: &mut [u8], counts: Counts)
 }
 
 // Carries out the items of a batch that passed the checks, in order.
-pub fn run_items(
-    xs: &mut [u64],
-    bs: &mut [u8],
-    call: Call,
-    items: &[u64],
-    entries: &[u64],
-    bytes: &[u8],
-) -> Result<(), Refusal>
+pub fn run_items(xs: &mut [u64], bs: &mut [u8], call: Call, batch: &LogBatch) -> Result<(), Refusal>
     requires formed { Formed xs.old bs.old }
-    requires bytes_value { checks (call_of call) (items_of items.now entries.now bytes.now) ≡ None }
+    requires passed { checks (call_of call) (items_in batch.now) ≡ None }
     requires keeping { Keeping (call_of call) (context_of xs.old bs.old) }
-    ensures { Answered (run limited (call_of call) (placed_from 0 (items_of items.now entries.now bytes.now))) xs.old bs.old result xs.new bs.new }
+    ensures { Answered (run limited (call_of call) (placed_from 0 (items_in batch.now))) xs.old bs.old result xs.new bs.new }
 {
     let a = groups::NUMBERS;
     let counts = lists::counts_in(&xs[a..]);
     groups::begin(xs);
-    let n = row_count(items);
+    let n = row_count(batch);
     for i in 0..n {
-        if let Err(cause) = turn(xs, bs, call, items, entries, bytes, i, i + 1 == n) {
+        if let Err(cause) = turn(xs, bs, call, batch, i, i + 1 == n) {
             go_back(xs, bs, counts);
             return Err(Refusal {
                 cause,

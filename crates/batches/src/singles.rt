@@ -5,7 +5,7 @@ ghost use Rattle.maps.specs.Maps.{lookup, numbers};
 ghost use Rattle.rules.specs.Items.{placed_from, writes};
 ghost use Rattle.rules.specs.Table.{made};
 ghost use Rattle.rules.specs.Context.{limited, run};
-ghost use Rattle.log_batch.specs.Lent.{items_of};
+ghost use Rattle.log_batch.specs.Batch.{items_in};
 ghost use Rattle.log_batch.specs.Judged.{call_of};
 ghost use Rattle.groups.specs.Area.{groups_of};
 ghost use Rattle.groups.specs.Area as groups·area;
@@ -17,18 +17,20 @@ ghost use Rattle.batches.specs.Singles.{list_item, put_item, Single, SingleList,
 
 use deeds::{Deed, deed_of, key_in, rows_in, value_in};
 use groups::Slot;
-use log_batch::Call;
 use log_batch::causes::{MAX_BYTES, MAX_LIST_ENTRIES};
-use log_batch::item::{Bytes, EntryIndexes, KeyValue, LogItemContent, OpType};
+use log_batch::item::{Bytes, EntryIndexes, KeyValue, LogItem, LogItemContent, OpType};
 use log_batch::mark::RESERVED_LEN;
 use log_batch::open::{HAS_VALUE, ITEM_WIDTH, LIST, PUT};
 use log_batch::plain::is_plain_of;
+use log_batch::{Call, LogBatch};
 use pipe_log::{Cause, ENTRY_WIDTH, FileId, LogQueue, Refusal};
 
 // Whether a batch is one list of entries of a queue that meets none of the checks.
-pub fn is_single_list(items: &[u64], entries: &[u64], queue: LogQueue) -> bool
-    ensures { (call : _) (bytes : List ℕ) → writes (call_of call) ≡ queue → result ≡ true → SingleList call items.now entries.now bytes }
+pub fn is_single_list(batch: &LogBatch, queue: LogQueue) -> bool
+    ensures { (call : _) (bytes : List ℕ) → writes (call_of call) ≡ queue → result ≡ true → SingleList call batch.now.items.now batch.now.entries.now bytes }
 {
+    let items = batch.items;
+    let entries = batch.entries;
     if items.len() != ITEM_WIDTH {
         return false;
     }
@@ -87,33 +89,37 @@ fn is_plain_put(call: Call, row: &[u64], bytes: &[u8]) -> bool
 }
 
 // Whether a batch is one such Put.
-pub fn is_single_put(call: Call, items: &[u64], bytes: &[u8]) -> bool
-    ensures { (entries : List ℕ) → result ≡ true → Single call (put_item call items.now) items.now entries bytes.now }
+pub fn is_single_put(call: Call, batch: &LogBatch) -> bool
+    ensures { (entries : List ℕ) → result ≡ true → Single call (put_item call batch.now.items.now) batch.now.items.now entries batch.now.bytes.now }
 {
+    let items = batch.items;
     if items.len() != ITEM_WIDTH {
         return false;
     }
     if items[1] != PUT {
         return false;
     }
-    is_plain_put(call, items, bytes)
+    is_plain_put(call, items, batch.bytes)
 }
 
-// What such a list says.
-fn list_content(row: &[u64]) -> LogItemContent
+// The item of such a list.
+fn list_item(row: &[u64]) -> LogItem
     requires { length row.now ≡ 9 }
-    ensures { result ≡ (list_item row.now).content }
+    ensures { result ≡ list_item row.now }
 {
-    LogItemContent::EntryIndexes(EntryIndexes {
-        at: row[2] as usize,
-        count: row[3] as usize,
-    })
+    LogItem {
+        raft_group_id: row[0],
+        content: LogItemContent::EntryIndexes(EntryIndexes {
+            at: row[2] as usize,
+            count: row[3] as usize,
+        }),
+    }
 }
 
-// What such a Put says.
-fn put_content(call: Call, row: &[u64]) -> LogItemContent
+// The item of such a Put.
+fn put_item(call: Call, row: &[u64]) -> LogItem
     requires { length row.now ≡ 9 }
-    ensures { result ≡ (put_item call row.now).content }
+    ensures { result ≡ put_item call row.now }
 {
     let value = Some(Bytes {
         at: row[5] as usize,
@@ -121,13 +127,16 @@ fn put_content(call: Call, row: &[u64]) -> LogItemContent
     });
     let queue = call.writes();
     let file_id = Some(FileId { queue, seq: row[8] });
-    LogItemContent::Kv(KeyValue {
-        op_type: OpType::Put,
-        key_at: row[2] as usize,
-        key_len: row[3] as usize,
-        value,
-        file_id,
-    })
+    LogItem {
+        raft_group_id: row[0],
+        content: LogItemContent::Kv(KeyValue {
+            op_type: OpType::Put,
+            key_at: row[2] as usize,
+            key_len: row[3] as usize,
+            value,
+            file_id,
+        }),
+    }
 }
 
 // Carries out a deed on a group, with nothing to go back to.
@@ -169,28 +178,36 @@ fn told(answer: Result<(), Cause>) -> Result<(), Refusal>
     })
 }
 
-// Carries out a batch of one such list. It and `run_put` know what kind of item they have where its deed is told.
-pub fn run_list(
+// Carries out a batch of one item. LLVM takes this into its callers, which know what kind of item they have where its deed is told.
+#[inline(always)]
+fn run_single(
     xs: &mut [u64],
     bs: &mut [u8],
     call: Call,
-    items: &[u64],
-    entries: &[u64],
-    bytes: &[u8],
+    batch: &LogBatch,
+    item: LogItem,
 ) -> Result<(), Refusal>
     requires formed { Formed xs.old bs.old }
-    requires single { Single call (list_item items.now) items.now entries.now bytes.now }
+    requires single { Single call item batch.now.items.now batch.now.entries.now batch.now.bytes.now }
     requires keeping { Keeping (call_of call) (context_of xs.old bs.old) }
-    ensures { Answered (run limited (call_of call) (placed_from 0 (items_of items.now entries.now bytes.now))) xs.old bs.old result xs.new bs.new }
+    ensures { Answered (run limited (call_of call) (placed_from 0 (items_in batch.now))) xs.old bs.old result xs.new bs.new }
 {
-    let group = items[0];
-    let content = list_content(items);
-    let deed = deed_of(call, content, entries, bytes);
-    let rows = rows_in(content, entries);
-    let key = key_in(content, bytes);
-    let value = value_in(content, bytes);
-    let answer = act_alone(xs, bs, group, deed, rows, key, value);
-    told(answer)
+    let content = item.content;
+    let deed = deed_of(call, content, batch.entries, batch.bytes);
+    let rows = rows_in(content, batch.entries);
+    let key = key_in(content, batch.bytes);
+    let value = value_in(content, batch.bytes);
+    told(act_alone(xs, bs, item.raft_group_id, deed, rows, key, value))
+}
+
+// Carries out a batch of one such list.
+pub fn run_list(xs: &mut [u64], bs: &mut [u8], call: Call, batch: &LogBatch) -> Result<(), Refusal>
+    requires formed { Formed xs.old bs.old }
+    requires single { Single call (list_item batch.now.items.now) batch.now.items.now batch.now.entries.now batch.now.bytes.now }
+    requires keeping { Keeping (call_of call) (context_of xs.old bs.old) }
+    ensures { Answered (run limited (call_of call) (placed_from 0 (items_in batch.now))) xs.old bs.old result xs.new bs.new }
+{
+    run_single(xs, bs, call, batch, list_item(batch.items))
 }
 
 // The call of an append, live or replayed.
@@ -208,21 +225,19 @@ pub fn append_list(
     xs: &mut [u64],
     bs: &mut [u8],
     live: bool,
-    items: &[u64],
-    entries: &[u64],
-    bytes: &[u8],
+    batch: &LogBatch,
 ) -> Result<(), Refusal>
     requires formed { Formed xs.old bs.old }
-    requires single_list { SingleList (append_call live) items.now entries.now bytes.now }
+    requires single_list { SingleList (append_call live) batch.now.items.now batch.now.entries.now batch.now.bytes.now }
     requires keeping { Keeping (call_of (append_call live)) (context_of xs.old bs.old) }
-    ensures { Answered (run limited (call_of (append_call live)) (placed_from 0 (items_of items.now entries.now bytes.now))) xs.old bs.old result xs.new bs.new }
+    ensures { Answered (run limited (call_of (append_call live)) (placed_from 0 (items_in batch.now))) xs.old bs.old result xs.new bs.new }
 {
-    let group = items[0];
+    let group = batch.items[0];
     let slot = groups::find(xs, group);
     let Slot::At(k) = slot else {
-        return run_list(xs, bs, append_call(live), items, entries, bytes);
+        return run_list(xs, bs, append_call(live), batch);
     };
-    let rows = rows_in(list_content(items), entries);
+    let rows = rows_in(list_item(batch.items).content, batch.entries);
     told(groups::append_at(xs, bs, k, group, rows[0], rows, live))
 }
 
@@ -232,51 +247,28 @@ pub fn rewrite_list(
     bs: &mut [u8],
     gate: Option<u64>,
     seq: u64,
-    items: &[u64],
-    entries: &[u64],
-    bytes: &[u8],
+    batch: &LogBatch,
 ) -> Result<(), Refusal>
     requires formed { Formed xs.old bs.old }
-    requires single_list { SingleList (Call.LiveRewrite gate seq) items.now entries.now bytes.now }
+    requires single_list { SingleList (Call.LiveRewrite gate seq) batch.now.items.now batch.now.entries.now batch.now.bytes.now }
     requires keeping { Keeping (call_of (Call.LiveRewrite gate seq)) (context_of xs.old bs.old) }
-    ensures { Answered (run limited (call_of (Call.LiveRewrite gate seq)) (placed_from 0 (items_of items.now entries.now bytes.now))) xs.old bs.old result xs.new bs.new }
+    ensures { Answered (run limited (call_of (Call.LiveRewrite gate seq)) (placed_from 0 (items_in batch.now))) xs.old bs.old result xs.new bs.new }
 {
-    let group = items[0];
+    let group = batch.items[0];
     let slot = groups::find(xs, group);
     let Slot::At(k) = slot else {
-        return run_list(
-            xs,
-            bs,
-            Call::LiveRewrite { gate, seq },
-            items,
-            entries,
-            bytes,
-        );
+        return run_list(xs, bs, Call::LiveRewrite { gate, seq }, batch);
     };
-    let rows = rows_in(list_content(items), entries);
+    let rows = rows_in(list_item(batch.items).content, batch.entries);
     told(groups::rewrite_at(xs, bs, k, group, rows[0], rows, gate))
 }
 
 // Carries out a batch of one such Put.
-pub fn run_put(
-    xs: &mut [u64],
-    bs: &mut [u8],
-    call: Call,
-    items: &[u64],
-    entries: &[u64],
-    bytes: &[u8],
-) -> Result<(), Refusal>
+pub fn run_put(xs: &mut [u64], bs: &mut [u8], call: Call, batch: &LogBatch) -> Result<(), Refusal>
     requires formed { Formed xs.old bs.old }
-    requires single { Single call (put_item call items.now) items.now entries.now bytes.now }
+    requires single { Single call (put_item call batch.now.items.now) batch.now.items.now batch.now.entries.now batch.now.bytes.now }
     requires keeping { Keeping (call_of call) (context_of xs.old bs.old) }
-    ensures { Answered (run limited (call_of call) (placed_from 0 (items_of items.now entries.now bytes.now))) xs.old bs.old result xs.new bs.new }
+    ensures { Answered (run limited (call_of call) (placed_from 0 (items_in batch.now))) xs.old bs.old result xs.new bs.new }
 {
-    let group = items[0];
-    let content = put_content(call, items);
-    let deed = deed_of(call, content, entries, bytes);
-    let rows = rows_in(content, entries);
-    let key = key_in(content, bytes);
-    let value = value_in(content, bytes);
-    let answer = act_alone(xs, bs, group, deed, rows, key, value);
-    told(answer)
+    run_single(xs, bs, call, batch, put_item(call, batch.items))
 }

@@ -1,4 +1,4 @@
-// Moves within and between lent slices; `order` has the order of bytes.
+// Moves within and between lent slices, and where something stands among slots; `order` has the order of bytes.
 #![tactic(auto)]
 
 pub mod order;
@@ -7,6 +7,14 @@ ghost use Rattle.std.specs.Prelude.{◌≡◌, ◌+◌, ◌≤◌, length, repli
 ghost use Rattle.cells.specs.Part.{part, put};
 
 pub use order::compare_u8;
+
+// Where something stands among numbered slots: in one, or nowhere with a free one for it, or nowhere and all are used.
+#[derive(Clone, Copy)]
+pub enum Slot {
+    At(usize),
+    Free(usize),
+    Full,
+}
 
 // Copies all of `src` into `dst` from place `at`.
 #[tactic(auto, using(crate::proofs::Moves::copied))]

@@ -11,27 +11,13 @@ use log_batch::mark::is_reserved;
 use pipe_log::FileId;
 use stretch::Change;
 
-// What an item does to its group in a call: a reserved one nothing, a Clean removes it, any other changes its table.
+// What an item does to its group in a call: a reserved one nothing, a Clean removes it, any other changes its table. Contracts say by it
+// what the rules make of the table, so it is data and not a step to run.
 #[derive(Drop)]
 pub enum Deed {
     Skip,
     Clean,
     Change(Change),
-}
-
-// A part with nothing in it.
-fn no_rows(entries: &[u64]) -> &[u64]
-    ensures { result.now ≡ [] }
-{
-    let none = 0;
-    &entries[none..none]
-}
-
-fn no_bytes(bytes: &[u8]) -> &[u8]
-    ensures { result.now ≡ [] }
-{
-    let none = 0;
-    &bytes[none..none]
 }
 
 // The rows of an item's entries.
@@ -40,13 +26,8 @@ pub fn rows_in(content: LogItemContent, entries: &[u64]) -> &[u64]
     ensures { result.now ≡ rows_in content entries.now }
 {
     match content {
-        LogItemContent::EntryIndexes(list) => {
-            let at = list.at;
-            let count = list.count;
-            entries_of(entries, at, count)
-        }
-        LogItemContent::Command(command) => no_rows(entries),
-        LogItemContent::Kv(kv) => no_rows(entries),
+        LogItemContent::EntryIndexes(list) => entries_of(entries, list.at, list.count),
+        LogItemContent::Command(_) | LogItemContent::Kv(_) => &[],
     }
 }
 
@@ -56,13 +37,8 @@ pub fn key_in(content: LogItemContent, bytes: &[u8]) -> &[u8]
     ensures { result.now ≡ key_in content bytes.now }
 {
     match content {
-        LogItemContent::EntryIndexes(list) => no_bytes(bytes),
-        LogItemContent::Command(command) => no_bytes(bytes),
-        LogItemContent::Kv(kv) => {
-            let at = kv.key_at;
-            let len = kv.key_len;
-            bytes_of(bytes, at, len)
-        }
+        LogItemContent::EntryIndexes(_) | LogItemContent::Command(_) => &[],
+        LogItemContent::Kv(kv) => bytes_of(bytes, kv.key_at, kv.key_len),
     }
 }
 
@@ -71,7 +47,7 @@ fn value_part(value: Option<Bytes>, bytes: &[u8]) -> &[u8]
     ensures { result.now ≡ value_part value bytes.now }
 {
     match value {
-        None => no_bytes(bytes),
+        None => &[],
         Some(Bytes { at, len }) => bytes_of(bytes, at, len),
     }
 }
@@ -82,12 +58,8 @@ pub fn value_in(content: LogItemContent, bytes: &[u8]) -> &[u8]
     ensures { result.now ≡ value_in content bytes.now }
 {
     match content {
-        LogItemContent::EntryIndexes(list) => no_bytes(bytes),
-        LogItemContent::Command(command) => no_bytes(bytes),
-        LogItemContent::Kv(kv) => {
-            let value = kv.value;
-            value_part(value, bytes)
-        }
+        LogItemContent::EntryIndexes(_) | LogItemContent::Command(_) => &[],
+        LogItemContent::Kv(kv) => value_part(kv.value, bytes),
     }
 }
 
@@ -157,6 +129,7 @@ fn key_deed(call: Call, kv: KeyValue) -> Deed
 }
 
 // The index of a list's first entry; of an empty list any number serves.
+#[tactic(auto, using(crate::specs::DeedLaws::none_first))]
 fn first_of(rows: &[u64]) -> u64
     ensures { result ≡ get_or rows.now 0 0 }
 {
@@ -167,6 +140,7 @@ fn first_of(rows: &[u64]) -> u64
 }
 
 // What an item does to its group.
+#[tactic(auto, unfolding(crate::specs::Deeds::deed_of))]
 pub fn deed_of(call: Call, content: LogItemContent, entries: &[u64], bytes: &[u8]) -> Deed
     requires { Within content (length entries.now) (length bytes.now) }
     ensures { result ≡ deed_of call content entries.now bytes.now }

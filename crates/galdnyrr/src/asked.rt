@@ -1,4 +1,6 @@
 // What is asked of a group's entries, for C and Rust.
+#![tactic(auto, using(crate::proofs::AskedLaws::value_same, crate::proofs::AskedLaws::found_same, crate::proofs::AskedLaws::entry_same, crate::proofs::AskedLaws::flag_same))]
+
 ghost use Rattle.std.specs.Prelude.{length};
 ghost use Rattle.rules.specs.Causes.{Ok};
 ghost use Rattle.rules.specs.Table.{first_index_of, last_index};
@@ -8,6 +10,7 @@ ghost use Rattle.contexts.specs.Contexts.{context_of, Wf};
 ghost use Rattle.galdnyrr.specs.Asked.{flagged, FoundTold, ValueTold, EntryTold};
 
 use crate::answers::{tell_count, tell_entry, tell_found, tell_some_before};
+use contexts::Area;
 
 // The index of a group's first entry.
 #[unsafe(no_mangle)]
@@ -15,7 +18,7 @@ pub extern "C" fn galdnyrr_first_index(xs: &[u64], bs: &[u8], group: u64, value:
     requires { Wf xs.now bs.now }
     ensures { FoundTold (in_group group (λ t. Ok (first_index_of t.entries)) (context_of xs.now bs.now)) value.old result value.new }
 {
-    let found = queries::first_index(xs, bs, group);
+    let found = queries::first_index(&Area { xs, bs }, group);
     tell_found(found, value)
 }
 
@@ -25,7 +28,7 @@ pub extern "C" fn galdnyrr_last_index(xs: &[u64], bs: &[u8], group: u64, value: 
     requires { Wf xs.now bs.now }
     ensures { FoundTold (in_group group (λ t. Ok (last_index t.entries)) (context_of xs.now bs.now)) value.old result value.new }
 {
-    let found = queries::last_index(xs, bs, group);
+    let found = queries::last_index(&Area { xs, bs }, group);
     tell_found(found, value)
 }
 
@@ -35,7 +38,7 @@ pub extern "C" fn galdnyrr_rewrite_count(xs: &[u64], bs: &[u8], group: u64, valu
     requires { Wf xs.now bs.now }
     ensures { ValueTold (in_group group (λ t. Ok (rewrite_count t)) (context_of xs.now bs.now)) value.old result value.new }
 {
-    let counted = queries::rewrite_count(xs, bs, group);
+    let counted = queries::rewrite_count(&Area { xs, bs }, group);
     tell_count(counted, value)
 }
 
@@ -45,7 +48,7 @@ pub extern "C" fn galdnyrr_entry_count(xs: &[u64], bs: &[u8], group: u64, value:
     requires { Wf xs.now bs.now }
     ensures { ValueTold (in_group group (λ t. Ok (length t.entries)) (context_of xs.now bs.now)) value.old result value.new }
 {
-    let counted = queries::entry_count(xs, bs, group);
+    let counted = queries::entry_count(&Area { xs, bs }, group);
     tell_count(counted, value)
 }
 
@@ -61,7 +64,7 @@ pub extern "C" fn galdnyrr_get_entry(
     requires { Wf xs.now bs.now }
     ensures { EntryTold (in_group group (λ t. Ok (get_entry index t)) (context_of xs.now bs.now)) row.old result row.new }
 {
-    let found = queries::get_entry(xs, bs, group, index);
+    let found = queries::get_entry(&Area { xs, bs }, group, index);
     tell_entry(found, row)
 }
 
@@ -78,6 +81,6 @@ pub extern "C" fn galdnyrr_has_at_least_some_entries_before(
     requires { Wf xs.now bs.now }
     ensures { ValueTold (flagged (in_group group (has_at_least_some_entries_before gate count) (context_of xs.now bs.now))) value.old result value.new }
 {
-    let answer = queries::has_at_least_some_entries_before(xs, bs, group, gate, count);
+    let answer = queries::has_at_least_some_entries_before(&Area { xs, bs }, group, gate, count);
     tell_some_before(answer, value)
 }

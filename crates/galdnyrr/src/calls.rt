@@ -7,6 +7,7 @@ ghost use Rattle.contexts.specs.Contexts.{context_of, Wf, FreshArea};
 ghost use Rattle.galdnyrr.specs.Told.{file_of, gate_or, Told};
 
 use crate::numbers::{file_of, gate_of, tell};
+use index::{Area, LogBatch};
 use pipe_log::LogQueue;
 
 // Makes a fresh context of a queue, whatever the area held.
@@ -33,7 +34,12 @@ pub extern "C" fn galdnyrr_replay(
     requires { Wf xs.old bs.old }
     ensures { Told (rules·calls.replay (batch_of (file_of queue seq) items.now entries.now bytes.now)) xs.old bs.old result place.new xs.new bs.new }
 {
-    let answer = index::replay(xs, bs, file_of(queue, seq), items, entries, bytes);
+    let batch = LogBatch {
+        items,
+        entries,
+        bytes,
+    };
+    let answer = index::replay(xs, bs, file_of(queue, seq), &batch);
     tell(answer, place)
 }
 
@@ -50,7 +56,7 @@ pub extern "C" fn galdnyrr_merge(
     requires wf_2 { Wf ys.now cs.now }
     ensures { Told (rules·calls.merge (context_of ys.now cs.now)) xs.old bs.old result place.new xs.new bs.new }
 {
-    let answer = index::merge(xs, bs, ys, cs);
+    let answer = index::merge(xs, bs, &Area { xs: ys, bs: cs });
     tell(answer, place)
 }
 
@@ -67,7 +73,7 @@ pub extern "C" fn galdnyrr_join(
     requires wf_2 { Wf ys.now cs.now }
     ensures { Told (rules·calls.join (context_of ys.now cs.now)) xs.old bs.old result place.new xs.new bs.new }
 {
-    let answer = index::join(xs, bs, ys, cs);
+    let answer = index::join(xs, bs, &Area { xs: ys, bs: cs });
     tell(answer, place)
 }
 
@@ -86,7 +92,12 @@ pub extern "C" fn galdnyrr_append(
     requires { Wf xs.old bs.old }
     ensures { Told (rules·calls.append (batch_of (file_of queue seq) items.now entries.now bytes.now)) xs.old bs.old result place.new xs.new bs.new }
 {
-    let answer = index::append(xs, bs, file_of(queue, seq), items, entries, bytes);
+    let batch = LogBatch {
+        items,
+        entries,
+        bytes,
+    };
+    let answer = index::append(xs, bs, file_of(queue, seq), &batch);
     tell(answer, place)
 }
 
@@ -107,14 +118,11 @@ pub extern "C" fn galdnyrr_rewrite(
     requires { Wf xs.old bs.old }
     ensures { Told (rules·calls.rewrite (gate_or gated gate) (batch_of (file_of queue seq) items.now entries.now bytes.now)) xs.old bs.old result place.new xs.new bs.new }
 {
-    let answer = index::rewrite(
-        xs,
-        bs,
-        gate_of(gated, gate),
-        file_of(queue, seq),
+    let batch = LogBatch {
         items,
         entries,
         bytes,
-    );
+    };
+    let answer = index::rewrite(xs, bs, gate_of(gated, gate), file_of(queue, seq), &batch);
     tell(answer, place)
 }

@@ -1,4 +1,6 @@
 // Fetches of a group's records into lent slices, one for each field, for C and Rust. The lent list is as long as the shortest of them.
+#![tactic(auto, using(crate::proofs::AskedLaws::entries_told, crate::proofs::AskedLaws::fetch_told))]
+
 ghost use Rattle.rules.specs.Causes.{Ok};
 ghost use Rattle.rules.specs.TableQueries.{fetch_entries_to, fetch_entry_indexes_before, fetch_rewritten_entry_indexes};
 ghost use Rattle.rules.specs.Queries.{in_group};
@@ -9,6 +11,7 @@ ghost use Rattle.galdnyrr.specs.Asked.{EntriesTold};
 
 use crate::answers::tell_count;
 use crate::numbers::gate_of;
+use contexts::Area;
 
 // Fetches a group's entries with indexes in [begin, end), up to a size.
 #[unsafe(no_mangle)]
@@ -34,8 +37,7 @@ pub extern "C" fn galdnyrr_fetch_entries_to(
     ensures { EntriesTold (in_group group (fetch_entries_to begin end (gate_or sized max_size)) (context_of xs.now bs.now)) (columns index.old queue.old seq.old offset.old len.old compression.old entry_offset.old entry_len.old) count.old result count.new (columns index.new queue.new seq.new offset.new len.new compression.new entry_offset.new entry_len.new) }
 {
     let fetched = columns::fetch_entries_to(
-        xs,
-        bs,
+        &Area { xs, bs },
         group,
         begin,
         end,
@@ -73,8 +75,7 @@ pub extern "C" fn galdnyrr_fetch_entry_indexes_before(
     ensures { EntriesTold (in_group group (λ t. Ok (fetch_entry_indexes_before gate t)) (context_of xs.now bs.now)) (columns index.old queue.old seq.old offset.old len.old compression.old entry_offset.old entry_len.old) count.old result count.new (columns index.new queue.new seq.new offset.new len.new compression.new entry_offset.new entry_len.new) }
 {
     let fetched = columns::fetch_entry_indexes_before(
-        xs,
-        bs,
+        &Area { xs, bs },
         group,
         gate,
         index,
@@ -109,8 +110,7 @@ pub extern "C" fn galdnyrr_fetch_rewritten_entry_indexes(
     ensures { EntriesTold (in_group group (λ t. Ok (fetch_rewritten_entry_indexes t)) (context_of xs.now bs.now)) (columns index.old queue.old seq.old offset.old len.old compression.old entry_offset.old entry_len.old) count.old result count.new (columns index.new queue.new seq.new offset.new len.new compression.new entry_offset.new entry_len.new) }
 {
     let fetched = columns::fetch_rewritten_entry_indexes(
-        xs,
-        bs,
+        &Area { xs, bs },
         group,
         index,
         queue,

@@ -1,4 +1,6 @@
 // What is asked of a group's keys and files, for C and Rust.
+#![tactic(auto, using(crate::proofs::AskedLaws::value_same, crate::proofs::AskedLaws::keys_told))]
+
 ghost use Rattle.std.specs.Prelude.{◌≡◌, length, option_copied};
 ghost use Rattle.rules.specs.Causes.{Ok};
 ghost use Rattle.rules.specs.TableQueries.{get_key, min_file_seq};
@@ -11,6 +13,7 @@ ghost use Rattle.galdnyrr.specs.Asked.{ValueTold, FoundTold, KeysTold, GotTold};
 
 use crate::answers::{ABSENT, tell_count, tell_found};
 use cells::copy_in;
+use contexts::Area;
 use pipe_log::{Cause, LogQueue};
 
 // The number of a group's keys.
@@ -19,7 +22,7 @@ pub extern "C" fn galdnyrr_key_count(xs: &[u64], bs: &[u8], group: u64, value: &
     requires { Wf xs.now bs.now }
     ensures { ValueTold (in_group group (λ t. Ok (length t.keys)) (context_of xs.now bs.now)) value.old result value.new }
 {
-    let counted = queries::key_count(xs, bs, group);
+    let counted = queries::key_count(&Area { xs, bs }, group);
     tell_count(counted, value)
 }
 
@@ -35,7 +38,7 @@ pub extern "C" fn galdnyrr_min_file_seq(
     requires { Wf xs.now bs.now }
     ensures { FoundTold (in_group group (λ t. Ok (min_file_seq (queue_at queue) t)) (context_of xs.now bs.now)) value.old result value.new }
 {
-    let found = queries::min_file_seq(xs, bs, group, LogQueue::from(queue));
+    let found = queries::min_file_seq(&Area { xs, bs }, group, LogQueue::from(queue));
     tell_found(found, value)
 }
 
@@ -52,7 +55,7 @@ pub extern "C" fn galdnyrr_get(
     requires { Wf xs.now bs.now }
     ensures { GotTold (in_group group (λ t. Ok (get_key key.now t)) (context_of xs.now bs.now)) out.old len.old result out.new len.new }
 {
-    match queries::get(xs, bs, group, key) {
+    match queries::get(&Area { xs, bs }, group, key) {
         Ok(None) => ABSENT,
         Ok(Some(value)) => {
             if out.len() < value.len() {
@@ -66,7 +69,7 @@ pub extern "C" fn galdnyrr_get(
     }
 }
 
-// A bound that may be lent: none, or its bytes.
+// A bound that may be lent: none, or its bytes. C has no `Option`, so a flag goes beside them.
 #[tactic(auto, unfolding(kvs::specs::Calls::given))]
 fn bytes_if(there: bool, bytes: &[u8]) -> Option<&[u8]>
     ensures { option_copied result ≡ given there bytes.now }
@@ -96,7 +99,16 @@ pub extern "C" fn galdnyrr_scan(
 {
     let from = bytes_if(started, start);
     let to = bytes_if(ended, end);
-    let fetched = queries::scan(xs, bs, group, from, to, backwards, most, lens, out);
+    let fetched = queries::scan(
+        &Area { xs, bs },
+        group,
+        from,
+        to,
+        backwards,
+        most,
+        lens,
+        out,
+    );
     tell_count(fetched, count)
 }
 
@@ -114,7 +126,7 @@ pub extern "C" fn galdnyrr_fetch_kvs_before(
     requires { Wf xs.now bs.now }
     ensures { KeysTold (in_group group (λ t. Ok (rules.fetch_kvs_before gate t)) (context_of xs.now bs.now)) lens.old out.old count.old result count.new lens.new out.new }
 {
-    let fetched = queries::fetch_kvs_before(xs, bs, group, gate, lens, out);
+    let fetched = queries::fetch_kvs_before(&Area { xs, bs }, group, gate, lens, out);
     tell_count(fetched, count)
 }
 
@@ -131,6 +143,6 @@ pub extern "C" fn galdnyrr_fetch_rewritten_kvs(
     requires { Wf xs.now bs.now }
     ensures { KeysTold (in_group group (λ t. Ok (rules.fetch_rewritten_kvs t)) (context_of xs.now bs.now)) lens.old out.old count.old result count.new lens.new out.new }
 {
-    let fetched = queries::fetch_rewritten_kvs(xs, bs, group, lens, out);
+    let fetched = queries::fetch_rewritten_kvs(&Area { xs, bs }, group, lens, out);
     tell_count(fetched, count)
 }

@@ -20,7 +20,7 @@ pub fn file_of(queue: u64, seq: u64) -> FileId
     }
 }
 
-// A gate or a bound: none, or a number.
+// A gate or a bound: none, or a number. C has no `Option`, so a flag goes beside the number.
 #[tactic(auto, unfolding(crate::specs::Told::gate_or))]
 pub fn gate_of(gated: bool, gate: u64) -> Option<u64>
     ensures { result ≡ gate_or gated gate }

@@ -1,4 +1,6 @@
 // Fetches of a group's records into a lent list of rows of eight numbers, for C and Rust.
+#![tactic(auto, using(crate::proofs::AskedLaws::rows_told, crate::proofs::AskedLaws::rows_to_told))]
+
 ghost use Rattle.rules.specs.Causes.{Ok};
 ghost use Rattle.rules.specs.TableQueries.{fetch_entries_to, fetch_entry_indexes_before, fetch_rewritten_entry_indexes};
 ghost use Rattle.rules.specs.Queries.{in_group};
@@ -8,6 +10,7 @@ ghost use Rattle.galdnyrr.specs.Asked.{RowsTold};
 
 use crate::answers::tell_count;
 use crate::numbers::gate_of;
+use contexts::Area;
 
 // Fetches a group's entries with indexes in [begin, end), up to a size.
 #[unsafe(no_mangle)]
@@ -25,7 +28,14 @@ pub extern "C" fn galdnyrr_fetch_records_to(
     requires { Wf xs.now bs.now }
     ensures { RowsTold (in_group group (fetch_entries_to begin end (gate_or sized max_size)) (context_of xs.now bs.now)) out.old count.old result count.new out.new }
 {
-    let fetched = records::fetch_rows_to(xs, bs, group, begin, end, gate_of(sized, max_size), out);
+    let fetched = records::fetch_rows_to(
+        &Area { xs, bs },
+        group,
+        begin,
+        end,
+        gate_of(sized, max_size),
+        out,
+    );
     tell_count(fetched, count)
 }
 
@@ -42,7 +52,7 @@ pub extern "C" fn galdnyrr_fetch_records_before(
     requires { Wf xs.now bs.now }
     ensures { RowsTold (in_group group (λ t. Ok (fetch_entry_indexes_before gate t)) (context_of xs.now bs.now)) out.old count.old result count.new out.new }
 {
-    let fetched = records::fetch_rows_before(xs, bs, group, gate, out);
+    let fetched = records::fetch_rows_before(&Area { xs, bs }, group, gate, out);
     tell_count(fetched, count)
 }
 
@@ -58,6 +68,6 @@ pub extern "C" fn galdnyrr_fetch_rewritten_records(
     requires { Wf xs.now bs.now }
     ensures { RowsTold (in_group group (λ t. Ok (fetch_rewritten_entry_indexes t)) (context_of xs.now bs.now)) out.old count.old result count.new out.new }
 {
-    let fetched = records::fetch_rewritten_rows(xs, bs, group, out);
+    let fetched = records::fetch_rewritten_rows(&Area { xs, bs }, group, out);
     tell_count(fetched, count)
 }

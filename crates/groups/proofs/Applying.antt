@@ -33,7 +33,7 @@ use Rattle.stretch.specs.declared.Change.{Change}
 use Rattle.stretch.specs.Reach.{entry_most, row_from, writes_keys, LeavesAt, Leaves}
 use Rattle.stretch.specs.ReachLaws.{leaves-short}
 use Rattle.stretch.specs.Laws.{wf_any, changed-short, changed-cell, make-cell}
-use Rattle.groups.specs.declared.Slot.TheVariants.{At, Free, Full}
+use Rattle.cells.specs.declared.Slot.TheVariants.{At, Free, Full}
 use Rattle.groups.specs.Area.{slots, numbers_in_use, bytes_in_use, stretch_at, bytes_at, cell_at, cells, groups_of, Wf, Only, AtSlot, FreeSlot, NoSlot, OnlySlot}
 use Rattle.groups.specs.AreaLaws.{length-cells, get_or-cells, only_none, only-put, only-again, only-cells, only_wf}
 use Rattle.groups.specs.Calls.{on_group, ChangedAt, ChangedGroup, RemovedGroup, RowsStay, LeavesStretch, ChangeLeaves, LeavesSlot, RemovalLeaves}
@@ -97,9 +97,9 @@ width : (a w : ℕ) → a + w - a ≡ w
 width a w = omega arith
 
 -- the numbers and the bytes of stretch k that are lent
-pub lent-numbers : (k : ℕ) (xs : List ℕ) → take (k * stretch_width + stretch_width - k * stretch_width) (drop (k * stretch_width) xs) ≡ stretch_at k xs
+pub lent_numbers : (k : ℕ) (xs : List ℕ) → take (k * stretch_width + stretch_width - k * stretch_width) (drop (k * stretch_width) xs) ≡ stretch_at k xs
 unfolding stretch_at part
-lent-numbers k xs = rw (width (k * stretch_width) stretch_width)
+lent_numbers k xs = rw (width (k * stretch_width) stretch_width)
 
 pub lent-bytes : (k : ℕ) (bs : List ℕ) → take (k * bytes_width + bytes_width - k * bytes_width) (drop (k * bytes_width) bs) ≡ bytes_at k bs
 unfolding bytes_at part
@@ -115,7 +115,7 @@ unfolding stretch_at bytes_at
 changed_back by k xs bs r p b l x y kp kb c =
     let u : length (stretch_at k xs) ≡ stretch_width = length_part (k * stretch_width) stretch_width xs (omega arith) in
     let v : length (bytes_at k bs) ≡ bytes_width = length_part (k * bytes_width) bytes_width bs (omega arith) in
-    let d : Changed by (stretch_at k xs) (bytes_at k bs) r p b = changed-short u v (rw (lent-numbers k xs) at kp) (rw (lent-bytes k bs) at kb) (rw (lent-numbers k xs, lent-bytes k bs) at c) in
+    let d : Changed by (stretch_at k xs) (bytes_at k bs) r p b = changed-short u v (rw (lent_numbers k xs) at kp) (rw (lent-bytes k bs) at kb) (rw (lent_numbers k xs, lent-bytes k bs) at c) in
     let m = d.wf.numbers.numbers-are in
     let n = d.wf.bytes-are in
     let s : stretch_at k (put xs (k * stretch_width) p) ≡ p = part-put_same stretch_width xs (k * stretch_width) p m (omega arith) in
@@ -131,12 +131,12 @@ unfolding stretch_at bytes_at
 leaves_back c k xs bs p b l x y kp kb v =
     let u : length (stretch_at k xs) ≡ stretch_width = length_part (k * stretch_width) stretch_width xs (omega arith) in
     let w : length (bytes_at k bs) ≡ bytes_width = length_part (k * bytes_width) bytes_width bs (omega arith) in
-    let i = rw (lent-numbers k xs) at kp in
+    let i = rw (lent_numbers k xs) at kp in
     let j = rw (lent-bytes k bs) at kb in
     let m : length p ≡ stretch_width = i ∙ u in
     let n : length b ≡ bytes_width = j ∙ w in
     rw (loan-put (k * stretch_width) _ xs p (m ∙ sym (width (k * stretch_width) stretch_width)), loan-put (k * bytes_width) _ bs b (n ∙ sym (width (k * bytes_width) bytes_width)), part-put_same stretch_width xs (k * stretch_width) p m (omega arith), part-put_same bytes_width bs (k * bytes_width) b n (omega arith))
-    (leaves-short u i (rw (lent-numbers k xs, lent-bytes k bs) at v))
+    (leaves-short u i (rw (lent_numbers k xs, lent-bytes k bs) at v))
 
 -- ---- what a change of the header leaves
 
@@ -244,7 +244,7 @@ at-leaves c by k xs bs r xs' bs' a v =
 module _ (g k : ℕ) (xs bs : List ℕ) (w : Wf xs bs) (a : AtSlot g xs k) where
   -- the stretch that is lent is as it must be
   pub lent_wf : stretch.WfAt keys_at (take (k * stretch_width + stretch_width - k * stretch_width) (drop (k * stretch_width) xs)) (take (k * bytes_width + bytes_width - k * bytes_width) (drop (k * bytes_width) bs))
-  lent_wf = rw (lent-numbers k xs, lent-bytes k bs) (wf_any _ _ (w.used k a.inside a.used))
+  lent_wf = rw (lent_numbers k xs, lent-bytes k bs) (wf_any _ _ (w.used k a.inside a.used))
 
   -- the bytes, of which none is changed, laid back
   bytes_back : put_mid (k * bytes_width) (k * bytes_width + bytes_width - k * bytes_width) bs (take (k * bytes_width + bytes_width - k * bytes_width) (drop (k * bytes_width) bs)) ≡ bs

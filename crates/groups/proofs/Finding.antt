@@ -10,7 +10,6 @@ use lib.Dec.{eqb}
 use lib.ListN.{get_or}
 use Rattle.std.specs.Prelude.{Option, None, Some}
 use Rattle.std.specs.Option.{option_or}
-use Rattle.std.proofs.lemmas.Option.{none-some}
 use Rattle.maps.specs.Lists.{or_else}
 use Rattle.maps.specs.ListLaws.{some-none}
 use borrow.Author.Tests.{eq-eqb, ne_eqb, eqb-true, eqb-false}
@@ -18,7 +17,7 @@ use Rattle.cells.specs.PartLaws.{get_or-part}
 use Rattle.maps.specs.OrderLaws.{split}
 use Rattle.stretch.specs.Layout.{stretch_width}
 use Rattle.stretch.specs.Stretch.{is_used, group_in}
-use Rattle.groups.specs.declared.Slot.TheVariants.{At, Free, Full}
+use Rattle.cells.specs.declared.Slot.TheVariants.{At, Free, Full}
 use Rattle.groups.specs.Area.{slots, stretch_at, is_of, Found}
 
 -- each stretch is reached
@@ -59,15 +58,6 @@ pub record Passed (g : ℕ) (xs : List ℕ) (s : ℕ) (free : Option ℕ) (i : �
   pub none : free ≡ None → (j : ℕ) → j < i → is_used (stretch_at ((s + j) % slots) xs) ≡ true
   pub some : (k : ℕ) → free ≡ Some k → (k < slots) × (is_used (stretch_at k xs) ≡ false)
   pub absent : (j : ℕ) → j < i → is_of g (stretch_at ((s + j) % slots) xs) ≡ false
-
-pub passed_none : (g : ℕ) (xs : List ℕ) (s : ℕ) → s < slots → Passed g xs s None 0
-passed_none g xs s h =
-    record {
-      start = h;
-      none = λ e j l. absurd (omega arith);
-      some = λ k e. absurd (none-some k e);
-      absent = λ j l. absurd (omega arith);
-    }
 
 module _ (g : ℕ) (xs : List ℕ) (s : ℕ) (free : Option ℕ) (i : ℕ) (b : i < slots) (p : Passed g xs s free i) where
   -- what holds of the stretches passed and of this one

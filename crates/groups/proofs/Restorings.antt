@@ -18,7 +18,7 @@ use Rattle.groups.specs.Laws.{free-cell, freed}
 use Rattle.groups.specs.Undo.{mark_at, low_of, has_keys, back_bytes, back_at, back_bytes_at, Restorable, FrontBack, KeysBack, UndoneAt}
 use Rattle.groups.specs.BackLaws.{Shows, shows_it}
 use Rattle.groups.specs.UndoLaws.{undone-kept, undone-free, undone-saved}
-use Rattle.groups.proofs.Savings.{stretch-length, bytes-length, stretch-part, stretch-put, stretch-set, bytes-part, bytes-put, only-both, low_small, few-keys, entries-in, keys_in_lem}
+use Rattle.groups.proofs.Savings.{stretch-length, bytes-length, stretch-part, stretch-put, stretch-set, bytes-part, bytes-put, only-both, low_small, few-keys, entries_in, keys_in_lem}
 
 -- the first number of stretch k is written
 laid-first : (k v : ℕ) (l : List ℕ) → k * stretch_width + stretch_width ≤ length l → set l (k * stretch_width) v ≡ put l (k * stretch_width) (part (k * stretch_width) stretch_width (set l (k * stretch_width) v))
@@ -147,13 +147,13 @@ pub front-laid_back : (k : ℕ) (xs : List ℕ) → k < slots → numbers_in_use
     → zs ≡ put ys (k * stretch_width + (10 + low * 8)) (part ((slots + k) * stretch_width + (10 + low * 8)) ((len - low) * 8) ys)
     → FrontBack k xs (set zs (k * stretch_width) 1)
 front-laid_back k xs l p low few n len ys zs a b c d =
-    rw (d, c, ← b, a, ← entries-in (slots + k) xs (omega arith)) (front_back k xs l p low few)
+    rw (d, c, ← b, a, ← entries_in (slots + k) xs (omega arith)) (front_back k xs l p low few)
 
-pub keys-laid_back : (k : ℕ) (xs bs : List ℕ) → k < slots → (n : ℕ) (ys ds : List ℕ) → get_or xs ((slots + k) * stretch_width + 8) 0 ≡ n
+pub keys_laid_back : (k : ℕ) (xs bs : List ℕ) → k < slots → (n : ℕ) (ys ds : List ℕ) → get_or xs ((slots + k) * stretch_width + 8) 0 ≡ n
     → ys ≡ put xs (k * stretch_width + 522) (part ((slots + k) * stretch_width + 522) (n * 4) xs)
     → ds ≡ put bs (k * bytes_width) (part ((slots + k) * bytes_width) (n * 64) bs)
     → KeysBack k xs bs ys ds
-keys-laid_back k xs bs l n ys ds c e i =
+keys_laid_back k xs bs l n ys ds c e i =
     let z : key_count (stretch_at (slots + k) xs) ≡ n = keys_in_lem (slots + k) xs (omega arith) ∙ c in
     record { numbers = rw z e; bytes = rw z i }
 
@@ -197,8 +197,8 @@ module _ (k : ℕ) (xs bs : List ℕ) (r : Restorable k xs bs) where
     front_fits : numbers_in_use ≤ length ys
     front_fits = omega (arith, only-length small r.numbers_fit r.bytes_fit only-front, r.numbers_fit)
 
-    pub front-ready : (numbers_in_use ≤ length ys) × (key_count (stretch_at (slots + k) ys) ≤ 16)
-    front-ready =
+    pub front_ready : (numbers_in_use ≤ length ys) × (key_count (stretch_at (slots + k) ys) ≤ 16)
+    front_ready =
         let s = only-other small r.numbers_fit r.bytes_fit only-front (slots + k) (λ e. omega arith) in
         (front_fits, rw s.numbers (few-keys k xs bs r h))
 

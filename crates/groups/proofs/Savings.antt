@@ -56,9 +56,9 @@ module _ (k : ℕ) (l : k < 16) where
   bytes-put bs s h q = rw (add-zero (k * bytes_width)) at (part-put-around (k * bytes_width) bytes_width bs 0 s (omega arith) (omega arith))
 
 -- the header's numbers of entries and of keys
-pub entries-in : (k : ℕ) (xs : List ℕ) → k < 16 → (head_part (stretch_at k xs)).len ≡ get_or xs (k * stretch_width + 3) 0
+pub entries_in : (k : ℕ) (xs : List ℕ) → k < 16 → (head_part (stretch_at k xs)).len ≡ get_or xs (k * stretch_width + 3) 0
 unfolding head_part
-entries-in k xs l = sym (stretch_at_lem k l 3 xs (omega arith))
+entries_in k xs l = sym (stretch_at_lem k l 3 xs (omega arith))
 
 pub keys_in_lem : (k : ℕ) (xs : List ℕ) → k < 16 → key_count (stretch_at k xs) ≡ get_or xs (k * stretch_width + 8) 0
 unfolding key_count
@@ -181,7 +181,7 @@ header-saved k xs bs zs r u z e =
     let g = headed_back (stretch_at k xs) (bytes_at k bs) s (bytes_at (slots + k) bs) a b u w c in
     let len = len-headed (stretch_at k xs) (bytes_at k bs) s (bytes_at (slots + k) bs) a b u w c in
     let few = entries-few (stretch_at k xs) (bytes_at k bs) w in
-    rw (e, ← entries-in k xs (omega arith))
+    rw (e, ← entries_in k xs (omega arith))
     (record {
       kept =
           kept_by_lem k xs bs (set ys ((slots + k) * stretch_width) v) bs r o v (set (put s 1 (part 1 9 (stretch_at k xs))) 0 v) (bytes_at (slots + k) bs) x y refl
@@ -405,6 +405,11 @@ module _ (k : ℕ) (xs bs : List ℕ) (r : Restorable k xs bs) where
 
   pub few-keys : 2 ≤ mark_at k xs → key_count spare ≤ 16
   few-keys h = (back-room (mark_at k xs) live (bytes_at k bs) spare (bytes_at (slots + k) bs) length-live length-spare (low_small h) (was_wf h)).1
+
+  -- no more keys are copied than a stretch has
+  pub few-copied : 1 ≤ get_or xs ((slots + k) * stretch_width) 0 → (get_or xs ((slots + k) * stretch_width) 0 % 2 ≡ 1 → ⊥) → get_or xs ((slots + k) * stretch_width + 8) 0 ≤ 16
+  unfolding mark_at
+  few-copied a b = let h = few-keys (omega arith) in omega (arith, h, keys_in_lem (slots + k) xs (omega (arith, r.inside)))
 
   pub rows-saved : (n : ℕ) (ws : List ℕ) → 2 ≤ mark_at k xs → n < low_of (mark_at k xs)
       → ws ≡ put xs ((slots + k) * stretch_width + (10 + n * 8)) (part (k * stretch_width + (10 + n * 8)) ((low_of (mark_at k xs) - n) * 8) xs)

@@ -6,7 +6,7 @@ use mathlib.Core.Path.{◌≡◌, refl, sym, ◌∙◌}
 use Prim.Native.Nat.{ℕ, ◌+◌, ◌*◌, ◌≤◌, ◌<◌}
 use native.Mathlib.Omega.{arith}
 use lib.Dec.{eqb}
-use lib.ListN.{length, set}
+use lib.ListN.{set}
 use borrow.Author.Tests.{eqb-true, eqb-false}
 use Rattle.maps.specs.BoolLaws.{clash}
 use Rattle.maps.specs.OrderLaws.{split}
@@ -14,23 +14,18 @@ use Rattle.stretch.specs.Layout.{stretch_width}
 use Rattle.stretch.specs.Stretch.{is_used, head_part}
 use Rattle.stretch.specs.declared.Change.{Change}
 use Rattle.stretch.specs.Reach.{row_from, writes_keys}
-use Rattle.groups.specs.declared.Slot.TheVariants.{At, Free, Full}
+use Rattle.cells.specs.declared.Slot.TheVariants.{At, Free, Full}
 use Rattle.groups.specs.Area.{slots, numbers_in_use, bytes_in_use, stretch_at, Wf}
 use Rattle.groups.specs.AreaLaws.{Same, same_back, same-cells, same_wf, first-set, only_set, only-again, only-length, only-length-bytes, only-other, only-front, only-front-bytes, only-drop, only-drop-bytes}
 use Rattle.groups.specs.Laws.{free-cell}
-use Rattle.groups.specs.Undo.{live_numbers, live_bytes, mark_at, low_of, Undoable, ReadyFor, ReadyToGo, Securing, Restorable, Kept, Marking, Lowering, KeySaving, Covering}
-use Rattle.groups.specs.UndoLaws.{by-mark, mark-is, Stays, same-stays, all_stay, undone-kept, undone-free}
+use Rattle.groups.specs.Undo.{live_numbers, live_bytes, mark_at, Undoable, ReadyFor, ReadyToGo, Securing, Restorable, Kept, Marking, Lowering, KeySaving, Covering}
+use Rattle.groups.specs.UndoLaws.{mark-is, Stays, same-stays, all_stay, undone-kept, undone-free}
 
 -- ---- one write after another
 
 pub restorable : (k : ℕ) (xs bs : List ℕ) → k < slots → Wf xs bs → Undoable xs bs → Restorable k xs bs
 restorable k xs bs l w u =
     record { inside = l; numbers_fit = w.numbers_fit; bytes_fit = w.bytes_fit; used = w.used k l; saved = u.saved k l }
-
--- no more rows are saved than a stretch has
-pub low-few : (k : ℕ) (xs bs : List ℕ) → Restorable k xs bs → low_of (mark_at k xs) ≤ 64
-low-few k xs bs r =
-    by-mark (mark_at k xs) (λ z. omega arith) (λ z. omega arith) (λ h. let v = r.saved h in omega (arith, v.rows, v.room))
 
 module _ (k : ℕ) (xs bs xs' bs' : List ℕ) (r : Restorable k xs bs) (t : Kept k xs bs xs' bs') where
   small : slots + k < 16
@@ -39,8 +34,8 @@ module _ (k : ℕ) (xs bs xs' bs' : List ℕ) (r : Restorable k xs bs) (t : Kept
   kept-live : Same k xs' bs' xs bs
   kept-live = only-other small r.numbers_fit r.bytes_fit t.only k (λ e. omega arith)
 
-  pub kept-restorable : Restorable k xs' bs'
-  kept-restorable =
+  pub kept_restorable : Restorable k xs' bs'
+  kept_restorable =
       record {
         inside = r.inside;
         numbers_fit = omega (arith, only-length small r.numbers_fit r.bytes_fit t.only, r.numbers_fit);
@@ -57,21 +52,27 @@ module _ (k : ℕ) (xs bs xs' bs' : List ℕ) (r : Restorable k xs bs) (t : Kept
         saved = v.saved;
       }
 
-  pub kept-ready : (k < slots) × (numbers_in_use ≤ length xs') × (low_of (mark_at k xs') ≤ 64)
-  kept-ready = let v = kept-restorable in (v.inside, v.numbers_fit, low-few k xs' bs' v)
-
 -- ---- the ways of `save_at` and `secure_free`
 
 -- the mark is there
 pub marked_already : (k : ℕ) (xs bs : List ℕ) → Kept k xs bs xs bs → (mark_at k xs ≡ 0 → ⊥) → Marking k xs bs xs bs
 marked_already k xs bs t m = record { kept = t; marked = omega (arith, m) }
 
-module _ (k n : ℕ) (xs bs ys zs : List ℕ) (r : Restorable k xs bs) (a : Marking k xs bs ys bs) (b : Lowering k n ys bs zs bs) where
+-- the header is saved and then the rows, as the contracts of `save_header` and `save_rows` say
+module _ (k n : ℕ) (xs bs ys zs : List ℕ) (r : Restorable k xs bs) (u : is_used (stretch_at k xs) ≡ true)
+    (header : (ds : List ℕ) → Restorable k xs ds → is_used (stretch_at k xs) ≡ true → Marking k xs ds ys ds)
+    (rows : (ds : List ℕ) → Restorable k ys ds → Lowering k n ys ds zs ds) where
+  a : Marking k xs bs ys bs
+  a = header bs r u
+
+  b : Lowering k n ys bs zs bs
+  b = rows bs (kept_restorable k xs bs ys bs r a.kept)
+
   both-kept : Kept k xs bs zs bs
   both-kept = kept_again k xs bs ys bs r a.kept zs bs b.kept
 
   pub keys-ready : Restorable k zs bs × (1 ≤ mark_at k zs)
-  keys-ready = (kept-restorable k xs bs zs bs r both-kept, b.marked a.marked)
+  keys-ready = (kept_restorable k xs bs zs bs r both-kept, b.marked a.marked)
 
   pub covering-rows : (written : Bool) → written ≡ false → Covering k n written xs bs zs bs
   covering-rows written e =
@@ -111,8 +112,8 @@ free-marked k xs bs r y z =
 -- ---- all stretches
 
 module _ (asked : List ℕ → Type 0) (xs bs : List ℕ) (w : Wf xs bs) (u : Undoable xs bs) where
-  pub nothing-secured : asked xs → Securing asked xs bs xs bs
-  nothing-secured s =
+  pub nothing_secured : asked xs → Securing asked xs bs xs bs
+  nothing_secured s =
       record {
         live = refl;
         live-bytes = refl;
@@ -174,14 +175,14 @@ module _ (k : ℕ) (xs bs xs' bs' : List ℕ) (l : k < slots) (w : Wf xs bs) (u 
 pub covering_by : (k m n : ℕ) (v w : Bool) (xs bs xs' bs' : List ℕ) → m ≡ n → v ≡ w → Covering k m v xs bs xs' bs' → Covering k n w xs bs xs' bs'
 covering_by k m n v w xs bs xs' bs' d e t = rw (d, e) at t
 
-pub full-ready : (c : Change) (xs : List ℕ) → ReadyFor c Full xs
+pub full_ready : (c : Change) (xs : List ℕ) → ReadyFor c Full xs
 unfolding ReadyFor
-full-ready c xs = tt
+full_ready c xs = tt
 
-pub free-ready : (k : ℕ) (xs : List ℕ) → ReadyToGo (Free k) xs
+pub free_ready : (k : ℕ) (xs : List ℕ) → ReadyToGo (Free k) xs
 unfolding ReadyToGo
-free-ready k xs = tt
+free_ready k xs = tt
 
-pub none-ready : (xs : List ℕ) → ReadyToGo Full xs
+pub none_ready : (xs : List ℕ) → ReadyToGo Full xs
 unfolding ReadyToGo
-none-ready xs = tt
+none_ready xs = tt

@@ -26,9 +26,6 @@ pub record Cleared (n : ℕ) (xs xs' : List ℕ) : Type 0 where
   pub behind : drop numbers_in_use xs' ≡ drop numbers_in_use xs
   pub marks : (k : ℕ) → k < n → mark_at k xs' ≡ 0
 
-pub cleared-none : (xs : List ℕ) → Cleared 0 xs xs
-cleared-none xs = record { all = refl; live = refl; behind = refl; marks = λ k l. absurd (omega arith) }
-
 pub cleared_more : (n : ℕ) (xs xs' : List ℕ) → numbers_in_use ≤ length xs → n < slots → Cleared n xs xs' → Cleared (n + 1) xs (set xs' ((slots + n) * stretch_width) 0)
 unfolding mark_at
 cleared_more n xs xs' p l c =
@@ -67,18 +64,6 @@ pub record Taken (n : ℕ) (xs bs xs' bs' : List ℕ) : Type 0 where
   pub cell : (k : ℕ) → k < n → cell_at k xs' bs' ≡ undone_cell k xs bs
   pub wf : (k : ℕ) → k < n → is_used (stretch_at k xs') ≡ true → stretch.Wf (stretch_at k xs') (bytes_at k bs')
   pub rest : (k : ℕ) → n ≤ k → Same k xs' bs' xs bs
-
-pub taken_none : (xs bs : List ℕ) → Taken 0 xs bs xs bs
-taken_none xs bs =
-    record {
-      numbers-all = refl;
-      bytes-all = refl;
-      behind = refl;
-      behind-bytes = refl;
-      cell = λ k l. absurd (omega arith);
-      wf = λ k l u. absurd (omega arith);
-      rest = λ k l. record { numbers = refl; bytes = refl };
-    }
 
 module _ (n : ℕ) (xs bs xs' bs' : List ℕ) (l : n < slots) (w : Wf xs bs) (u : Undoable xs bs) (t : Taken n xs bs xs' bs') where
   numbers_fit : numbers_in_use ≤ length xs'

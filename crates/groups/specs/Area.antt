@@ -8,8 +8,8 @@ use Rattle.rules.specs.Table.{Table}
 use Rattle.stretch.specs.Layout.{stretch_width, bytes_width}
 use Rattle.stretch.specs.Stretch.{is_used, group_in, cell_of}
 use Rattle.stretch.specs.Stretch as stretch
-use Rattle.groups.specs.declared.Slot.{Slot}
-use Rattle.groups.specs.declared.Slot.TheVariants.{At, Free, Full}
+use Rattle.cells.specs.declared.Slot.{Slot}
+use Rattle.cells.specs.declared.Slot.TheVariants.{At, Free, Full}
 
 -- how many groups there can be: 01's 8
 abbrev pub slots : ℕ

@@ -12,8 +12,8 @@ use Rattle.rules.specs.Table.{Table}
 use Rattle.stretch.specs.Layout.{stretch_width, bytes_width}
 use Rattle.stretch.specs.Stretch.{is_used}
 use Rattle.stretch.specs.Stretch as stretch
-use Rattle.groups.specs.declared.Slot.{Slot}
-use Rattle.groups.specs.declared.Slot.TheVariants.{At, Free, Full}
+use Rattle.cells.specs.declared.Slot.{Slot}
+use Rattle.cells.specs.declared.Slot.TheVariants.{At, Free, Full}
 use Rattle.groups.specs.Area.{slots, numbers_in_use, bytes_in_use, stretch_at, bytes_at, cell_at, cells_by, cells, groups_of, Wf, Only, Found}
 use Rattle.groups.specs.PlaceLaws.{laid-length, laid-front, laid-behind, laid-other, laid_none, laid_in, laid-again}
 

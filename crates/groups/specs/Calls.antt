@@ -9,8 +9,8 @@ use Rattle.stretch.specs.Changes.{outcome_as, Changed}
 use Rattle.stretch.specs.declared.Change.{Change}
 use Rattle.stretch.specs.Stretch.{head_part}
 use Rattle.stretch.specs.Reach.{entry_most, row_from, writes_keys, Leaves}
-use Rattle.groups.specs.declared.Slot.{Slot}
-use Rattle.groups.specs.declared.Slot.TheVariants.{At, Free, Full}
+use Rattle.cells.specs.declared.Slot.{Slot}
+use Rattle.cells.specs.declared.Slot.TheVariants.{At, Free, Full}
 use Rattle.groups.specs.Area.{stretch_at, bytes_at, cells, groups_of, Wf, Only, OnlySlot}
 
 -- a rule on a group's table, which is made if it is absent, and the limits of a table and of groups

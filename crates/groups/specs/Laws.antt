@@ -20,8 +20,8 @@ use Rattle.stretch.specs.Stretch.{is_used, group_in, head_part, table_in}
 use Rattle.stretch.specs.declared.Change.{Change}
 use Rattle.stretch.specs.Reach.{entry_most, row_from, writes_keys, Leaves}
 use Rattle.stretch.specs.Laws.{cell-used, cell_free, wf-fits}
-use Rattle.groups.specs.declared.Slot.{Slot}
-use Rattle.groups.specs.declared.Slot.TheVariants.{At, Free, Full}
+use Rattle.cells.specs.declared.Slot.{Slot}
+use Rattle.cells.specs.declared.Slot.TheVariants.{At, Free, Full}
 use Rattle.groups.specs.Area.{slots, numbers_in_use, bytes_in_use, stretch_at, bytes_at, cell_at, cells, groups_of, Wf, Only, is_of, AtSlot, FreeSlot, NoSlot, Found, OnlySlot}
 use Rattle.groups.specs.Calls.{RowsStay, ChangeLeaves, RemovalLeaves}
 use Rattle.groups.specs.Undo.{live_numbers, live_bytes, mark_at, low_of, undone_cells, Undoable, Covers, ReadyFor, ReadyToGo}

@@ -11,8 +11,8 @@ use Rattle.stretch.specs.Stretch.{is_used, head_part, key_count, cell_of}
 use Rattle.stretch.specs.Stretch as stretch
 use Rattle.stretch.specs.declared.Change.{Change}
 use Rattle.stretch.specs.Reach.{entry_most, row_from, writes_keys}
-use Rattle.groups.specs.declared.Slot.{Slot}
-use Rattle.groups.specs.declared.Slot.TheVariants.{At, Free, Full}
+use Rattle.cells.specs.declared.Slot.{Slot}
+use Rattle.cells.specs.declared.Slot.TheVariants.{At, Free, Full}
 use Rattle.groups.specs.Area.{slots, numbers_in_use, bytes_in_use, stretch_at, bytes_at, cell_at, cells_by, cells, Wf, Only}
 
 -- the numbers and the bytes of the stretches without the spare ones

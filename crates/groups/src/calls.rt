@@ -44,6 +44,7 @@ fn apply_at(
 }
 
 // Makes stretch k that of a group with nothing in it.
+#[tactic(auto, using(crate::proofs::Applying::made_back))]
 fn make_at(xs: &mut [u64], k: usize, group: u64)
     requires { (k < 8) × (9376 ≤ length xs.old) }
     ensures { xs.new ≡ put xs.old (k * 586) (made_header group) }

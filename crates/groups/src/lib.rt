@@ -8,11 +8,12 @@ mod search;
 mod undoing;
 
 pub use calls::{apply, remove};
+pub use cells::Slot;
 pub use entries::{append_at, rewrite_at};
 pub use search::find;
 pub use undoing::{begin, secure, secure_removal, undo};
 
-// How many groups there can be.
+// How many groups there can be. There is no heap and C lends the area, so a stretch has a fixed number of rows and counts those in use.
 pub const SLOTS: usize = 8;
 
 // The numbers and the bytes that the stretches and the spare ones take.
@@ -22,11 +23,3 @@ pub const BYTES: usize = 2 * SLOTS * stretch::BYTES;
 
 // Where the spare stretches begin in the numbers.
 pub const SPARES_AT: usize = SLOTS * stretch::STRETCH;
-
-// Where a group stands: at a stretch, or nowhere with a free stretch for it, or nowhere and all are used.
-#[derive(Clone, Copy)]
-pub enum Slot {
-    At(usize),
-    Free(usize),
-    Full,
-}

@@ -26,6 +26,7 @@ pub fn begin(xs: &mut [u64])
 }
 
 // Saves the header of stretch k, which is used, if there is no mark yet.
+#[tactic(auto, using(crate::proofs::Savings::entries_in))]
 fn save_header(xs: &mut [u64], k: usize)
     requires k_bound { (k < 8) × (9376 ≤ length xs.old) }
     requires xs_bound { (head_part (stretch_at k xs.old)).len ≤ 64 }
@@ -41,6 +42,7 @@ fn save_header(xs: &mut [u64], k: usize)
 }
 
 // Saves the rows of entries of stretch k from row `first` up to the lowest one that is saved.
+#[tactic(auto, unfolding(crate::specs::Undo::mark_at))]
 fn save_rows(xs: &mut [u64], k: usize, first: usize)
     requires k_bound { (k < 8) × (9376 ≤ length xs.old) }
     requires xs_bound { low_of (mark_at k xs.old) ≤ 64 }
@@ -96,6 +98,7 @@ fn save_at(xs: &mut [u64], bs: &mut [u8], k: usize, first: usize, keys: bool)
 }
 
 // Saves what a change overwrites in stretch k, which is used.
+#[tactic(auto, using(crate::proofs::Applying::lent_numbers, crate::proofs::Securings::covering_by))]
 fn secure_used(xs: &mut [u64], bs: &mut [u8], k: usize, change: Change)
     requires restorable { Restorable k xs.old bs.old }
     requires xs_value { is_used (stretch_at k xs.old) ≡ true }
@@ -110,6 +113,7 @@ fn secure_used(xs: &mut [u64], bs: &mut [u8], k: usize, change: Change)
 }
 
 // Marks stretch k, which is free. If it was not free before the batch, all that it held is saved.
+#[tactic(auto, using(crate::proofs::Securings::kept_restorable), unfolding(crate::specs::Undo::mark_at))]
 fn secure_free(xs: &mut [u64], bs: &mut [u8], k: usize)
     requires restorable { Restorable k xs.old bs.old }
     requires xs_value { is_used (stretch_at k xs.old) ≡ false }
@@ -125,6 +129,7 @@ fn secure_free(xs: &mut [u64], bs: &mut [u8], k: usize)
 }
 
 // Makes sure that what a change overwrites at a slot can be gone back to.
+#[tactic(auto, using(crate::proofs::Securings::nothing_secured, crate::proofs::Securings::full_ready))]
 pub fn secure(xs: &mut [u64], bs: &mut [u8], slot: Slot, group: u64, change: Change)
     requires wf { Wf xs.old bs.old }
     requires undoable { Undoable xs.old bs.old }
@@ -139,6 +144,7 @@ pub fn secure(xs: &mut [u64], bs: &mut [u8], slot: Slot, group: u64, change: Cha
 }
 
 // Makes sure that the group at a slot can be gone back to when it is removed.
+#[tactic(auto, using(crate::proofs::Securings::nothing_secured, crate::proofs::Securings::free_ready, crate::proofs::Securings::none_ready))]
 pub fn secure_removal(xs: &mut [u64], bs: &[u8], slot: Slot, group: u64)
     requires wf { Wf xs.old bs.now }
     requires undoable { Undoable xs.old bs.now }
@@ -153,6 +159,7 @@ pub fn secure_removal(xs: &mut [u64], bs: &[u8], slot: Slot, group: u64)
 }
 
 // Copies the header and the rows of entries that the spare of stretch k holds back.
+#[tactic(auto, using(crate::proofs::Savings::entries_in), unfolding(crate::specs::Undo::mark_at))]
 fn restore_front(xs: &mut [u64], k: usize)
     requires k_bound { (k < 8) × (9376 ≤ length xs.old) × (2 ≤ mark_at k xs.old) }
     requires xs_bound { (low_of (mark_at k xs.old) ≤ (head_part (stretch_at (8 + k) xs.old)).len) × ((head_part (stretch_at (8 + k) xs.old)).len ≤ 64) }
@@ -169,6 +176,7 @@ fn restore_front(xs: &mut [u64], k: usize)
 }
 
 // Copies the keys in use of the spare of stretch k back.
+#[tactic(auto, using(crate::proofs::Savings::keys_in_lem, crate::proofs::Restorings::keys_laid_back))]
 fn restore_keys(xs: &mut [u64], bs: &mut [u8], k: usize)
     requires k_bound { (k < 8) × (9376 ≤ length xs.old) × (16384 ≤ length bs.old) }
     requires xs_bound { key_count (stretch_at (8 + k) xs.old) ≤ 16 }
@@ -181,6 +189,7 @@ fn restore_keys(xs: &mut [u64], bs: &mut [u8], k: usize)
 }
 
 // Takes stretch k back.
+#[tactic(auto, using(crate::proofs::Restorings::front_ready), unfolding(crate::specs::Undo::mark_at))]
 fn undo_at(xs: &mut [u64], bs: &mut [u8], k: usize)
     requires { Restorable k xs.old bs.old }
     ensures { UndoneAt k xs.old bs.old xs.new bs.new }

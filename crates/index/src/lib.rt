@@ -3,7 +3,8 @@
 #![tactic(auto)]
 
 pub use columns::{fetch_entries_to, fetch_entry_indexes_before, fetch_rewritten_entry_indexes};
-pub use contexts::{BYTES, NUMBERS, fresh};
+pub use contexts::{Area, BYTES, NUMBERS, fresh};
+pub use log_batch::LogBatch;
 pub use merging::{join, merge};
 pub use queries::{
     entry_count, fetch_kvs_before, fetch_rewritten_kvs, first_index, get, get_entry, group_numbers,

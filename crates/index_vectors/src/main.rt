@@ -33,7 +33,8 @@ fn split_call(numbers: &[u64]) -> Option<(&[u64], &[u64])>
         .filter(|(call, _)| HEAD <= call.len())
 }
 
-// Compares the calls one after another, each on what those before it left.
+// Compares the calls one after another, each on what those before it left. A call is as long as its first number says, so no iterator
+// gives them.
 fn compare_all(
     rt: &impl Print,
     name: &str,

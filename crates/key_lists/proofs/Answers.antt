@@ -8,42 +8,28 @@ use mathlib.Core.Path.{◌≡◌, refl, sym, ap, ◌∙◌}
 use mathlib.Core.List.{List, [], ◌∷◌, map}
 use Rattle.std.specs.Prelude.{Option}
 use lib.Dec.{ltb, leb, eqb}
-use lib.ListN.{length, get_or, set, take, length-take, length-map}
+use lib.ListN.{length, set, take, length-take, length-map}
 use lib.Seq.{take_all, take-nil}
 use borrow.Author.Tests.{ltb-true, ltb-false, leb-true, leb-false, lt-ltb, le-ltb, le-leb, lt-leb, eq-eqb, ne_eqb}
 use Rattle.cells.specs.Part.{part, put}
 use Rattle.cells.specs.PartLaws.{set-put, put-snoc}
-use Rattle.pipe_log.specs.Rows.{queue_at}
 use Rattle.maps.specs.Lists.{select}
 use Rattle.maps.specs.Maps.{Map, bytes}
 use Rattle.maps.specs.OrderLaws.{split}
 use Rattle.maps.specs.MapLaws.{Ascending}
 use Rattle.maps.specs.ListLaws.{select-select, length-select}
 use Rattle.rules.specs.Causes.{BadRange, ListTooShort, ByCause, Err, Ok, refuse, and_then}
-use Rattle.rules.specs.Items.{Append, Rewrite, same_queue}
+use Rattle.rules.specs.Items.{Append, same_queue}
 use Rattle.rules.specs.Table.{Held, Table}
 use Rattle.rules.specs.TableQueries.{KeyValue, row_of, in_bounds, start_above_end, in_direction, scan, keys_of, fetch_kvs_before, fetch_rewritten_kvs}
 use Rattle.rules.specs.Queries.{answered}
 use Rattle.key_lists.specs.declared.Which.{Which}
 use Rattle.key_lists.specs.declared.Which.TheVariants.{UpTo, OfRewrite}
-use Rattle.kvs.specs.Rows.{row_at, held_of, pair_of, keys_in}
-use Rattle.kvs.specs.RowIn.{number_at}
-use Rattle.kvs.specs.Places.{below_bound}
+use Rattle.kvs.specs.Places.{pair_at, below_bound}
 use Rattle.kvs.specs.Stretches.{in-stretch}
 use Rattle.key_lists.specs.Lists.{meets, in_list, stretch, row_lens, row_bytes, laid_by, lent_lens, lent_bytes, list_from, lent_list, lens_after, bytes_after, Fetches, taken, CopyIf}
 use Rattle.kvs.proofs.Selected.{left, left_all, left-none, left-more}
 use Rattle.key_lists.proofs.Stretched.{length_direction, length-stretch}
-
--- ---- which rows
-
-module _ (i : ℕ) (rows bs : List ℕ) (which : Which) (r : Bool) where
-  pub meets_gate : (g : ℕ) → which ≡ UpTo g → r ≡ (same_queue (queue_at (get_or rows (i * 4 + 2) 0)) Append && leb (get_or rows (i * 4 + 3) 0) g) → r ≡ meets which (pair_of (row_at i rows bs))
-  unfolding meets pair_of held_of
-  meets_gate g w h = rw (w, number_at i rows bs 2 (omega arith), number_at i rows bs 3 (omega arith)) h
-
-  pub meets-rewrite : which ≡ OfRewrite → r ≡ same_queue (queue_at (get_or rows (i * 4 + 2) 0)) Rewrite → r ≡ meets which (pair_of (row_at i rows bs))
-  unfolding meets pair_of held_of
-  meets-rewrite w h = rw (w, number_at i rows bs 2 (omega arith)) h
 
 -- ---- one row copied
 
@@ -107,40 +93,40 @@ turn : (f : ℕ → KeyValue → List ℕ → List ℕ) (asked : Bool) (x : KeyV
 turn f asked x limit j h rest now l l' r e g k = rw (e, g, k) (lay_step f asked x limit j h rest l)
 
 -- what holds after s turns, with j rows written
-pub record Copying (which : Which) (n : ℕ) (rows bs : List ℕ) (b : Bool) (limit : ℕ) (lens out : List ℕ) (s j : ℕ) (lens' out' : List ℕ) : Type 0 where
+pub record Copying (which : Which) (m : Map (List ℕ) Held) (b : Bool) (limit : ℕ) (lens out : List ℕ) (s j : ℕ) (lens' out' : List ℕ) : Type 0 where
   pub below : j ≤ limit
-  pub lens-are : lent_lens j (take (limit - j) (left (meets which) n rows bs b s)) lens' ≡ lent_lens 0 (take limit (in_list which b (keys_in n rows bs))) lens
-  pub bytes-are : lent_bytes j (take (limit - j) (left (meets which) n rows bs b s)) out' ≡ lent_bytes 0 (take limit (in_list which b (keys_in n rows bs))) out
+  pub lens-are : lent_lens j (take (limit - j) (left (meets which) m b s)) lens' ≡ lent_lens 0 (take limit (in_list which b m)) lens
+  pub bytes-are : lent_bytes j (take (limit - j) (left (meets which) m b s)) out' ≡ lent_bytes 0 (take limit (in_list which b m)) out
 
-module _ (which : Which) (n : ℕ) (rows bs : List ℕ) (b : Bool) (limit : ℕ) (lens out : List ℕ) where
-  pub copying-none : Copying which n rows bs b limit lens out 0 0 lens out
+module _ (which : Which) (m : Map (List ℕ) Held) (b : Bool) (limit : ℕ) (lens out : List ℕ) where
+  pub copying-none : Copying which m b limit lens out 0 0 lens out
   unfolding in_list
   copying-none =
-      let e = left_all (meets which) n rows bs b in
+      let e = left_all (meets which) m b in
       record { below = omega arith; lens-are = rw (sub-zero limit, e); bytes-are = rw (sub-zero limit, e) }
 
-  pub copying-more : (s j i : ℕ) (lens' out' : List ℕ) → Copying which n rows bs b limit lens out s j lens' out' → s < n → i ≡ cond b (n - 1 - s) s
-      → (r : ℕ) (lens'' out'' : List ℕ) → CopyIf (meets which (pair_of (row_at i rows bs))) (row_of (pair_of (row_at i rows bs))) limit j lens' out' r lens'' out''
-      → Copying which n rows bs b limit lens out (s + 1) r lens'' out''
+  pub copying-more : (s j i : ℕ) (lens' out' : List ℕ) → Copying which m b limit lens out s j lens' out' → s < length m → i ≡ cond b (length m - 1 - s) s
+      → (r : ℕ) (lens'' out'' : List ℕ) → CopyIf (meets which (pair_at i m)) (row_of (pair_at i m)) limit j lens' out' r lens'' out''
+      → Copying which m b limit lens out (s + 1) r lens'' out''
   copying-more s j i lens' out' h q e r lens'' out'' g =
-      let asked = meets which (pair_of (row_at i rows bs)) in
-      let x = row_of (pair_of (row_at i rows bs)) in
-      let rest = left (meets which) n rows bs b (suc s) in
-      let now = left-more (meets which) n rows bs b s i q e in
+      let asked = meets which (pair_at i m) in
+      let x = row_of (pair_at i m) in
+      let rest = left (meets which) m b (suc s) in
+      let now = left-more (meets which) m b s i q e in
       record {
         below = rw g.next (turn-next asked x limit j h.below);
         lens-are = rw (add-one s) (turn row_lens asked x limit j h.below rest _ lens' lens'' r g.next g.lens-are now ∙ h.lens-are);
         bytes-are = rw (add-one s) (turn row_bytes asked x limit j h.below rest _ out' out'' r g.next g.bytes-are now ∙ h.bytes-are);
       }
 
-  module _ (s j : ℕ) (lens' out' : List ℕ) (h : Copying which n rows bs b limit lens out s j lens' out') (q : n ≤ s) where
-    pub lens_done : lens' ≡ lent_lens 0 (take limit (in_list which b (keys_in n rows bs))) lens
+  module _ (s j : ℕ) (lens' out' : List ℕ) (h : Copying which m b limit lens out s j lens' out') (q : length m ≤ s) where
+    pub lens_done : lens' ≡ lent_lens 0 (take limit (in_list which b m)) lens
     unfolding laid_by
-    lens_done = rw (left-none (meets which) n rows bs b s q, take-nil {A = KeyValue} (limit - j)) at h.lens-are
+    lens_done = rw (left-none (meets which) m b s q, take-nil {A = KeyValue} (limit - j)) at h.lens-are
 
-    pub bytes-done : out' ≡ lent_bytes 0 (take limit (in_list which b (keys_in n rows bs))) out
+    pub bytes-done : out' ≡ lent_bytes 0 (take limit (in_list which b m)) out
     unfolding laid_by
-    bytes-done = rw (left-none (meets which) n rows bs b s q, take-nil {A = KeyValue} (limit - j)) at h.bytes-are
+    bytes-done = rw (left-none (meets which) m b s q, take-nil {A = KeyValue} (limit - j)) at h.bytes-are
 
 -- ---- the answer
 
@@ -207,17 +193,17 @@ module _ (which : Which) (b : Bool) (m : Map (List ℕ) Held) where
     list_full = rows-full (in_list which b m) count limit by_list
 
 -- ... of a stretch
-module _ (n : ℕ) (rows bs : List ℕ) (low high : ℕ) (b : Bool) (count limit : ℕ) (g : low ≤ high) (h : high ≤ n) (l : limit ≡ min count (high - low)) where
-  by-stretch : limit ≡ min count (length (stretch low high b (keys_in n rows bs)))
-  by-stretch = rw (length-stretch n rows bs low high b g h) l
+module _ (m : Map (List ℕ) Held) (low high : ℕ) (b : Bool) (count limit : ℕ) (g : low ≤ high) (h : high ≤ length m) (l : limit ≡ min count (high - low)) where
+  by-stretch : limit ≡ min count (length (stretch low high b m))
+  by-stretch = rw (length-stretch m low high b g h) l
 
-  pub stretch-short : (lens out : List ℕ) → min (length lens / 2) (length out / 64) < limit → Fetches (Ok (take count (stretch low high b (keys_in n rows bs)))) lens out (Err ListTooShort) lens out
-  stretch-short = rows_short (stretch low high b (keys_in n rows bs)) count limit by-stretch
+  pub stretch-short : (lens out : List ℕ) → min (length lens / 2) (length out / 64) < limit → Fetches (Ok (take count (stretch low high b m))) lens out (Err ListTooShort) lens out
+  stretch-short = rows_short (stretch low high b m) count limit by-stretch
 
   pub stretch-full : (lens out lens' out' : List ℕ) → limit ≤ min (length lens / 2) (length out / 64)
-      → lens' ≡ lent_lens 0 (take limit (stretch low high b (keys_in n rows bs))) lens → out' ≡ lent_bytes 0 (take limit (stretch low high b (keys_in n rows bs))) out
-      → Fetches (Ok (take count (stretch low high b (keys_in n rows bs)))) lens out (Ok limit) lens' out'
-  stretch-full = rows-full (stretch low high b (keys_in n rows bs)) count limit by-stretch
+      → lens' ≡ lent_lens 0 (take limit (stretch low high b m)) lens → out' ≡ lent_bytes 0 (take limit (stretch low high b m)) out
+      → Fetches (Ok (take count (stretch low high b m))) lens out (Ok limit) lens' out'
+  stretch-full = rows-full (stretch low high b m) count limit by-stretch
 
 -- ---- the queries
 

@@ -7,15 +7,14 @@ use native.Mathlib.Omega.{arith}
 use mathlib.Core.Bool.{Bool, true, false, cond}
 use mathlib.Core.Path.{◌≡◌, refl, sym, ap, ◌∙◌}
 use mathlib.Core.List.{List, [], ◌∷◌, ◌++◌, map, reverse, reverse-cons}
-use lib.ListN.{length, get_or, take, drop, length-map, length-reverse, get_or-append, get_or-map}
-use lib.Seq.{length-take-le, take-suc, get_or-drop, get_or-append-add}
+use lib.ListN.{length, get_or, take, length-map, length-reverse, get_or-append, get_or-map}
+use lib.Seq.{length-take-le, take-suc, get_or-append-add}
 use Rattle.cells.specs.Part.{part}
 use Rattle.cells.specs.PartLaws.{length_part, get_or-part}
-use Rattle.maps.specs.Maps.{Pair}
+use Rattle.maps.specs.Maps.{Map}
 use Rattle.rules.specs.Table.{Held}
 use Rattle.rules.specs.TableQueries.{KeyValue, row_of, in_direction}
-use Rattle.kvs.specs.Rows.{row_at, pair_of, keys_in}
-use Rattle.kvs.specs.RowLaws.{length-keys, keys_from}
+use Rattle.kvs.specs.Places.{no_pair, pair_at}
 use Rattle.key_lists.specs.Lists.{stretch, laid_by}
 
 -- an element of a list in a direction
@@ -50,35 +49,26 @@ within_direction false n j h = h
 
 -- ---- the rows of a stretch
 
-module _ (n : ℕ) (rows bs : List ℕ) where
-  key_at : (i : ℕ) (z : Pair (List ℕ) Held) → i < n → get_or (keys_in n rows bs) i z ≡ pair_of (row_at i rows bs)
-  key_at i z h =
-      let e : get_or (drop i (keys_in n rows bs)) 0 z ≡ pair_of (row_at i rows bs) = rw (keys_from n i rows bs h) in
-      rw (add-zero i) at (sym (get_or-drop i (keys_in n rows bs) 0 z)) ∙ e
+module _ (m : Map (List ℕ) Held) (low high : ℕ) (b : Bool) (f : low ≤ high) (g : high ≤ length m) where
+  length-rows : length (map row_of (part low (high - low) m)) ≡ high - low
+  length-rows = length-map (part low (high - low) m) row_of ∙ length_part low (high - low) m (omega arith)
 
-  module _ (low high : ℕ) (b : Bool) (f : low ≤ high) (g : high ≤ n) where
-    length-rows : length (map row_of (part low (high - low) (keys_in n rows bs))) ≡ high - low
-    length-rows =
-        let e : length (keys_in n rows bs) ≡ n = length-keys n rows bs in
-        length-map (part low (high - low) (keys_in n rows bs)) row_of ∙ length_part low (high - low) (keys_in n rows bs) (omega arith)
+  pub length-stretch : length (stretch low high b m) ≡ high - low
+  unfolding stretch
+  length-stretch = length_direction b (map row_of (part low (high - low) m)) ∙ length-rows
 
-    pub length-stretch : length (stretch low high b (keys_in n rows bs)) ≡ high - low
-    unfolding stretch
-    length-stretch = length_direction b (map row_of (part low (high - low) (keys_in n rows bs))) ∙ length-rows
-
-    -- row j of it is row i
-    row_at_lem : (j i : ℕ) (z : Pair (List ℕ) Held) → j < high - low → i ≡ low + cond b (high - low - 1 - j) j
-        → get_or (stretch low high b (keys_in n rows bs)) j (row_of z) ≡ row_of (pair_of (row_at i rows bs))
-    unfolding stretch
-    row_at_lem j i z h e =
-        let m = keys_in n rows bs in
-        let l = map row_of (part low (high - low) m) in
-        let k = cond b (high - low - 1 - j) j in
-        let w : k < high - low = within_direction b (high - low) j h in
-        get_or_direction b l j (row_of z) (rw length-rows h)
-        ∙ ap (λ c. get_or l (cond b (c - 1 - j) j) (row_of z)) length-rows
-        ∙ get_or-map row_of (part low (high - low) m) k z
-        ∙ ap row_of (get_or-part low (high - low) m k z w ∙ key_at (low + k) z (omega arith) ∙ ap (λ a. pair_of (row_at a rows bs)) (sym e))
+  -- row j of it is the pair at place i
+  row_at_lem : (j i : ℕ) → j < high - low → i ≡ low + cond b (high - low - 1 - j) j
+      → get_or (stretch low high b m) j (row_of no_pair) ≡ row_of (pair_at i m)
+  unfolding stretch pair_at
+  row_at_lem j i h e =
+      let l = map row_of (part low (high - low) m) in
+      let k = cond b (high - low - 1 - j) j in
+      let w : k < high - low = within_direction b (high - low) j h in
+      get_or_direction b l j (row_of no_pair) (rw length-rows h)
+      ∙ ap (λ c. get_or l (cond b (c - 1 - j) j) (row_of no_pair)) length-rows
+      ∙ get_or-map row_of (part low (high - low) m) k no_pair
+      ∙ ap row_of (get_or-part low (high - low) m k no_pair w ∙ ap (λ a. get_or m a no_pair) (sym e))
 
 -- ---- one row more
 
@@ -98,11 +88,11 @@ pub stretch-none : (f : ℕ → KeyValue → List ℕ → List ℕ) (l : List �
 unfolding laid_by
 stretch-none f l = refl
 
-module _ (n : ℕ) (rows bs : List ℕ) (low high : ℕ) (b : Bool) (g : low ≤ high) (h : high ≤ n) where
+module _ (m : Map (List ℕ) Held) (low high : ℕ) (b : Bool) (g : low ≤ high) (h : high ≤ length m) where
   pub stretch-more : (f : ℕ → KeyValue → List ℕ → List ℕ) (j i : ℕ) (l l' l'' : List ℕ) → j < high - low → i ≡ low + cond b (high - low - 1 - j) j
-      → l' ≡ laid_by f 0 (take j (stretch low high b (keys_in n rows bs))) l → l'' ≡ f j (row_of (pair_of (row_at i rows bs))) l'
-      → l'' ≡ laid_by f 0 (take (j + 1) (stretch low high b (keys_in n rows bs))) l
+      → l' ≡ laid_by f 0 (take j (stretch low high b m)) l → l'' ≡ f j (row_of (pair_at i m)) l'
+      → l'' ≡ laid_by f 0 (take (j + 1) (stretch low high b m)) l
   stretch-more f j i l l' l'' a e p q =
-      laid_more f (stretch low high b (keys_in n rows bs)) l j (row_of (pair_of (row_at 0 rows bs))) (row_of (pair_of (row_at i rows bs))) l' l''
-      (rw (length-stretch n rows bs low high b g h) a)
-      (row_at_lem n rows bs low high b g h j i (pair_of (row_at 0 rows bs)) a e) p q
+      laid_more f (stretch low high b m) l j (row_of no_pair) (row_of (pair_at i m)) l' l''
+      (rw (length-stretch m low high b g h) a)
+      (row_at_lem m low high b g h j i a e) p q

@@ -1,29 +1,21 @@
 // The bounds of a scan.
-ghost use Rattle.std.specs.Prelude.{◌≡◌, ◌≤◌, option_copied};
+ghost use Rattle.std.specs.Prelude.{◌≡◌, ◌≤◌, length, option_copied};
 ghost use Rattle.rules.specs.TableQueries.{start_above_end};
-ghost use Rattle.kvs.specs.Rows.{keys_in, Wf};
 ghost use Rattle.kvs.specs.Places.{below_bound};
 
-use kvs::find;
+use kvs::Keys;
 
 // How many keys are below a bound, or `otherwise` where it is not there.
-#[tactic(auto, using(kvs::proofs::Search::at_below, kvs::proofs::Search::before_below), unfolding(kvs::specs::Places::below_bound, kvs::specs::Places::below_at, maps::specs::Lists::or_else))]
-pub fn below_bound(
-    n: usize,
-    rows: &[u64],
-    bytes: &[u8],
-    bound: Option<&[u8]>,
-    otherwise: usize,
-) -> usize
-    requires wf { Wf n rows.now bytes.now }
-    requires otherwise_le_n { otherwise ≤ n }
-    ensures value { result ≡ below_bound otherwise (option_copied bound.entry) (keys_in n rows.now bytes.now) }
-    ensures upper_bound { result ≤ n }
+#[tactic(auto, using(kvs::proofs::Search::at_within, kvs::proofs::Search::before_within), unfolding(kvs::specs::Places::below_bound, kvs::specs::Places::below_at, maps::specs::Lists::or_else))]
+pub fn below_bound(keys: &Keys<'_, '_>, bound: Option<&[u8]>, otherwise: usize) -> usize
+    requires { otherwise ≤ length keys.now }
+    ensures value { result ≡ below_bound otherwise (option_copied bound.entry) keys.now }
+    ensures upper_bound { result ≤ length keys.now }
 {
     let Some(key) = bound else {
         return otherwise;
     };
-    match find(n, rows, bytes, key) {
+    match keys.find(key) {
         Ok(i) | Err(i) => i,
     }
 }

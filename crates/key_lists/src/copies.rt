@@ -1,61 +1,52 @@
-// The rows that a query asks for, counted and copied to the list.
-ghost use Rattle.std.specs.Prelude.{◌≡◌, cond, ◌&&◌, ◌+◌, ◌*◌, ◌-◌, ◌≤◌, ◌<◌, leb, length, get_or, take};
-ghost use Rattle.pipe_log.specs.Rows.{queue_at};
+// The keys that a query asks for, counted and copied to the list.
+ghost use Rattle.std.specs.Prelude.{◌≡◌, cond, ◌+◌, ◌*◌, ◌-◌, ◌≤◌, ◌<◌, length, take};
 ghost use Rattle.maps.specs.Lists.{select};
-ghost use Rattle.rules.specs.Items.{same_queue, Append};
 ghost use Rattle.rules.specs.TableQueries.{row_of};
-ghost use Rattle.kvs.specs.Rows.{row_at, pair_of, keys_in, Wf};
-ghost use Rattle.kvs.specs.RowIn.{RowIn};
+ghost use Rattle.kvs.specs.Places.{pair_at};
 ghost use Rattle.key_lists.specs.Lists.{meets, row_lens, row_bytes, lent_lens, lent_bytes, in_list, stretch, CopyIf};
 
 use crate::Which;
-use kvs::files::is_of;
-use kvs::rows::{LENS_WIDTH, ROW_BYTES, ROW_WIDTH, VALUE_AT, key_at, value_at};
+use kvs::Keys;
+use kvs::rows::{LENS_WIDTH, ROW_BYTES, VALUE_AT};
 use pipe_log::LogQueue;
 
-// Whether row `i` is an Append one with a file up to the gate.
-fn up_to(rows: &[u64], i: usize, gate: u64) -> bool
-    requires { i * 4 + 4 ≤ length rows.now }
-    ensures { result ≡ (same_queue (queue_at (get_or rows.now (i * 4 + 2) 0)) Append && leb (get_or rows.now (i * 4 + 3) 0) gate) }
+// Whether the query asks for the key at place `i`.
+#[tactic(auto, using(kvs::proofs::Queues::same_queue_is), unfolding(crate::specs::Lists::meets))]
+fn chosen(keys: &Keys<'_, '_>, i: usize, which: Which) -> bool
+    requires { i < length keys.now }
+    ensures { result ≡ meets which (pair_at i keys.now) }
 {
-    is_of(rows[i * ROW_WIDTH + 2], LogQueue::Append) && rows[i * ROW_WIDTH + 3] <= gate
-}
-
-// Whether the query asks for row `i`.
-fn chosen(rows: &[u64], bytes: &[u8], i: usize, which: Which) -> bool
-    requires { RowIn i rows.now bytes.now }
-    ensures { result ≡ meets which (pair_of (row_at i rows.now bytes.now)) }
-{
+    let file = keys.file(i);
     match which {
-        Which::UpTo(gate) => up_to(rows, i, gate),
-        Which::OfRewrite => is_of(rows[i * ROW_WIDTH + 2], LogQueue::Rewrite),
+        Which::UpTo(gate) => file.queue == LogQueue::Append && file.seq <= gate,
+        Which::OfRewrite => file.queue == LogQueue::Rewrite,
     }
 }
 
-// How many rows the query asks for.
+// How many keys the query asks for.
 #[tactic(auto, using(kvs::proofs::Selected::count_more, kvs::proofs::Selected::selected_none, kvs::proofs::Selected::selected_all))]
-pub fn count_chosen(n: usize, rows: &[u64], bytes: &[u8], which: Which) -> usize
-    requires { Wf n rows.now bytes.now }
-    ensures { result ≡ length (select (meets which) (keys_in n rows.now bytes.now)) }
+pub fn count_chosen(keys: &Keys<'_, '_>, which: Which) -> usize
+    ensures { result ≡ length (select (meets which) keys.now) }
 {
+    let n = keys.len();
     let mut count = 0;
     for i in 0..n {
-        if chosen(rows, bytes, i, which) {
+        if chosen(keys, i, which) {
             count += 1;
         }
     }
     count
 }
 
-// Copies row `i` of the table to row `j` of the list.
-fn copy_row(rows: &[u64], bytes: &[u8], i: usize, lens: &mut [u64], out: &mut [u8], j: usize)
-    requires row_in { RowIn i rows.now bytes.now }
+// Copies the key at place `i` and its value to row `j` of the list.
+fn copy_row(keys: &Keys<'_, '_>, i: usize, lens: &mut [u64], out: &mut [u8], j: usize)
+    requires i_lt_length { i < length keys.now }
     requires j_in_bounds { (j * 2 + 2 ≤ length lens.old) × (j * 64 + 64 ≤ length out.old) }
-    ensures lens_after { lens.new ≡ row_lens j (row_of (pair_of (row_at i rows.now bytes.now))) lens.old }
-    ensures out_after { out.new ≡ row_bytes j (row_of (pair_of (row_at i rows.now bytes.now))) out.old }
+    ensures lens_after { lens.new ≡ row_lens j (row_of (pair_at i keys.now)) lens.old }
+    ensures out_after { out.new ≡ row_bytes j (row_of (pair_at i keys.now)) out.old }
 {
-    let key = key_at(rows, bytes, i);
-    let value = value_at(rows, bytes, i);
+    let key = keys.key(i);
+    let value = keys.value(i);
     let at = j * LENS_WIDTH;
     lens[at] = key.len() as u64;
     lens[at + 1] = value.len() as u64;
@@ -63,10 +54,10 @@ fn copy_row(rows: &[u64], bytes: &[u8], i: usize, lens: &mut [u64], out: &mut [u
     cells::copy_in(out, j * ROW_BYTES + VALUE_AT, value);
 }
 
-// Copies row `i` to row `j` of the list if the query asks for it and the list is to have more than `j` rows; the next row of the list.
+// Copies the key at place `i` to row `j` of the list if the query asks for it and the list is to have more than `j` rows; the next row
+// of the list.
 fn copy_if(
-    rows: &[u64],
-    bytes: &[u8],
+    keys: &Keys<'_, '_>,
     i: usize,
     which: Which,
     limit: usize,
@@ -74,19 +65,19 @@ fn copy_if(
     out: &mut [u8],
     j: usize,
 ) -> usize
-    requires row_in { RowIn i rows.now bytes.now }
+    requires i_lt_length { i < length keys.now }
     requires limit_in_bounds { (limit * 2 ≤ length lens.old) × (limit * 64 ≤ length out.old) }
-    ensures { CopyIf (meets which (pair_of (row_at i rows.now bytes.now))) (row_of (pair_of (row_at i rows.now bytes.now))) limit j lens.old out.old result lens.new out.new }
+    ensures { CopyIf (meets which (pair_at i keys.now)) (row_of (pair_at i keys.now)) limit j lens.old out.old result lens.new out.new }
 {
-    if limit <= j || !chosen(rows, bytes, i, which) {
+    if limit <= j || !chosen(keys, i, which) {
         return j;
     }
-    copy_row(rows, bytes, i, lens, out, j);
+    copy_row(keys, i, lens, out, j);
     j + 1
 }
 
-// The row that turn `s` of `n` looks at.
-fn row_of(n: usize, s: usize, backwards: bool) -> usize
+// The place that turn `s` of `n` looks at.
+fn place_of(n: usize, s: usize, backwards: bool) -> usize
     requires { s < n }
     ensures value { result ≡ cond backwards (n - 1 - s) s }
     ensures upper_bound { result < n }
@@ -94,34 +85,30 @@ fn row_of(n: usize, s: usize, backwards: bool) -> usize
     if backwards { n - 1 - s } else { s }
 }
 
-// Copies the first `limit` of the rows that the query asks for, in the direction asked for.
+// Copies the first `limit` of the keys that the query asks for, in the direction asked for.
 pub fn copy_chosen(
-    n: usize,
-    rows: &[u64],
-    bytes: &[u8],
+    keys: &Keys<'_, '_>,
     which: Which,
     backwards: bool,
     limit: usize,
     lens: &mut [u64],
     out: &mut [u8],
 )
-    requires wf { Wf n rows.now bytes.now }
-    requires limit_in_bounds { (limit * 2 ≤ length lens.old) × (limit * 64 ≤ length out.old) }
-    ensures lens_after { lens.new ≡ lent_lens 0 (take limit (in_list which backwards (keys_in n rows.now bytes.now))) lens.old }
-    ensures out_after { out.new ≡ lent_bytes 0 (take limit (in_list which backwards (keys_in n rows.now bytes.now))) out.old }
+    requires { (limit * 2 ≤ length lens.old) × (limit * 64 ≤ length out.old) }
+    ensures lens_after { lens.new ≡ lent_lens 0 (take limit (in_list which backwards keys.now)) lens.old }
+    ensures out_after { out.new ≡ lent_bytes 0 (take limit (in_list which backwards keys.now)) out.old }
 {
+    let n = keys.len();
     let mut j = 0;
     for s in 0..n {
-        let i = row_of(n, s, backwards);
-        j = copy_if(rows, bytes, i, which, limit, lens, out, j);
+        let i = place_of(n, s, backwards);
+        j = copy_if(keys, i, which, limit, lens, out, j);
     }
 }
 
-// Copies the first `limit` of the rows from row `low` up to row `high`, in the direction asked for.
+// Copies the first `limit` of the keys from place `low` up to place `high`, in the direction asked for.
 pub fn copy_stretch(
-    n: usize,
-    rows: &[u64],
-    bytes: &[u8],
+    keys: &Keys<'_, '_>,
     low: usize,
     high: usize,
     backwards: bool,
@@ -129,14 +116,13 @@ pub fn copy_stretch(
     lens: &mut [u64],
     out: &mut [u8],
 )
-    requires wf { Wf n rows.now bytes.now }
-    requires limit_bound { (low + limit ≤ high) × (high ≤ n) × (limit * 2 ≤ length lens.old) × (limit * 64 ≤ length out.old) }
-    ensures lens_after { lens.new ≡ lent_lens 0 (take limit (stretch low high backwards (keys_in n rows.now bytes.now))) lens.old }
-    ensures out_after { out.new ≡ lent_bytes 0 (take limit (stretch low high backwards (keys_in n rows.now bytes.now))) out.old }
+    requires { (low + limit ≤ high) × (high ≤ length keys.now) × (limit * 2 ≤ length lens.old) × (limit * 64 ≤ length out.old) }
+    ensures lens_after { lens.new ≡ lent_lens 0 (take limit (stretch low high backwards keys.now)) lens.old }
+    ensures out_after { out.new ≡ lent_bytes 0 (take limit (stretch low high backwards keys.now)) out.old }
 {
     let count = high - low;
     for j in 0..limit {
-        let i = low + row_of(count, j, backwards);
-        copy_row(rows, bytes, i, lens, out, j);
+        let i = low + place_of(count, j, backwards);
+        copy_row(keys, i, lens, out, j);
     }
 }

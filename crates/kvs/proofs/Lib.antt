@@ -1,3 +1,4 @@
+pub mod Read
 pub mod Search
 pub mod Written
 pub mod Puts

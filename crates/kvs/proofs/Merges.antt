@@ -10,54 +10,52 @@ use mathlib.Core.Path.{◌≡◌, refl, sym, ap, ◌∙◌}
 use mathlib.Core.List.{List, [], ◌∷◌}
 use Rattle.std.specs.Prelude.{Option, None, Some}
 use lib.Dec.{leb}
-use lib.ListN.{length, get_or, drop, drop_of_length-le}
+use lib.ListN.{length, drop, drop_of_length-le}
 use borrow.Author.Tests.{leb-true}
-use Rattle.pipe_log.specs.declared.LogQueue.{LogQueue}
-use Rattle.pipe_log.specs.Rows.{queue_at}
 use Rattle.maps.specs.Lists.{select, or_else}
 use Rattle.maps.specs.Maps.{Map, lookup, insert, merge_with, bytes}
 use Rattle.maps.specs.OrderLaws.{split, and_both, bytes_lawful, above-differs}
 use Rattle.maps.specs.MapLaws.{Ascending, AllBelow, ascending-head, ascending-tail, ascending-insert, lookup-insert-other, length-insert-none, length-insert-some, length-older}
 use Rattle.rules.specs.Table.{Held, over_keys}
-use Rattle.kvs.specs.Rows.{row_at, key_of, value_of, held_of, pair_of, keys_in, Wf, fits}
-use Rattle.kvs.specs.RowLaws.{keys_from, length-keys}
-use Rattle.kvs.specs.RowIn.{number_at}
-use Rattle.kvs.specs.Places.{place_of}
-use Rattle.kvs.specs.Calls.{held_by, Holds, room_for, Stands, put_rows, put_bytes, PutKey}
+use Rattle.kvs.specs.Rows.{keys_in, Wf, fits}
+use Rattle.kvs.specs.RowLaws.{length-keys}
+use Rattle.kvs.specs.Places.{place_of, pair_at}
+use Rattle.kvs.specs.PlaceLaws.{pairs_from}
+use Rattle.kvs.specs.Calls.{Holds, room_for, Stands, put_rows, put_bytes, PutKey}
 use Rattle.kvs.specs.Merge.{put_pair, put_all, parts, is_absent, missing, LaidOver, merged_parts, MergeKeys}
 use Rattle.kvs.proofs.Puts.{fits_if}
-use Rattle.kvs.proofs.Found.{found_at_lem, found_none}
+use Rattle.kvs.proofs.Found.{found_in, absent_in}
 use Rattle.kvs.proofs.Selected.{selected, selected_all, selected_none, count_more}
 
 -- ---- one key
 
-module _ (n : ℕ) (rows bs k : List ℕ) (w : Wf n rows bs) (i : ℕ) where
-  pub absent : place_of k (keys_in n rows bs) ≡ Err i → is_absent k (keys_in n rows bs) ≡ true
+module _ (older : Map (List ℕ) Held) (k : List ℕ) (a : Ascending bytes older) (i : ℕ) where
+  pub absent : place_of k older ≡ Err i → is_absent k older ≡ true
   unfolding is_absent or_else
-  absent e = rw (found_none n rows bs k i w e)
+  absent e = rw (absent_in older k a i e)
 
-  pub present : place_of k (keys_in n rows bs) ≡ Ok i → is_absent k (keys_in n rows bs) ≡ false
+  pub present : place_of k older ≡ Ok i → is_absent k older ≡ false
   unfolding is_absent or_else
-  present e = rw (found_at_lem n rows bs k i w e)
+  present e = rw (found_in older k a i e)
 
 -- ---- the count
 
--- the newer keys that the map lacks, from row j on
-module _ (older : Map (List ℕ) Held) (m : ℕ) (rows bs : List ℕ) where
+-- the newer keys that the map lacks, from place j on
+module _ (older newer : Map (List ℕ) Held) where
   pub lacks : ℕ → ℕ
-  lacks j = length (selected (λ x. is_absent x.key older) m rows bs j)
+  lacks j = length (selected (λ x. is_absent x.key older) newer j)
 
-  pub lacks_all : lacks 0 ≡ missing older (keys_in m rows bs)
+  lacks_all : lacks 0 ≡ missing older newer
   unfolding lacks missing
-  lacks_all = ap length (selected_all (λ x. is_absent x.key older) m rows bs)
+  lacks_all = ap length (selected_all (λ x. is_absent x.key older) newer)
 
-  pub lacks_none : (j : ℕ) → m ≤ j → lacks j ≡ 0
+  pub lacks_none : (j : ℕ) → length newer ≤ j → lacks j ≡ 0
   unfolding lacks
-  lacks_none j h = ap length (selected_none (λ x. is_absent x.key older) m rows bs j h)
+  lacks_none j h = ap length (selected_none (λ x. is_absent x.key older) newer j h)
 
-  pub lacks_more : (j : ℕ) → j < m → lacks j ≡ cond (is_absent (key_of (row_at j rows bs)) older) 1 0 + lacks (j + 1)
-  unfolding lacks pair_of
-  lacks_more j h = count_more (λ x. is_absent x.key older) m rows bs j h
+  pub lacks_more : (j : ℕ) → j < length newer → lacks j ≡ cond (is_absent (pair_at j newer).key older) 1 0 + lacks (j + 1)
+  unfolding lacks
+  lacks_more j h = count_more (λ x. is_absent x.key older) newer j h
 
 -- putting a key leaves those above it absent or present
 still : (k : List ℕ) (h : Held) (older m : Map (List ℕ) Held) → AllBelow bytes k m → select (λ x. is_absent x.key (insert bytes k h older)) m ≡ select (λ x. is_absent x.key older) m
@@ -74,15 +72,18 @@ length-put k h older a = by (lookup bytes k older) refl
     by None e = length-insert-none bytes bytes_lawful k h older e ∙ omega arith
     by (Some b) e = length-insert-some bytes bytes_lawful k h b older e a ∙ omega arith
 
-pub length_over : (older newer : Map (List ℕ) Held) → Ascending bytes older → Ascending bytes newer → length (over_keys older newer) ≡ length older + missing older newer
+length-missing : (older newer : Map (List ℕ) Held) → Ascending bytes older → Ascending bytes newer → length (over_keys older newer) ≡ length older + missing older newer
 unfolding over_keys merge_with missing select
-length_over older [] a b = sym (add-zero (length older))
-length_over older (x ∷ xs) a b =
+length-missing older [] a b = sym (add-zero (length older))
+length-missing older (x ∷ xs) a b =
     let k = x.key in
-    let rest = length_over (insert bytes k x.val older) xs (ascending-insert bytes bytes_lawful k x.val older a) (ascending-tail bytes x xs b) in
+    let rest = length-missing (insert bytes k x.val older) xs (ascending-insert bytes bytes_lawful k x.val older a) (ascending-tail bytes x xs b) in
     let l = length-put k x.val older a in
     rest ∙ rw (still k x.val older xs (ascending-head bytes x xs b), l)
     (split (is_absent k older) (λ e. rw e (omega arith)) (λ e. rw e (omega arith)))
+
+pub length_over : (older newer : Map (List ℕ) Held) → Ascending bytes older → Ascending bytes newer → length (over_keys older newer) ≡ length older + lacks older newer 0
+length_over older newer a b = rw lacks_all (length-missing older newer a b)
 
 -- ---- the turns
 
@@ -121,25 +122,25 @@ laying_all n rows bs newer j count rows' bs' l h =
     let e : drop j newer ≡ [] = drop_of_length-le newer l in
     record { parts_are = rw e at h.parts_are; holds = record { wf = h.wf; is = rw e at h.keys } }
 
-module _ (n : ℕ) (rows bs : List ℕ) (m : ℕ) (newrows newbs : List ℕ) (j : ℕ) (b : j < m) (count : ℕ) (rows' bs' : List ℕ) (h : Laying n rows bs (keys_in m newrows newbs) j count rows' bs') where
+module _ (n : ℕ) (rows bs : List ℕ) (newer : Map (List ℕ) Held) (j : ℕ) (b : j < length newer) (count : ℕ) (rows' bs' : List ℕ) (h : Laying n rows bs newer j count rows' bs') where
   -- the map that the turn makes
   next : Map (List ℕ) Held
-  next = insert bytes (key_of (row_at j newrows newbs)) (held_of (row_at j newrows newbs)) (keys_in count rows' bs')
+  next = insert bytes (pair_at j newer).key (pair_at j newer).val (keys_in count rows' bs')
 
-  over-next : over_keys next (drop (suc j) (keys_in m newrows newbs)) ≡ over_keys (keys_in n rows bs) (keys_in m newrows newbs)
-  unfolding over_keys merge_with pair_of next
-  over-next = rw (keys_from m j newrows newbs b) at h.keys
+  over-next : over_keys next (drop (suc j) newer) ≡ over_keys (keys_in n rows bs) newer
+  unfolding over_keys merge_with next
+  over-next = rw (pairs_from j newer b) at h.keys
 
-  module _ (f : fits (length (over_keys (keys_in n rows bs) (keys_in m newrows newbs))) rows bs ≡ true) (p : length rows' ≡ length rows) (q : length bs' ≡ length bs) where
+  module _ (f : fits (length (over_keys (keys_in n rows bs) newer)) rows bs ≡ true) (p : length rows' ≡ length rows) (q : length bs' ≡ length bs) where
     next_fits : fits (length next) rows' bs' ≡ true
     unfolding over_keys
     next_fits =
         rw (fits_same (length next) rows' bs' rows bs p q)
-        (fits-less (length next) (length (over_keys (keys_in n rows bs) (keys_in m newrows newbs))) rows bs
-        (rw over-next at (length-older bytes bytes_lawful (λ o a. a) next (drop (suc j) (keys_in m newrows newbs))))
+        (fits-less (length next) (length (over_keys (keys_in n rows bs) newer)) rows bs
+        (rw over-next at (length-older bytes bytes_lawful (λ o a. a) next (drop (suc j) newer)))
         f)
 
-    module _ (r : ByCause ℕ) (rows'' bs'' : List ℕ) (put : PutKey count rows' bs' (key_of (row_at j newrows newbs)) (held_of (row_at j newrows newbs)) r rows'' bs'') where
+    module _ (r : ByCause ℕ) (rows'' bs'' : List ℕ) (put : PutKey count rows' bs' (pair_at j newer).key (pair_at j newer).val r rows'' bs'') where
       answer : r ≡ Ok (length next)
       unfolding room_for next
       answer = put.answer ∙ rw next_fits
@@ -148,52 +149,39 @@ module _ (n : ℕ) (rows bs : List ℕ) (m : ℕ) (newrows newbs : List ℕ) (j 
       pub never_full : (e : Cause) → r ≡ Err e → ⊥
       never_full x e = let z : ◌≡◌ {A = ByCause ℕ} (Err x) (Ok (length next)) = sym e ∙ answer in let y : ◌≡◌ {A = ℕ} 0 1 = cc in omega arith
 
-      pub laying_more : (k : ℕ) → r ≡ Ok k → Laying n rows bs (keys_in m newrows newbs) (j + 1) k rows'' bs''
-      unfolding Stands put_all put_pair pair_of next
+      pub laying_more : (k : ℕ) → r ≡ Ok k → Laying n rows bs newer (j + 1) k rows'' bs''
+      unfolding Stands put_all put_pair next
       laying_more k e =
-          let x = row_at j newrows newbs in
+          let x = pair_at j newer in
           let d : Ok k ≡ Ok (length next) = sym e ∙ answer in
           let l : k ≡ length next = cc in
           let holds : Holds k rows'' bs'' next = rw e at put.stands in
-          let place = place_of (key_of x) (keys_in count rows' bs') in
-          let rs : rows'' ≡ put_rows (Ok 0) place count (key_of x) (held_of x) rows' =
-          rw e at put.rows_are ∙ any-rows k place count (key_of x) (held_of x) rows' in
-          let ys : bs'' ≡ put_bytes (Ok 0) place count (key_of x) (held_of x) bs' =
-          rw e at put.bytes-are ∙ any-bytes k place count (key_of x) (held_of x) bs' in
-          let same : parts k rows'' bs'' ≡ put_pair (pair_of x) (parts count rows' bs') = λ i. record { count = l i; rows = rs i; bytes = ys i } in
+          let place = place_of x.key (keys_in count rows' bs') in
+          let rs : rows'' ≡ put_rows (Ok 0) place count x.key x.val rows' =
+          rw e at put.rows_are ∙ any-rows k place count x.key x.val rows' in
+          let ys : bs'' ≡ put_bytes (Ok 0) place count x.key x.val bs' =
+          rw e at put.bytes-are ∙ any-bytes k place count x.key x.val bs' in
+          let same : parts k rows'' bs'' ≡ put_pair x (parts count rows' bs') = λ i. record { count = l i; rows = rs i; bytes = ys i } in
           record {
             wf = holds.wf;
             keys = rw (add-one j, holds.is) over-next;
-            parts_are = rw (add-one j, same) (rw (keys_from m j newrows newbs b) at h.parts_are);
+            parts_are = rw (add-one j, same) (rw (pairs_from j newer b) at h.parts_are);
           }
 
 -- ---- `merge_keys`
 
-module _ (n : ℕ) (rows bs : List ℕ) (m : ℕ) (newrows newbs : List ℕ) (w : Wf n rows bs) (v : Wf m newrows newbs) (all : ℕ) (e : all ≡ missing (keys_in n rows bs) (keys_in m newrows newbs)) where
-  pub over-length : length (over_keys (keys_in n rows bs) (keys_in m newrows newbs)) ≡ n + all
-  over-length = length_over (keys_in n rows bs) (keys_in m newrows newbs) w.ascending v.ascending ∙ rw (length-keys n rows bs, e)
-
-  pub merge-full : fits (n + all) rows bs ≡ false → MergeKeys n rows bs (keys_in m newrows newbs) (Err LimitPassed) rows bs
+module _ (n : ℕ) (rows bs : List ℕ) (newer : Map (List ℕ) Held) (all : ℕ) (e : all ≡ length (over_keys (keys_in n rows bs) newer)) where
+  pub merge-full : fits all rows bs ≡ false → MergeKeys n rows bs newer (Err LimitPassed) rows bs
   unfolding room_for merged_parts Stands
-  merge-full f = record { answer = rw (over-length, f); rows_are = refl; bytes-are = refl; stands = tt }
+  merge-full f = record { answer = rw (← e, f); rows_are = refl; bytes-are = refl; stands = tt }
 
-  pub merge-done : fits (n + all) rows bs ≡ true → (r : ℕ) (rows' bs' : List ℕ) → LaidOver n rows bs (keys_in m newrows newbs) r rows' bs' → MergeKeys n rows bs (keys_in m newrows newbs) (Ok r) rows' bs'
+  pub merge-done : fits all rows bs ≡ true → (r : ℕ) (rows' bs' : List ℕ) → LaidOver n rows bs newer r rows' bs' → MergeKeys n rows bs newer (Ok r) rows' bs'
   unfolding room_for merged_parts Stands
   merge-done f r rows' bs' h =
-      let l : r ≡ n + all = sym (length-keys r rows' bs') ∙ ap length h.holds.is ∙ over-length in
+      let l : r ≡ all = sym (length-keys r rows' bs') ∙ ap length h.holds.is ∙ sym e in
       record {
-        answer = rw (over-length, f) (ap Ok l);
+        answer = rw (← e, f) (ap Ok l);
         rows_are = ap (λ p. p.rows) h.parts_are;
         bytes-are = ap (λ p. p.bytes) h.parts_are;
         stands = h.holds;
       }
-
--- ---- a row put from the newer part
-
-pub row_put : (n : ℕ) (rows bs newrows newbs : List ℕ) (j : ℕ) (k v : List ℕ) (q : LogQueue) (r : ByCause ℕ) (rows' bs' : List ℕ)
-    → k ≡ key_of (row_at j newrows newbs) → v ≡ value_of (row_at j newrows newbs) → q ≡ queue_at (get_or newrows (j * 4 + 2) 0)
-    → PutKey n rows bs k (held_by v q (get_or newrows (j * 4 + 3) 0)) r rows' bs'
-    → PutKey n rows bs (key_of (row_at j newrows newbs)) (held_of (row_at j newrows newbs)) r rows' bs'
-unfolding held_of
-row_put n rows bs newrows newbs j k v q r rows' bs' e f g h =
-    rw (number_at j newrows newbs 2 (omega arith), number_at j newrows newbs 3 (omega arith), ← e, ← f, ← g) h

@@ -26,12 +26,12 @@ use Rattle.kvs.specs.PlaceLaws.{insert-place}
 use Rattle.kvs.specs.Calls.{held_by, Holds, rewritten_as, moves, moved_rows, rewritten_rows, RewriteKey}
 use Rattle.kvs.proofs.Search.{at_below}
 use Rattle.kvs.proofs.Puts.{put_holds}
-use Rattle.kvs.proofs.Found.{found_at_lem, found_none, found_key}
+use Rattle.kvs.proofs.Found.{absent_in, found_at_lem, found_key}
 
 -- two stores are one put
-pub two-stores : (i s : ℕ) (rows : List ℕ) → i * 4 + 4 ≤ length rows → set (set rows (i * 4 + 2) 1) (i * 4 + 2 + 1) s ≡ moved_rows i s rows
+pub two_stores : (i s : ℕ) (rows : List ℕ) → i * 4 + 4 ≤ length rows → set (set rows (i * 4 + 2) 1) (i * 4 + 2 + 1) s ≡ moved_rows i s rows
 unfolding moved_rows
-two-stores i s rows p = rw (set-put rows (i * 4 + 2) 1 (omega arith)) (put-snoc rows (i * 4 + 2) (1 ∷ []) s (omega arith))
+two_stores i s rows p = rw (set-put rows (i * 4 + 2) 1 (omega arith)) (put-snoc rows (i * 4 + 2) (1 ∷ []) s (omega arith))
 
 -- ---- the row whose file is moved
 
@@ -97,15 +97,15 @@ module _ (n : ℕ) (rows bs k : List ℕ) (gate : Option ℕ) (s : ℕ) (w : Wf 
   rewrite-absent e =
       record {
         answer = λ t g.
-            let look : lookup bytes k t.keys ≡ None = ap (lookup bytes k) g ∙ found_none n rows bs k i w e in
+            let look : lookup bytes k t.keys ≡ None = ap (lookup bytes k) g ∙ absent_in (keys_in n rows bs) k w.ascending i e in
             rw look (ap Ok (sym (same_keys (keys_in n rows bs) t g)));
-        rows_are = rw (found_none n rows bs k i w e);
+        rows_are = rw (absent_in (keys_in n rows bs) k w.ascending i e);
         wf = w;
       }
 
   module _ (e : place_of k (keys_in n rows bs) ≡ Ok i) where
     found : lookup bytes k (keys_in n rows bs) ≡ Some (held_of (row_at i rows bs))
-    found = found_at_lem n rows bs k i w e
+    found = found_at_lem n rows bs k i e w
 
     module _ (held : Held) (h : held ≡ held_of (row_at i rows bs)) where
       -- the file is kept

@@ -17,11 +17,11 @@ use Rattle.maps.specs.Maps.{Pair, Map, bytes, equal_bytes, bytes_below}
 use Rattle.maps.specs.OrderLaws.{bytes_lawful, below-differs, above-differs, below-not_back}
 use Rattle.maps.specs.MapLaws.{AllBelow, Ascending}
 use Rattle.rules.specs.Table.{Held}
-use Rattle.kvs.specs.Rows.{row_at, key_of, pair_of, keys_in, Wf}
-use Rattle.kvs.specs.RowLaws.{length-keys, keys_from}
+use Rattle.kvs.specs.Rows.{keys_in}
+use Rattle.kvs.specs.RowLaws.{length-keys}
 use Rattle.kvs.specs.Orders.{below_by-order, same_by-order}
-use Rattle.kvs.specs.Places.{place_from, place_of, Within}
-use Rattle.kvs.specs.PlaceLaws.{place-within}
+use Rattle.kvs.specs.Places.{place_from, place_of, pair_at, Within}
+use Rattle.kvs.specs.PlaceLaws.{pairs_from, place-within}
 use Rattle.kvs.specs.Stretches.{ascending-part, below_through}
 
 -- ---- the place of k among keys with x between them
@@ -54,69 +54,71 @@ module _ (k : List ℕ) (x : Pair (List ℕ) Held) (t : Map (List ℕ) Held) whe
 
 -- ---- the turns
 
-module _ (n : ℕ) (rows bs key : List ℕ) where
-  -- before the first turn all rows are left
-  pub place_all : place_of key (keys_in n rows bs) ≡ place_from 0 key (part 0 (n - 0) (keys_in n rows bs))
+module _ (m : Map (List ℕ) Held) (key : List ℕ) where
+  -- before the first turn all keys are left
+  pub place_all : (n : ℕ) → n ≡ length m → place_of key m ≡ place_from 0 key (part 0 (n - 0) m)
   unfolding place_of
-  place_all =
-      let e : length (keys_in n rows bs) ≡ n - 0 = length-keys n rows bs ∙ omega arith in
-      rw (part_all (n - 0) (keys_in n rows bs) e)
+  place_all n h =
+      let e : length m ≡ n - 0 = omega arith in
+      rw (part_all (n - 0) m e)
 
   -- none is left
-  pub place_none : (low high : ℕ) → high ≤ low → place_from low key (part low (high - low) (keys_in n rows bs)) ≡ Err low
+  pub place_none : (low high : ℕ) → high ≤ low → place_from low key (part low (high - low) m) ≡ Err low
   unfolding place_from
   place_none low high h =
       let e : high - low ≡ 0 = omega arith in
-      rw (e, part_none low (keys_in n rows bs))
+      rw (e, part_none low m)
 
-  module _ (low mid high : ℕ) (b : low ≤ mid) (h : mid < high) (w : Wf n rows bs) (f : high ≤ n) where
+  module _ (low mid high : ℕ) (b : low ≤ mid) (h : mid < high) (w : Ascending bytes m) (f : high ≤ length m) where
     -- the rows that are left, by row mid
-    left_by_lem : part low (high - low) (keys_in n rows bs) ≡ part low (mid - low) (keys_in n rows bs) ++ (pair_of (row_at mid rows bs) ∷ part (mid + 1) (high - (mid + 1)) (keys_in n rows bs))
+    left_by_lem : part low (high - low) m ≡ part low (mid - low) m ++ (pair_at mid m ∷ part (mid + 1) (high - (mid + 1)) m)
     unfolding part
     left_by_lem =
-        let m = keys_in n rows bs in
         let e₁ : low + (mid - low) ≡ mid = omega arith in
         let e₂ : high - low - (mid - low) ≡ suc (high - (mid + 1)) = omega arith in
-        part_cut (mid - low) low (high - low) m (omega arith) ∙ rw (e₁, e₂, keys_from n mid rows bs (omega arith), add-one mid)
+        part_cut (mid - low) low (high - low) m (omega arith) ∙ rw (e₁, e₂, pairs_from mid m (omega arith), add-one mid)
 
-    left-ascend : Ascending bytes (part low (mid - low) (keys_in n rows bs) ++ (pair_of (row_at mid rows bs) ∷ part (mid + 1) (high - (mid + 1)) (keys_in n rows bs)))
-    left-ascend = rw left_by_lem at (ascending-part low (high - low) (keys_in n rows bs) w.ascending)
+    left-ascend : Ascending bytes (part low (mid - low) m ++ (pair_at mid m ∷ part (mid + 1) (high - (mid + 1)) m))
+    left-ascend = rw left_by_lem at (ascending-part low (high - low) m w)
 
-    front_length : low + length (part low (mid - low) (keys_in n rows bs)) ≡ mid
-    front_length =
-        let e : length (keys_in n rows bs) ≡ n = length-keys n rows bs in
-        let g : length (part low (mid - low) (keys_in n rows bs)) ≡ mid - low = length_part low (mid - low) (keys_in n rows bs) (omega arith) in
-        omega arith
+    front_length : low + length (part low (mid - low) m) ≡ mid
+    front_length = let g : length (part low (mid - low) m) ≡ mid - low = length_part low (mid - low) m (omega arith) in omega arith
 
-    module _ {k : List ℕ} {o : Ordering} (e : k ≡ key_of (row_at mid rows bs)) (g : o ≡ byte_order key k) where
-      order : o ≡ byte_order key (key_of (row_at mid rows bs))
+    module _ {k : List ℕ} {o : Ordering} (e : k ≡ (pair_at mid m).key) (g : o ≡ byte_order key k) where
+      order : o ≡ byte_order key (pair_at mid m).key
       order = rw e at g
 
-      pub place-less : o ≡ Less → place_from low key (part low (high - low) (keys_in n rows bs)) ≡ place_from low key (part low (mid - low) (keys_in n rows bs))
-      unfolding pair_of
+      pub place-less : o ≡ Less → place_from low key (part low (high - low) m) ≡ place_from low key (part low (mid - low) m)
       place-less q =
           rw left_by_lem
-          (place-front key (pair_of (row_at mid rows bs)) _ low _ (rw (below_by-order key (key_of (row_at mid rows bs)), ← order, q)))
+          (place-front key (pair_at mid m) _ low _ (rw (below_by-order key (pair_at mid m).key, ← order, q)))
 
-      pub place_equal : o ≡ Equal → place_from low key (part low (high - low) (keys_in n rows bs)) ≡ Ok mid
-      unfolding place_from pair_of
+      pub place_equal : o ≡ Equal → place_from low key (part low (high - low) m) ≡ Ok mid
+      unfolding place_from
       place_equal q =
-          let x = key_of (row_at mid rows bs) in
-          rw (left_by_lem, place_rest key (pair_of (row_at mid rows bs)) _ low _ left-ascend (rw (below_by-order key x, ← order, q)), front_length, same_by-order key x, ← order, q)
+          let x = (pair_at mid m).key in
+          rw (left_by_lem, place_rest key (pair_at mid m) _ low _ left-ascend (rw (below_by-order key x, ← order, q)), front_length, same_by-order key x, ← order, q)
 
-      pub place-greater : o ≡ Greater → place_from low key (part low (high - low) (keys_in n rows bs)) ≡ place_from (mid + 1) key (part (mid + 1) (high - (mid + 1)) (keys_in n rows bs))
-      unfolding place_from pair_of
+      pub place-greater : o ≡ Greater → place_from low key (part low (high - low) m) ≡ place_from (mid + 1) key (part (mid + 1) (high - (mid + 1)) m)
+      unfolding place_from
       place-greater q =
-          let x = key_of (row_at mid rows bs) in
-          rw (left_by_lem, place_rest key (pair_of (row_at mid rows bs)) _ low _ left-ascend (rw (below_by-order key x, ← order, q)), front_length, same_by-order key x, below_by-order key x, ← order, q, add-one mid)
+          let x = (pair_at mid m).key in
+          rw (left_by_lem, place_rest key (pair_at mid m) _ low _ left-ascend (rw (below_by-order key x, ← order, q)), front_length, same_by-order key x, below_by-order key x, ← order, q, add-one mid)
 
 -- ---- what a place says
 
+module _ (m : Map (List ℕ) Held) (key : List ℕ) (i : ℕ) where
+  pub at_within : place_of key m ≡ Ok i → i < length m
+  unfolding Within
+  at_within e = rw e at (place-within key m)
+
+  pub before_within : place_of key m ≡ Err i → i ≤ length m
+  unfolding Within
+  before_within e = rw e at (place-within key m)
+
 module _ (n : ℕ) (rows bs key : List ℕ) (i : ℕ) where
   pub at_below : place_of key (keys_in n rows bs) ≡ Ok i → i < n
-  unfolding Within
-  at_below e = rw length-keys at (rw e at (place-within key (keys_in n rows bs)))
+  at_below e = rw length-keys at (at_within (keys_in n rows bs) key i e)
 
   pub before_below : place_of key (keys_in n rows bs) ≡ Err i → i ≤ n
-  unfolding Within
-  before_below e = rw length-keys at (rw e at (place-within key (keys_in n rows bs)))
+  before_below e = rw length-keys at (before_within (keys_in n rows bs) key i e)

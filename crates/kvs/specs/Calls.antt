@@ -70,8 +70,8 @@ unfoldable pub given : {A : Type 0} → Bool → A → Option A
 given b a = cond b (Some a) None
 
 -- the value, where the key is there
-abbrev pub GetKey : ℕ → List ℕ → List ℕ → List ℕ → Option (List ℕ) → Type 0
-GetKey n rows bs k r = r ≡ map_option (λ (h : Held). h.value) (lookup bytes k (keys_in n rows bs))
+abbrev pub GetKey : Map (List ℕ) Held → List ℕ → Option (List ℕ) → Type 0
+GetKey keys k r = r ≡ map_option (λ (h : Held). h.value) (lookup bytes k keys)
 
 -- ---- `rewrite_key`
 

@@ -1,7 +1,8 @@
 -- Lookup, insert and remove by the place of the key. Assumes nothing.
 use Rattle.kvs.specs.Places.{Sought}
 use Rattle.rules.specs.Causes.{Ok, Err}
-use Rattle.std.specs.Prelude.{true, ◌≡◌, ℕ, suc, length, drop}
+use Rattle.std.specs.Prelude.{true, ◌≡◌, ℕ, suc, ◌<◌, length, drop}
+use Rattle.std.proofs.Math.Seq.{drop-cons}
 use Rattle.std.proofs.Math.Path.{refl}
 use Rattle.std.proofs.Common.{sym, ap, suc-le-suc, zero-le}
 use mathlib.Core.List.{List, [], ◌∷◌}
@@ -11,7 +12,12 @@ use Rattle.maps.specs.Maps.{Pair, Map, lookup, insert, remove, bytes, equal_byte
 use Rattle.maps.specs.OrderLaws.{split, three, bytes_lawful, below-differs, below-not_back}
 use Rattle.maps.specs.MapLaws.{pair, Ascending, AllBelow, below_all, lookup_below, remove_absent, ascending-head, ascending-tail}
 use Rattle.rules.specs.Table.{Held}
-use Rattle.kvs.specs.Places.{place_from, place_of, found_at, laid_at, taken_at, Within, below_at}
+use Rattle.kvs.specs.Places.{place_from, place_of, found_at, laid_at, taken_at, no_pair, pair_at, Within, below_at}
+
+-- the pairs from place i on
+pub pairs_from : (i : ℕ) (m : Map (List ℕ) Held) → i < length m → drop i m ≡ pair_at i m ∷ drop (suc i) m
+unfolding pair_at
+pairs_from i m h = drop-cons m i no_pair h
 
 -- the same place one further on
 abbrev up : Sought → Sought

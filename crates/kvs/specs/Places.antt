@@ -1,9 +1,10 @@
 -- The place of a key in a map, and what the map's functions do there. Assumes nothing.
 use Rattle.std.specs.Prelude.{Result, Ok, Err}
-use Rattle.std.specs.Prelude.{cond, List, [], ◌∷◌, ◌++◌, ℕ, suc, ◌≤◌, ◌<◌, take, drop}
+use Rattle.std.specs.Prelude.{cond, List, [], ◌∷◌, ◌++◌, ℕ, suc, ◌≤◌, ◌<◌, take, drop, get_or}
 use Rattle.std.specs.Prelude.{Option, None}
 use Rattle.maps.specs.Lists.{first, map_option, or_else}
 use Rattle.maps.specs.Maps.{Pair, Map, equal_bytes, bytes_below}
+use Rattle.rules.specs.Items.{Append}
 use Rattle.rules.specs.Table.{Held}
 
 -- where a key stands: at a row, or absent and before one
@@ -30,6 +31,13 @@ laid_at (Err i) x m = take i m ++ (x ∷ drop i m)
 unfoldable pub taken_at : Sought → Map (List ℕ) Held → Map (List ℕ) Held
 taken_at (Ok i) m = take i m ++ drop (suc i) m
 taken_at (Err i) m = m
+
+-- the pair at place i; an empty key and an empty value where there is none
+abbrev pub no_pair : Pair (List ℕ) Held
+no_pair = record { key = []; val = record { value = []; file = record { queue = Append; seq = 0 } } }
+
+unfoldable pub pair_at : ℕ → Map (List ℕ) Held → Pair (List ℕ) Held
+pair_at i m = get_or m i no_pair
 
 -- a place of a map of n keys
 unfoldable pub Within : ℕ → Sought → Type 0

@@ -62,3 +62,8 @@ module _ (i : ℕ) (rows bs : List ℕ) where
   pub length-value : RowIn i rows bs → length (value_of (row_at i rows bs)) ≤ 32
   unfolding value_of
   length-value r = simp length-take (omega (arith, r.ok.value-fits))
+
+-- what is known of the key and of the value of a row
+pub ruleset key_rules = (key-length, key-part)
+
+pub ruleset value_rules = (value-length, value-part)

@@ -1,5 +1,5 @@
 // The files of a group's keys: how many keys a queue has, and its least sequence number. Only the numbers of the rows are read.
-ghost use Rattle.std.specs.Prelude.{◌≡◌, cond, ◌+◌, ◌*◌, ◌≤◌, length, get_or, Some};
+ghost use Rattle.std.specs.Prelude.{◌≡◌, cond, ◌+◌, ◌*◌, ◌/◌, ◌≤◌, length, get_or, Some};
 ghost use Rattle.maps.specs.Lists.{least};
 ghost use Rattle.pipe_log.specs.Rows.{queue_at};
 ghost use Rattle.rules.specs.Items.{same_queue};
@@ -29,12 +29,12 @@ fn least_from(rows: &[u64], i: usize, queue: LogQueue, rest: Option<u64>) -> Opt
     Some(rest.map_or(seq, |least| seq.min(least)))
 }
 
-// The least sequence number of the queue's keys.
+// The least sequence number of the queue's keys, of which `rows` are the numbers.
 #[tactic(auto, using(crate::proofs::Queues::least_more, crate::proofs::Queues::rest_none), unfolding(rules::specs::TableQueries::least_seq))]
-pub fn least_seq(n: usize, rows: &[u64], queue: LogQueue) -> Option<u64>
-    requires { n * 4 ≤ length rows.now }
-    ensures { LeastSeq n rows.now queue result }
+pub fn least_seq(rows: &[u64], queue: LogQueue) -> Option<u64>
+    ensures { LeastSeq (length rows.now / 4) rows.now queue result }
 {
+    let n = rows.len() / ROW_WIDTH;
     let mut found = None;
     for i in (0..n).rev() {
         found = least_from(rows, i, queue, found);
@@ -42,12 +42,12 @@ pub fn least_seq(n: usize, rows: &[u64], queue: LogQueue) -> Option<u64>
     found
 }
 
-// The number of the queue's keys.
+// The number of the queue's keys, of which `rows` are the numbers.
 #[tactic(auto, using(crate::proofs::Queues::count_rest, crate::proofs::Queues::rest_none))]
-pub fn count_of(n: usize, rows: &[u64], queue: LogQueue) -> usize
-    requires { n * 4 ≤ length rows.now }
-    ensures { CountOf n rows.now queue result }
+pub fn count_of(rows: &[u64], queue: LogQueue) -> usize
+    ensures { CountOf (length rows.now / 4) rows.now queue result }
 {
+    let n = rows.len() / ROW_WIDTH;
     let mut count = 0;
     for i in 0..n {
         if is_of(rows[i * ROW_WIDTH + 2], queue) {

@@ -3,39 +3,22 @@
 #![tactic(auto)]
 
 pub mod files;
+pub mod keys;
 pub mod merge;
 pub mod rows;
 
-ghost use Rattle.std.specs.Prelude.{◌≡◌, ◌≤◌, length, option_copied};
-ghost use Rattle.kvs.specs.Rows.{keys_in, Wf};
-ghost use Rattle.kvs.specs.Places.{place_of};
-ghost use Rattle.kvs.specs.Calls.{held_by, PutKey, DeleteKey, GetKey, RewriteKey};
+ghost use Rattle.std.specs.Prelude.{◌≤◌, length};
+ghost use Rattle.kvs.specs.Rows.{Wf};
+ghost use Rattle.kvs.specs.Calls.{held_by, PutKey, DeleteKey, RewriteKey};
 
 pub use files::{count_of, least_seq};
+pub use keys::Keys;
 pub use merge::merge_keys;
 use pipe_log::{APPEND, Cause, LogQueue};
-use rows::{ROW_BYTES, ROW_WIDTH, close_row, insert_row, key_at, move_file, value_at, write_row};
-use std::cmp::Ordering;
-
-// Looks for a key of any length, by halves. std's search goes over one slice, and a key is a row of numbers and bytes in another.
-pub fn find(n: usize, rows: &[u64], bytes: &[u8], key: &[u8]) -> Result<usize, usize>
-    requires { Wf n rows.now bytes.now }
-    ensures { result ≡ place_of key.now (keys_in n rows.now bytes.now) }
-{
-    let mut low = 0;
-    let mut high = n;
-    while low < high {
-        let mid = low + (high - low) / 2;
-        match cells::compare_u8(key, key_at(rows, bytes, mid)) {
-            Ordering::Less => high = mid,
-            Ordering::Equal => return Ok(mid),
-            Ordering::Greater => low = mid + 1,
-        }
-    }
-    Err(low)
-}
+use rows::{ROW_BYTES, ROW_WIDTH, close_row, insert_row, move_file, write_row};
 
 // Puts a key of at most 32 bytes with a value of at most 32 bytes and its file.
+#[tactic(auto, using(crate::proofs::Search::at_below, crate::proofs::Search::before_below))]
 pub fn put(
     n: usize,
     rows: &mut [u64],
@@ -49,7 +32,8 @@ pub fn put(
     requires key_len_bound { (length key.now ≤ 32) × (length value.now ≤ 32) }
     ensures { PutKey n rows.old bytes.old key.now (held_by value.now queue seq) result rows.new bytes.new }
 {
-    match find(n, rows, bytes, key) {
+    let place = Keys::new(n, rows, bytes).find(key);
+    match place {
         Ok(i) => {
             write_row(rows, bytes, i, key, value, queue, seq);
             Ok(n)
@@ -68,29 +52,21 @@ pub fn put(
 }
 
 // Deletes a key of any length; an absent one stays absent.
+#[tactic(auto, using(crate::proofs::Search::at_below))]
 pub fn delete(n: usize, rows: &mut [u64], bytes: &mut [u8], key: &[u8]) -> usize
     requires { Wf n rows.old bytes.old }
     ensures { DeleteKey n rows.old bytes.old key.now result rows.new bytes.new }
 {
-    let Ok(i) = find(n, rows, bytes, key) else {
+    let place = Keys::new(n, rows, bytes).find(key);
+    let Ok(i) = place else {
         return n;
     };
     close_row(n, rows, bytes, i);
     n - 1
 }
 
-// The value of a key of any length, as the part of the area that holds it.
-pub fn get<'a>(n: usize, rows: &[u64], bytes: &'a [u8], key: &[u8]) -> Option<&'a [u8]>
-    requires { Wf n rows.now bytes.now }
-    ensures { GetKey n rows.now bytes.now key.now (option_copied result) }
-{
-    let Ok(i) = find(n, rows, bytes, key) else {
-        return None;
-    };
-    Some(value_at(rows, bytes, i))
-}
-
 // `rewrite_key` of a key of any length to Rewrite file `seq`, gated or not. The bytes stay.
+#[tactic(auto, using(crate::proofs::Search::at_below))]
 pub fn rewrite_key(
     n: usize,
     rows: &mut [u64],
@@ -102,7 +78,8 @@ pub fn rewrite_key(
     requires { Wf n rows.old bytes.now }
     ensures { RewriteKey n rows.old bytes.now key.now gate seq result rows.new }
 {
-    let Ok(i) = find(n, rows, bytes, key) else {
+    let place = Keys::new(n, rows, bytes).find(key);
+    let Ok(i) = place else {
         return Ok(());
     };
     let queue = rows[i * ROW_WIDTH + 2];

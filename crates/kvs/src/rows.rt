@@ -1,11 +1,12 @@
 // One row of a group's keys: read, written, made room for and taken out.
-ghost use Rattle.std.specs.Prelude.{◌≡◌, ◌+◌, ◌*◌, ◌≤◌, ◌<◌, length};
+ghost use Rattle.std.specs.Prelude.{◌≡◌, ◌+◌, ◌*◌, ◌≤◌, ◌<◌, length, get_or};
+ghost use Rattle.pipe_log.specs.Rows.{queue_at};
 ghost use Rattle.kvs.specs.Rows.{row_at, key_of, value_of};
 ghost use Rattle.kvs.specs.RowIn.{RowIn};
 ghost use Rattle.kvs.specs.Writes.{written_rows, written_bytes, opened, closed};
 ghost use Rattle.kvs.specs.Calls.{held_by, moved_rows};
 
-use pipe_log::{LogQueue, REWRITE};
+use pipe_log::{FileId, LogQueue, REWRITE};
 
 // Numbers in a row: the lengths of the key and of the value, and the queue and the number of the file.
 pub const ROW_WIDTH: usize = 4;
@@ -19,9 +20,11 @@ pub const VALUE_AT: usize = 32;
 pub const LENS_WIDTH: usize = 2;
 
 // The key of row `i`, as the part of the area that holds it.
+#[tactic(auto, using(crate::specs::RowIn::key_rules))]
 pub fn key_at<'a>(rows: &[u64], bytes: &'a [u8], i: usize) -> &'a [u8]
     requires { RowIn i rows.now bytes.now }
-    ensures { result.now ≡ key_of (row_at i rows.now bytes.now) }
+    ensures value { result.now ≡ key_of (row_at i rows.now bytes.now) }
+    ensures upper_bound { length result.now ≤ 32 }
 {
     let a = i * ROW_BYTES;
     let e = a + rows[i * ROW_WIDTH] as usize;
@@ -29,13 +32,28 @@ pub fn key_at<'a>(rows: &[u64], bytes: &'a [u8], i: usize) -> &'a [u8]
 }
 
 // The value of row `i`, as the part of the area that holds it.
+#[tactic(auto, using(crate::specs::RowIn::value_rules))]
 pub fn value_at<'a>(rows: &[u64], bytes: &'a [u8], i: usize) -> &'a [u8]
     requires { RowIn i rows.now bytes.now }
-    ensures { result.now ≡ value_of (row_at i rows.now bytes.now) }
+    ensures value { result.now ≡ value_of (row_at i rows.now bytes.now) }
+    ensures upper_bound { length result.now ≤ 32 }
 {
     let a = i * ROW_BYTES + VALUE_AT;
     let e = a + rows[i * ROW_WIDTH + 1] as usize;
     &bytes[a..e]
+}
+
+// The file of row `i`.
+pub fn file_at(rows: &[u64], i: usize) -> FileId
+    requires { i * 4 + 4 ≤ length rows.now }
+    ensures { (result.queue ≡ queue_at (get_or rows.now (i * 4 + 2) 0)) × (result.seq ≡ get_or rows.now (i * 4 + 3) 0) }
+{
+    let at = i * ROW_WIDTH + 2;
+    let queue = LogQueue::from(rows[at]);
+    FileId {
+        queue,
+        seq: rows[at + 1],
+    }
 }
 
 // Writes row `i`: its numbers, and as many of its bytes as the key and the value have.
@@ -63,6 +81,7 @@ pub fn write_row(
 }
 
 // Moves the rows from row `i` of `n` up by one.
+#[tactic(auto, unfolding(crate::specs::Writes::opened))]
 pub fn open_row(n: usize, rows: &mut [u64], bytes: &mut [u8], i: usize)
     requires i_le_n { i ≤ n }
     requires n_in_bounds { (n * 4 + 4 ≤ length rows.old) × (n * 64 + 64 ≤ length bytes.old) }
@@ -84,6 +103,7 @@ pub fn open_row(n: usize, rows: &mut [u64], bytes: &mut [u8], i: usize)
 }
 
 // Moves the rows after row `i` of `n` down by one.
+#[tactic(auto, unfolding(crate::specs::Writes::closed))]
 pub fn close_row(n: usize, rows: &mut [u64], bytes: &mut [u8], i: usize)
     requires i_lt_n { i < n }
     requires n_in_bounds { (n * 4 ≤ length rows.old) × (n * 64 ≤ length bytes.old) }
@@ -127,6 +147,7 @@ pub fn insert_row(
 }
 
 // Sets the file of row `i` to Rewrite file `seq`.
+#[tactic(auto, using(crate::proofs::Rewrites::two_stores))]
 pub fn move_file(rows: &mut [u64], i: usize, seq: u64)
     requires { i * 4 + 4 ≤ length rows.old }
     ensures { rows.new ≡ moved_rows i seq rows.old }

@@ -6,7 +6,7 @@ use mathlib.Core.List.{List, [], ◌∷◌, ◌++◌}
 use Prim.Native.Nat.{ℕ, ◌+◌, ◌-◌, ◌/◌, ◌≤◌, ◌<◌}
 use native.Mathlib.Omega.{arith}
 use lib.ListN.{length, get_or, set, take, drop, length-set}
-use lib.Seq.{get_or-set_same, get_or-set_other, drop-set-lt}
+use lib.Seq.{get_or-set_same, get_or-set_other, drop-set-lt, length-take-le}
 use borrow.Rule.Slice.PartMut.{put_mid}
 use borrow.Author.Tests.{lt-ltb}
 use Rattle.maps.specs.Lists.{sum}
@@ -26,11 +26,15 @@ use Rattle.lists.specs.Rest.{kind_of, tombstone_store, tombstone_area, tombstone
 use Rattle.lists.specs.Calls.{Behind, Becomes, TombstonesAdded, TombstoneAdded, AllCleanedAdded, CleanedAdded}
 use Rattle.lists.proofs.FrontLaws.{store_of, store_is, area-is, tombstones-are, cleaned-are, rest-is, Fronts, places-fit, keeps-fronts}
 
+-- the bytes that are lent to the store of the tombstones
+pub bytes_lent : (cs : List ℕ) → length cs ≡ 22528 → 4096 ≡ length (take 4096 cs)
+bytes_lent cs e = sym (length-take-le 4096 cs (omega arith))
+
 -- ---- cut
 
-pub cut-is : (ys : List ℕ) (t n : ℕ) → 3 ≤ length ys → set (set ys 1 t) 2 n ≡ cut_to t n ys
+pub cut_is : (ys : List ℕ) (t n : ℕ) → 3 ≤ length ys → set (set ys 1 t) 2 n ≡ cut_to t n ys
 unfolding cut_to
-cut-is ys t n h =
+cut_is ys t n h =
     rw (set-put ys 1 t (omega arith))
     (set-put (put ys 1 (t ∷ [])) 2 n (rw (length-put ys 1 (t ∷ []) (omega arith)) h)
     ∙ sym (put-append ys 1 (t ∷ []) (n ∷ []) (omega arith)))
@@ -187,9 +191,9 @@ same_store : (t : Store) (n : ℕ) → t.items ≡ n → t.entries ≡ 0 → t �
 same_store t n p q = λ i. record { items = p i; entries = q i }
 
 -- there is a row for one more, and it has no entries
-pub tombstone-room : (ys : List ℕ) (k : ℕ) → length ys ≡ 7855 → get_or ys 1 0 < 64 → k ≡ 0 → has_room k (store_of (get_or ys 1 0)) (length (take 576 (drop 67 ys))) 0 ≡ true
+pub tombstone_room : (ys : List ℕ) (k : ℕ) → length ys ≡ 7855 → get_or ys 1 0 < 64 → k ≡ 0 → has_room k (store_of (get_or ys 1 0)) (length (take 576 (drop 67 ys))) 0 ≡ true
 unfolding has_room part
-tombstone-room ys k e h z =
+tombstone_room ys k e h z =
     let l : length (take 576 (drop 67 ys)) ≡ 576 = length_part 67 576 ys (omega arith) in
     rw (l, z, lt-ltb (get_or ys 1 0) (576 / 9) (omega arith))
 
@@ -320,9 +324,9 @@ tombstone-added ys cs xs es bs it ns zs t w z a =
 
 -- the tombstones of other lists us and vs
 module _ (ys cs us vs : List ℕ) (w : Wf ys cs) (v : Wf us vs) (h : get_or ys 1 0 + get_or us 1 0 ≤ 64) where
-  pub tombstones-room : (get_or ys 1 0 + get_or us 1 0 ≤ length (take 576 (drop 67 ys)) / 9) × (0 + 0 ≤ 0 / 8)
+  pub tombstones_room : (get_or ys 1 0 + get_or us 1 0 ≤ length (take 576 (drop 67 ys)) / 9) × (0 + 0 ≤ 0 / 8)
   unfolding part
-  tombstones-room =
+  tombstones_room =
       let n = w.numbers-are in
       let l : length (take 576 (drop 67 ys)) ≡ 576 = length_part 67 576 ys (omega arith) in
       (omega arith, omega arith)

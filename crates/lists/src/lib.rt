@@ -4,7 +4,7 @@
 mod cleaned;
 
 ghost use Rattle.std.specs.Prelude.{List, [], ◌≡◌, ℕ, ◌+◌, ◌≤◌, ◌<◌, length, get_or};
-ghost use Rattle.rules.specs.Context.{fresh, with_cleaned};
+ghost use Rattle.rules.specs.Context.{fresh, is_context, is_index, with_cleaned};
 ghost use Rattle.rules.specs.Calls.{index_of};
 ghost use Rattle.log_batch.specs.Lent.{item_of};
 ghost use Rattle.stores.specs.Stores.{ItemAt};
@@ -13,18 +13,19 @@ ghost use Rattle.lists.specs.Rest.{kind_of, tombstone_store, tombstone_area, tom
 ghost use Rattle.lists.specs.Calls.{kind_as, Becomes, TombstonesAdded, TombstoneAdded, AllCleanedAdded, CleanedAdded};
 
 pub use cleaned::copy_cleaned;
+use log_batch::LogBatch;
 use log_batch::item::LogItem;
 use log_batch::open::ITEM_WIDTH;
 use pipe_log::{APPEND, LogQueue, REWRITE};
-use stores::Store;
 use stores::row::ITEM_BYTES;
+use stores::{LentStore, Store};
 
 // The lengths that an area has behind its groups.
 pub const NUMBERS: usize = 7855;
 
 pub const BYTES: usize = 22528;
 
-// The limits of the lists.
+// The limits of the lists. There is no heap and C lends the area, so the number in use of each stands beside a fixed number of places.
 pub const MAX_TOMBSTONES: usize = 64;
 
 pub const MAX_CLEANED: usize = 64;
@@ -54,6 +55,26 @@ pub enum Kind {
     Index,
 }
 
+impl Kind {
+    // Whether it is a context of a queue.
+    #[tactic(auto, unfolding(rules::specs::Context::is_context, crate::specs::Calls::kind_as, rules::specs::Items::same_queue))]
+    pub fn is_context(self, queue: LogQueue) -> bool
+        ensures { result ≡ is_context queue (kind_as self) }
+    {
+        match self {
+            Kind::Context(own) => queue == own,
+            Kind::Index => false,
+        }
+    }
+
+    #[tactic(auto, unfolding(rules::specs::Context::is_index, crate::specs::Calls::kind_as))]
+    pub fn is_index(self) -> bool
+        ensures { result ≡ is_index (kind_as self) }
+    {
+        matches!(self, Kind::Index)
+    }
+}
+
 // The numbers of elements that the lists have.
 #[derive(Clone, Copy)]
 pub struct Counts {
@@ -62,6 +83,7 @@ pub struct Counts {
 }
 
 // What the area stands for.
+#[tactic(auto, unfolding(crate::specs::Calls::kind_as, crate::specs::Rest::kind_of))]
 pub fn kind_in(ys: &[u64]) -> Kind
     requires { 0 < length ys.now }
     ensures { kind_as result ≡ kind_of (get_or ys.now 0 0) }
@@ -74,12 +96,13 @@ pub fn kind_in(ys: &[u64]) -> Kind
 }
 
 // Opens tombstone `j`, whose key stands in the lists' own bytes.
+#[tactic(auto, using(crate::proofs::CallLaws::bytes_lent), unfolding(crate::specs::Rest::tombstone_store, cells::specs::Part::part, crate::specs::Rest::tombstone_area))]
 pub fn tombstone_at(ys: &[u64], cs: &[u8], j: usize) -> LogItem
     requires wf { Wf ys.now cs.now }
     requires j_bound { j < get_or ys.now 1 0 }
     ensures { ItemAt (tombstone_store ys.now) (tombstone_area ys.now cs.now) j result }
 {
-    let store = Store {
+    let counts = Store {
         items: ys[TOMBSTONES_AT] as usize,
         entries: 0,
     };
@@ -87,7 +110,12 @@ pub fn tombstone_at(ys: &[u64], cs: &[u8], j: usize) -> LogItem
     let from = ROWS_FROM;
     let to = ROWS_TO;
     let end = ROW_BYTES;
-    stores::read::item_at(store, &ys[from..to], &none, &cs[..end], j)
+    let parts = LogBatch {
+        items: &ys[from..to],
+        entries: &none,
+        bytes: &cs[..end],
+    };
+    stores::read::item_at(&LentStore { counts, parts }, j)
 }
 
 // The cleaned number `j`.
@@ -121,6 +149,7 @@ pub fn counts_in(ys: &[u64]) -> Counts
 }
 
 // Cuts the lists back to numbers of elements that they had.
+#[tactic(auto, using(crate::proofs::CallLaws::cut_is))]
 pub fn cut(ys: &mut [u64], counts: Counts)
     requires { length ys.old ≡ 7855 }
     ensures { ys.new ≡ cut_to counts.tombstones counts.cleaned ys.old }
@@ -130,6 +159,7 @@ pub fn cut(ys: &mut [u64], counts: Counts)
 }
 
 // Adds a tombstone, for which there is room.
+#[tactic(auto, using(crate::proofs::CallLaws::bytes_lent, crate::proofs::CallLaws::tombstone_room), unfolding(crate::specs::Rest::tombstone_store, cells::specs::Part::part, crate::specs::Rest::tombstone_area))]
 pub fn add_tombstone(ys: &mut [u64], cs: &mut [u8], item: LogItem, entries: &[u64], bytes: &[u8])
     requires wf { Wf ys.old cs.old }
     requires ys_bound { get_or ys.old 1 0 < 64 }
@@ -170,6 +200,7 @@ pub fn add_cleaned(ys: &mut [u64], group: u64)
 }
 
 // Adds the tombstones of other lists, for which there is room.
+#[tactic(auto, using(crate::proofs::CallLaws::bytes_lent, crate::proofs::CallLaws::tombstones_room), unfolding(crate::specs::Rest::tombstone_store, cells::specs::Part::part, crate::specs::Rest::tombstone_area))]
 pub fn add_tombstones(ys: &mut [u64], cs: &mut [u8], its_ys: &[u64], its_cs: &[u8])
     requires wf { Wf ys.old cs.old }
     requires wf_2 { Wf its_ys.now its_cs.now }
@@ -182,7 +213,7 @@ pub fn add_tombstones(ys: &mut [u64], cs: &mut [u8], its_ys: &[u64], its_cs: &[u
         items: own,
         entries: 0,
     };
-    let others = Store {
+    let counts = Store {
         items: its,
         entries: 0,
     };
@@ -191,15 +222,17 @@ pub fn add_tombstones(ys: &mut [u64], cs: &mut [u8], its_ys: &[u64], its_cs: &[u
     let from = ROWS_FROM;
     let to = ROWS_TO;
     let end = ROW_BYTES;
+    let parts = LogBatch {
+        items: &its_ys[from..to],
+        entries: &its_none,
+        bytes: &its_cs[..end],
+    };
     stores::append::add_all(
         store,
         &mut ys[from..to],
         &mut none,
         &mut cs[..end],
-        others,
-        &its_ys[from..to],
-        &its_none,
-        &its_cs[..end],
+        &LentStore { counts, parts },
     );
     ys[TOMBSTONES_AT] = own as u64 + its as u64;
 }

@@ -115,7 +115,7 @@ module _ (es bs : List ℕ) where
       unfolding find_from
       find-more h t = rw (items_more h, t, add-one i)
 
--- any byte but 0 and 1 stands for the last status
+-- any number but 0 and 1 stands for the last status
 pub status_end : (b : ℕ) → (b ≡ 0 → ⊥) → (b ≡ 1 → ⊥) → end ≡ status_of b
 unfolding status_of
 status_end zero p q = absurd (p refl)

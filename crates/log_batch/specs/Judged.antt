@@ -28,6 +28,12 @@ status_as status.TheVariants.Begin = rules.begin
 status_as status.TheVariants.Middle = rules.middle
 status_as status.TheVariants.End = rules.end
 
+-- the number of a status, as a mark's byte and the head of a part have it
+unfoldable pub status_number : rules.Status → ℕ
+status_number rules.begin = 0
+status_number rules.middle = 1
+status_number rules.end = 2
+
 unfoldable pub mark_of : mark.Mark → Mark
 mark_of m = record { at = m.at; group = m.raft_group_id; byte = m.byte }
 

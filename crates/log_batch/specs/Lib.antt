@@ -1,5 +1,6 @@
 -- What the contracts of `log_batch` cite.
 pub mod Lent
+pub mod Batch
 pub mod Judged
 pub mod OpenLaws
 pub mod PassedLaws

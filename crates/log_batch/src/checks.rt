@@ -3,9 +3,11 @@
 
 ghost use Rattle.std.specs.Prelude.{◌≡◌, List, ℕ, ◌*◌, ◌<◌, length, drop};
 ghost use Rattle.rules.specs.Checks.{breaks_mark, checks};
-ghost use Rattle.log_batch.specs.Lent.{row_count_of, item_of, item_at, items_of, BytesWithin, Within};
+ghost use Rattle.log_batch.specs.Batch.{count_in, item_in, items_in};
+ghost use Rattle.log_batch.specs.Lent.{item_of, BytesWithin, Within};
 ghost use Rattle.log_batch.specs.Judged.{call_of, mark_of, mark_as, mark_for, incomplete_mark, least_mark, least_of, lesser_of, checked_as};
 
+use crate::batch::LogBatch;
 use crate::causes::{Call, MAX_ITEMS, is_long, lacks_mark_value, least_of_content};
 use crate::item::LogItem;
 use crate::mark::{END, Mark, first_mark, is_reserved, mark_byte};
@@ -13,7 +15,7 @@ use crate::open::{open_item, row_count};
 use pipe_log::{Cause, Refusal};
 
 // The highest status of a mark.
-pub const MAX_STATUS: u8 = END;
+pub const MAX_STATUS: u8 = END as u8;
 
 // Whether an item breaks the rule of a marked batch: a second mark, a status above 2, another group.
 fn breaks_mark(mark: Mark, i: usize, item: LogItem, bytes: &[u8]) -> bool
@@ -85,37 +87,31 @@ fn least_of(
 }
 
 // The same of the row at item i, opened; a refused row is incomplete.
-fn least_at(
-    call: Call,
-    mark: Option<Mark>,
-    i: usize,
-    items: &[u64],
-    entries: &[u64],
-    bytes: &[u8],
-) -> Option<Cause>
-    requires { i < row_count_of items.now }
-    ensures { result ≡ least_of (call_of call) (mark_as mark) i (item_at entries.now bytes.now (drop (i * 9) items.now)) }
+fn least_at(call: Call, mark: Option<Mark>, i: usize, batch: &LogBatch) -> Option<Cause>
+    requires { i < count_in batch.now }
+    ensures { result ≡ least_of (call_of call) (mark_as mark) i (item_in i batch.now) }
 {
-    let Ok(item) = open_item(items, entries, bytes, i) else {
+    let Ok(item) = open_item(batch, i) else {
         if i == MAX_ITEMS {
             return Some(Cause::TooLong);
         }
         return Some(Cause::Incomplete);
     };
-    least_of(call, mark, i, item, entries, bytes)
+    least_of(call, mark, i, item, batch.entries, batch.bytes)
 }
 
 // The first mark, for the one call that looks at marks.
-pub fn mark_for(call: Call, items: &[u64], entries: &[u64], bytes: &[u8]) -> Option<Mark>
-    ensures { mark_as result ≡ mark_for (call_of call) (items_of items.now entries.now bytes.now) }
+pub fn mark_for(call: Call, batch: &LogBatch) -> Option<Mark>
+    ensures { mark_as result ≡ mark_for (call_of call) (items_in batch.now) }
 {
     if !call.is_rewrite_replay() {
         return None;
     }
-    first_mark(items, entries, bytes)
+    first_mark(batch)
 }
 
-// The refusal with the lesser number, and of the same number the one at the earlier place.
+// The refusal with the lesser number, and of the same number the one at the earlier place: 01's choice between two refusals, and no order
+// of refusals.
 fn lesser(best: Option<Refusal>, cause: Option<Cause>, place: usize) -> Option<Refusal>
     ensures { result ≡ lesser_of best cause place }
 {
@@ -134,13 +130,13 @@ fn lesser(best: Option<Refusal>, cause: Option<Cause>, place: usize) -> Option<R
 }
 
 // The checks TooLong to BadMark of a batch for a call. No more than 33 items are looked at, since item 32 is one too many.
-pub fn check(call: Call, items: &[u64], entries: &[u64], bytes: &[u8]) -> Result<(), Refusal>
-    ensures { checked_as result ≡ checks (call_of call) (items_of items.now entries.now bytes.now) }
+pub fn check(call: Call, batch: &LogBatch) -> Result<(), Refusal>
+    ensures { checked_as result ≡ checks (call_of call) (items_in batch.now) }
 {
-    let mark = mark_for(call, items, entries, bytes);
+    let mark = mark_for(call, batch);
     let mut best = None;
-    for i in 0..row_count(items) {
-        best = lesser(best, least_at(call, mark, i, items, entries, bytes), i);
+    for i in 0..row_count(batch) {
+        best = lesser(best, least_at(call, mark, i, batch), i);
         if let Some(refusal) = best
             && refusal.cause == Cause::TooLong
         {

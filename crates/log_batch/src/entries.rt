@@ -2,7 +2,6 @@
 ghost use Rattle.std.specs.Prelude.{◌≡◌, suc, ◌*◌, ◌≤◌, eqb, length};
 ghost use Rattle.maps.specs.Lists.{any};
 ghost use Rattle.pipe_log.specs.Rows.{is_record, entry_of, entries_of};
-ghost use Rattle.rules.specs.Items.{same_queue};
 ghost use Rattle.rules.specs.Checks.{consecutive};
 ghost use Rattle.log_batch.specs.Judged.{entry_meets, entries_incomplete};
 
@@ -18,7 +17,7 @@ pub const MAX_COMPRESSION: u64 = 1;
 
 pub const ENTRY_OFFSETS: u64 = 0x1_0000_0000;
 
-// What an entry is tested for.
+// What an entry is tested for. Contracts name a test by it (`entry_meets`), so it is data: a closure would go with its meaning beside it.
 #[derive(Clone, Copy)]
 pub enum EntryTest {
     WithoutFile,
@@ -33,13 +32,6 @@ fn is_record(row: &[u64]) -> bool
     ensures { result ≡ is_record row.now }
 {
     row[1] <= REWRITE && row[5] <= MAX_COMPRESSION && row[6] < ENTRY_OFFSETS
-}
-
-// Whether two queues are the same.
-pub fn same_queue(a: LogQueue, b: LogQueue) -> bool
-    ensures { result ≡ same_queue a b }
-{
-    a == b
 }
 
 #[tactic(auto, unfolding(crate::specs::Judged::entry_meets, pipe_log::specs::Rows::entry_of))]

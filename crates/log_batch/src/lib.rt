@@ -2,6 +2,7 @@
 // places in the lent slices, opening an item, marks, and the checks 2 to 7.
 #![tactic(auto)]
 
+pub mod batch;
 pub mod causes;
 pub mod checks;
 pub mod entries;
@@ -10,5 +11,6 @@ pub mod mark;
 pub mod open;
 pub mod plain;
 
+pub use batch::{LogBatch, RewriteReplay};
 pub use causes::Call;
 pub use checks::check;

@@ -6,21 +6,23 @@ ghost use Rattle.maps.specs.Maps.{equal_bytes};
 ghost use Rattle.rules.specs.Limits.{reserved_key};
 ghost use Rattle.rules.specs.Items.{is_reserved, one_byte, mark_byte, status_of};
 ghost use Rattle.rules.specs.Checks.{first_mark};
-ghost use Rattle.log_batch.specs.Lent.{row_count_of, key_content, content_of, BytesWithin, value_of, ValueWithin, item_at, items_of};
-ghost use Rattle.log_batch.specs.Judged.{status_as, mark_as, mark_here};
+ghost use Rattle.log_batch.specs.Batch.{count_in, item_in, items_in};
+ghost use Rattle.log_batch.specs.Lent.{key_content, content_of, BytesWithin, value_of, ValueWithin};
+ghost use Rattle.log_batch.specs.Judged.{status_as, status_number, mark_as, mark_here};
 
+use crate::batch::LogBatch;
 use crate::item::{Bytes, KeyValue, LogItemContent, OpType, bytes_of};
 use crate::open::{open_item, row_count};
 
 // The length of the reserved key.
 pub const RESERVED_LEN: usize = 3;
 
-// The bytes of the statuses.
-pub const BEGIN: u8 = 0;
+// The numbers of the statuses.
+pub const BEGIN: u64 = 0;
 
-pub const MIDDLE: u8 = 1;
+pub const MIDDLE: u64 = 1;
 
-pub const END: u8 = 2;
+pub const END: u64 = 2;
 
 // The status of a mark.
 #[derive(Clone, Copy)]
@@ -38,17 +40,39 @@ pub struct Mark {
     pub byte: u8,
 }
 
-// The status that a byte stands for; a byte above 2 is no mark's, and stands for the last one too.
-impl From<u8> for AtomicGroupStatus {
-    ghost from_gives = { λ byte s. status_as s ≡ status_of byte };
+impl From<AtomicGroupStatus> for u64 {
+    ghost from_gives = { λ status n. n ≡ status_number (status_as status) };
+
+    #[tactic(auto, unfolding(crate::specs::Judged::status_as, crate::specs::Judged::status_number))]
+    fn from(status: AtomicGroupStatus) -> u64 {
+        match status {
+            AtomicGroupStatus::Begin => BEGIN,
+            AtomicGroupStatus::Middle => MIDDLE,
+            AtomicGroupStatus::End => END,
+        }
+    }
+}
+
+// The status that a number stands for; a number above 2 is no mark's, and stands for the last one too.
+impl From<u64> for AtomicGroupStatus {
+    ghost from_gives = { λ number s. status_as s ≡ status_of number };
 
     #[tactic(auto, using(crate::proofs::ItemLaws::status_end), unfolding(crate::specs::Judged::status_as, rules::specs::Items::status_of))]
-    fn from(byte: u8) -> AtomicGroupStatus {
-        match byte {
+    fn from(number: u64) -> AtomicGroupStatus {
+        match number {
             BEGIN => AtomicGroupStatus::Begin,
             MIDDLE => AtomicGroupStatus::Middle,
             _ => AtomicGroupStatus::End,
         }
+    }
+}
+
+// The status that a byte stands for.
+impl From<u8> for AtomicGroupStatus {
+    ghost from_gives = { λ byte s. status_as s ≡ status_of byte };
+
+    fn from(byte: u8) -> AtomicGroupStatus {
+        AtomicGroupStatus::from(u64::from(byte))
     }
 }
 
@@ -113,14 +137,14 @@ pub fn mark_byte(content: LogItemContent, bytes: &[u8]) -> Option<u8>
 }
 
 // The mark that item i is, if it is one.
-fn mark_at(items: &[u64], entries: &[u64], bytes: &[u8], i: usize) -> Option<Mark>
-    requires { i < row_count_of items.now }
-    ensures { mark_as result ≡ mark_here i (item_at entries.now bytes.now (drop (i * 9) items.now)) }
+fn mark_at(batch: &LogBatch, i: usize) -> Option<Mark>
+    requires { i < count_in batch.now }
+    ensures { mark_as result ≡ mark_here i (item_in i batch.now) }
 {
-    let Ok(item) = open_item(items, entries, bytes, i) else {
+    let Ok(item) = open_item(batch, i) else {
         return None;
     };
-    let byte = mark_byte(item.content, bytes)?;
+    let byte = mark_byte(item.content, batch.bytes)?;
     Some(Mark {
         at: i,
         raft_group_id: item.raft_group_id,
@@ -129,11 +153,11 @@ fn mark_at(items: &[u64], entries: &[u64], bytes: &[u8], i: usize) -> Option<Mar
 }
 
 // The first mark of a batch.
-pub fn first_mark(items: &[u64], entries: &[u64], bytes: &[u8]) -> Option<Mark>
-    ensures { mark_as result ≡ first_mark 0 (items_of items.now entries.now bytes.now) }
+pub fn first_mark(batch: &LogBatch) -> Option<Mark>
+    ensures { mark_as result ≡ first_mark 0 (items_in batch.now) }
 {
-    for i in 0..row_count(items) {
-        if let Some(mark) = mark_at(items, entries, bytes, i) {
+    for i in 0..row_count(batch) {
+        if let Some(mark) = mark_at(batch, i) {
             return Some(mark);
         }
     }

@@ -2,8 +2,10 @@
 #![tactic(auto, unfolding(crate::specs::Lent::item_if, crate::specs::Lent::value_fits, crate::specs::Lent::value_at, crate::specs::Lent::file_at, crate::specs::Lent::opened_entries, crate::specs::Lent::opened_put, crate::specs::Lent::opened_del, crate::specs::Lent::opened_row, crate::specs::Lent::row_count_of))]
 
 ghost use Rattle.std.specs.Prelude.{◌≡◌, ◌+◌, ◌*◌, ◌/◌, ◌≤◌, ◌<◌, leb, length, drop};
-ghost use Rattle.log_batch.specs.Lent.{row_count_of, value_fits, value_at, file_at, opened_entries, opened_put, opened_del, opened_row, OpenedWithin};
+ghost use Rattle.log_batch.specs.Batch.{count_in};
+ghost use Rattle.log_batch.specs.Lent.{value_fits, value_at, file_at, opened_entries, opened_put, opened_del, opened_row, OpenedWithin};
 
+use crate::batch::LogBatch;
 use crate::item::{Bytes, Command, EntryIndexes, KeyValue, LogItem, LogItemContent, OpType};
 use pipe_log::{APPEND, ENTRY_WIDTH, FileId, LogQueue, REWRITE};
 
@@ -40,10 +42,10 @@ pub struct Unopened {
 }
 
 // The number of items: a last row that is cut short counts.
-pub fn row_count(items: &[u64]) -> usize
-    ensures { result ≡ row_count_of items.now }
+pub fn row_count(batch: &LogBatch) -> usize
+    ensures { result ≡ count_in batch.now }
 {
-    (items.len() + ITEM_REST) / ITEM_WIDTH
+    (batch.items.len() + ITEM_REST) / ITEM_WIDTH
 }
 
 // Whether `len` places from `at` are within the first `end`.
@@ -182,16 +184,15 @@ fn open_row(row: &[u64], rows: usize, bytes: usize) -> Result<LogItem, Unopened>
 }
 
 // Opens item i.
-pub fn open_item(
-    items: &[u64],
-    entries: &[u64],
-    bytes: &[u8],
-    i: usize,
-) -> Result<LogItem, Unopened>
-    requires { i < row_count_of items.now }
-    ensures value { result ≡ opened_row (drop (i * 9) items.now) (length entries.now / 8) (length bytes.now) }
-    ensures opened_within { OpenedWithin result (length entries.now) (length bytes.now) }
+pub fn open_item(batch: &LogBatch, i: usize) -> Result<LogItem, Unopened>
+    requires { i < count_in batch.now }
+    ensures value { result ≡ opened_row (drop (i * 9) batch.now.items.now) (length batch.now.entries.now / 8) (length batch.now.bytes.now) }
+    ensures opened_within { OpenedWithin result (length batch.now.entries.now) (length batch.now.bytes.now) }
 {
     let start = i * ITEM_WIDTH;
-    open_row(&items[start..], entries.len() / ENTRY_WIDTH, bytes.len())
+    open_row(
+        &batch.items[start..],
+        batch.entries.len() / ENTRY_WIDTH,
+        batch.bytes.len(),
+    )
 }

@@ -17,7 +17,8 @@ use pipe_log::Span;
 pub use rows::entry_at;
 
 // A group's head. The entries are the first `len` rows of the group's part, oldest first, by consecutive indexes from
-// `first_index`; the first `rewrite_count` of them are of the Rewrite queue, the others of the Append queue.
+// `first_index`; the first `rewrite_count` of them are of the Rewrite queue, the others of the Append queue. There is no heap and C lends
+// the part, so the head counts the rows in use.
 #[derive(Clone, Copy)]
 pub struct Head {
     pub first_index: u64,

@@ -1,6 +1,5 @@
 // Sequence numbers and numbers of entries by queue.
 ghost use Rattle.std.specs.Prelude.{◌≡◌, List, ℕ, ◌≤◌};
-ghost use Rattle.maps.specs.Lists.{least};
 ghost use Rattle.pipe_log.specs.Rows.{window};
 ghost use Rattle.rules.specs.TableQueries.{by_span};
 ghost use Rattle.memtable.specs.Views.{Wf};
@@ -8,17 +7,6 @@ ghost use Rattle.memtable.specs.Queries.{front_seq, min_seq, entry_count, Rewrit
 
 use crate::Head;
 use pipe_log::{ENTRY_WIDTH, LogQueue, Span};
-
-#[tactic(auto, unfolding(maps::specs::Lists::least))]
-fn lesser_of(a: Option<u64>, b: Option<u64>) -> Option<u64>
-    ensures { result ≡ least a b }
-{
-    match (a, b) {
-        (Some(x), Some(y)) => Some(x.min(y)),
-        (None, _) => b,
-        (_, None) => a,
-    }
-}
 
 impl Head {
     // The sequence number of the front entry of a queue's run.
@@ -58,12 +46,15 @@ impl Head {
     }
 
     // The least sequence number of a queue's entries and keys; `keys` is that of its keys.
-    #[tactic(auto, unfolding(crate::specs::Queries::min_seq, maps::specs::Lists::map_option))]
+    #[tactic(auto, unfolding(crate::specs::Queries::min_seq, maps::specs::Lists::least, maps::specs::Lists::map_option))]
     pub fn min_file_seq(self, part: &[u64], queue: LogQueue, keys: Option<u64>) -> Option<u64>
         requires { Wf self part.now }
         ensures { result ≡ min_seq queue self part.now keys }
     {
-        let least = lesser_of(self.min_entry_seq(part, queue), keys)?;
+        let least = match (self.min_entry_seq(part, queue), keys) {
+            (Some(entries), Some(keys)) => entries.min(keys),
+            (entries, keys) => entries.or(keys)?,
+        };
         Some(self.by_span(queue, least))
     }
 

@@ -190,13 +190,13 @@ module _ (xs bs ys cs : List ℕ) where
   append-plain w v k l =
       record { given = record { wf = w; newer-wf = v; kind = k; newer-kind = l }; none-waits = append-waits (context_of ys cs) v.kept l }
 
-  pub append-called : (r : Result (Unit {0})) (xs' bs' : List ℕ) → Called (call_by mode.Append (context_of ys cs)) xs bs r xs' bs' → Called (merge (context_of ys cs)) xs bs r xs' bs'
+  pub append_called : (r : Result (Unit {0})) (xs' bs' : List ℕ) → Called (call_by mode.Append (context_of ys cs)) xs bs r xs' bs' → Called (merge (context_of ys cs)) xs bs r xs' bs'
   unfolding call_by
-  append-called r xs' bs' c = c
+  append_called r xs' bs' c = c
 
-  pub rewrite-called : (r : Result (Unit {0})) (xs' bs' : List ℕ) → Called (call_by mode.Rewrite (context_of ys cs)) xs bs r xs' bs' → Called (merge (context_of ys cs)) xs bs r xs' bs'
+  pub rewrite_called : (r : Result (Unit {0})) (xs' bs' : List ℕ) → Called (call_by mode.Rewrite (context_of ys cs)) xs bs r xs' bs' → Called (merge (context_of ys cs)) xs bs r xs' bs'
   unfolding call_by
-  rewrite-called r xs' bs' c = c
+  rewrite_called r xs' bs' c = c
 
 -- ---- the kinds
 
@@ -247,10 +247,10 @@ module _ (xs bs ys cs : List ℕ) (o n : Kind) (p : o ≡ kind_of (get_or (take 
     unfolding older_kind newer_kind
     merge-given e = let k = kinds-are Rewrite Rewrite e in record { wf = w; newer-wf = v; kind = k.0; newer-kind = k.1 }
 
-pub join-called : (xs bs ys cs : List ℕ) (r : Result (Unit {0})) (xs' bs' : List ℕ) → Called (call_by mode.Join (context_of ys cs)) xs bs r xs' bs' → Called (join (context_of ys cs)) xs bs r xs' bs'
+pub join_called : (xs bs ys cs : List ℕ) (r : Result (Unit {0})) (xs' bs' : List ℕ) → Called (call_by mode.Join (context_of ys cs)) xs bs r xs' bs' → Called (join (context_of ys cs)) xs bs r xs' bs'
 unfolding call_by
-join-called xs bs ys cs r xs' bs' c = c
+join_called xs bs ys cs r xs' bs' c = c
 
 -- the numbers behind the groups begin with the kind
-pub kind-there : (xs bs : List ℕ) → Wf xs bs → 0 < length (take (length xs - 9376) (drop 9376 xs))
-kind-there xs bs w = rw (part_to_end xs 9376) (omega (arith, w.rest.numbers-are))
+pub kind_there : (xs bs : List ℕ) → Wf xs bs → 0 < length (take (length xs - 9376) (drop 9376 xs))
+kind_there xs bs w = rw (part_to_end xs 9376) (omega (arith, w.rest.numbers-are))

@@ -27,9 +27,9 @@ use Rattle.merging.specs.Growth.{ListsBecome, joined_lists, Growable, RestBecome
 
 -- ---- the lists
 
-pub joined-lists : (ys cs ks ys' ys'' : List ℕ) → AllCleanedAdded (cleaned_in ks) ys cs ys' → Becomes (index_of [] (rest_of ys' cs)) ys' cs ys'' → ListsBecome (joined_lists ys cs ks) ys cs ys'' cs
+pub lists_joined : (ys cs ks ys' ys'' : List ℕ) → AllCleanedAdded (cleaned_in ks) ys cs ys' → Becomes (index_of [] (rest_of ys' cs)) ys' cs ys'' → ListsBecome (joined_lists ys cs ks) ys cs ys'' cs
 unfolding joined_lists
-joined-lists ys cs ks ys' ys'' a b =
+lists_joined ys cs ks ys' ys'' a b =
     record {
       rest = b.rest ∙ rw a.rest;
       behind = behind-then ys cs ys' cs ys'' cs a.behind b.behind;

@@ -73,12 +73,12 @@ module _ (xs bs ys cs : List ℕ) (w : Wf xs bs) (v : Wf ys cs) (q : Map ℕ (Li
   fits-are : rest_fits both ≡ (leb ((counts_of xs).tombstones + (counts_of ys).tombstones + tombs) 64 && leb ((counts_of xs).cleaned + (counts_of ys).cleaned) 64 && waiting_fits q)
   fits-are = merged-fits xs bs ys cs w.rest v.rest q
 
-  pub over-lists : counts_fit mode.Rewrite (counts_of xs) (counts_of ys) ≡ false → false ≡ rest_fits both
+  pub over_lists : counts_fit mode.Rewrite (counts_of xs) (counts_of ys) ≡ false → false ≡ rest_fits both
   unfolding counts_fit
-  over-lists e = sym (fits-are ∙ lists-over ((counts_of xs).tombstones + (counts_of ys).tombstones) tombs ((counts_of xs).cleaned + (counts_of ys).cleaned) (waiting_fits q) e)
+  over_lists e = sym (fits-are ∙ lists-over ((counts_of xs).tombstones + (counts_of ys).tombstones) tombs ((counts_of xs).cleaned + (counts_of ys).cleaned) (waiting_fits q) e)
 
-  pub over-finished : 64 < get_or xs 9377 0 + get_or ys 9377 0 + tombs → false ≡ rest_fits both
-  over-finished h = sym (fits-are ∙ rw (lt-leb ((counts_of xs).tombstones + (counts_of ys).tombstones + tombs) 64 (rw (listed xs ys) at h)))
+  pub over_finished : 64 < get_or xs 9377 0 + get_or ys 9377 0 + tombs → false ≡ rest_fits both
+  over_finished h = sym (fits-are ∙ rw (lt-leb ((counts_of xs).tombstones + (counts_of ys).tombstones + tombs) 64 (rw (listed xs ys) at h)))
 
   pub room-tells : counts_fit mode.Rewrite (counts_of xs) (counts_of ys) ≡ true → get_or xs 9377 0 + get_or ys 9377 0 + tombs ≤ 64 → waiting_fits q ≡ rest_fits both
   unfolding counts_fit

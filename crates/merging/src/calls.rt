@@ -1,4 +1,5 @@
-// A merge or join carried out: the groups are staged, and then the answer is known.
+// A merge or join carried out: the groups are staged, and then the answer is known. What stages them takes the newer area's numbers and
+// bytes, since what it says of stretches and rows is said of them.
 ghost use Rattle.std.specs.Prelude.{true, ◌&&◌, ◌≡◌};
 ghost use Rattle.rules.specs.Context.{is_context};
 ghost use Rattle.lists.specs.Calls.{kind_as};
@@ -11,6 +12,7 @@ ghost use Rattle.merging.specs.Growth.{Taken};
 use crate::ends::{clash_of, lists_fit};
 use crate::growth::grow;
 use crate::waits::carry_waiting;
+use contexts::Area;
 use lists::Kind;
 use pipe_log::{Cause, LogQueue, Refusal};
 use staging::{Flags, begin, seal, stage_all};
@@ -68,50 +70,43 @@ fn carry_out(
     finish(xs, bs, ys, cs, mode, flags)
 }
 
-// Whether an area is a context of a queue.
-#[tactic(auto, unfolding(rules::specs::Context::is_context, lists::specs::Calls::kind_as, rules::specs::Items::same_queue))]
-fn is_of(kind: Kind, queue: LogQueue) -> bool
-    ensures { result ≡ is_context queue (kind_as kind) }
-{
-    match kind {
-        Kind::Context(own) => queue == own,
-        Kind::Index => false,
-    }
-}
-
 // Whether the older area is a context of queue `first`, and the newer one of queue `second`.
 fn kinds_are(older: Kind, first: LogQueue, newer: Kind, second: LogQueue) -> bool
     ensures { result ≡ is_context second (kind_as newer) && is_context first (kind_as older) }
 {
-    is_of(newer, second) && is_of(older, first)
+    newer.is_context(second) && older.is_context(first)
 }
 
 // Merges a newer context into an older one of the same queue.
-pub fn merge(xs: &mut [u64], bs: &mut [u8], ys: &[u64], cs: &[u8]) -> Result<(), Refusal>
-    requires wf { Wf xs.old bs.old }
-    requires wf_2 { Wf ys.now cs.now }
-    ensures { Called (rules·calls.merge (context_of ys.now cs.now)) xs.old bs.old result xs.new bs.new }
+#[tactic(auto, using(crate::proofs::FinishWays::kind_there, crate::proofs::FinishWays::append_called, crate::proofs::FinishWays::rewrite_called))]
+pub fn merge(xs: &mut [u64], bs: &mut [u8], newer: &Area) -> Result<(), Refusal>
+    requires { Wf xs.old bs.old }
+    ensures { Called (rules·calls.merge newer.now) xs.old bs.old result xs.new bs.new }
 {
+    let ys = newer.xs;
+    let cs = newer.bs;
     let older = lists::kind_in(&xs[groups::NUMBERS..]);
-    let newer = lists::kind_in(&ys[groups::NUMBERS..]);
-    if kinds_are(older, LogQueue::Append, newer, LogQueue::Append) {
+    let its = lists::kind_in(&ys[groups::NUMBERS..]);
+    if kinds_are(older, LogQueue::Append, its, LogQueue::Append) {
         return carry_out(xs, bs, ys, cs, Mode::Append);
     }
-    if kinds_are(older, LogQueue::Rewrite, newer, LogQueue::Rewrite) {
+    if kinds_are(older, LogQueue::Rewrite, its, LogQueue::Rewrite) {
         return carry_waiting(xs, bs, ys, cs);
     }
     Err(Cause::WrongKind.into())
 }
 
 // Joins an Append context to a Rewrite context, which becomes the index.
-pub fn join(xs: &mut [u64], bs: &mut [u8], ys: &[u64], cs: &[u8]) -> Result<(), Refusal>
-    requires wf { Wf xs.old bs.old }
-    requires wf_2 { Wf ys.now cs.now }
-    ensures { Called (rules·calls.join (context_of ys.now cs.now)) xs.old bs.old result xs.new bs.new }
+#[tactic(auto, using(crate::proofs::FinishWays::kind_there, crate::proofs::FinishWays::join_called))]
+pub fn join(xs: &mut [u64], bs: &mut [u8], newer: &Area) -> Result<(), Refusal>
+    requires { Wf xs.old bs.old }
+    ensures { Called (rules·calls.join newer.now) xs.old bs.old result xs.new bs.new }
 {
+    let ys = newer.xs;
+    let cs = newer.bs;
     let older = lists::kind_in(&xs[groups::NUMBERS..]);
-    let newer = lists::kind_in(&ys[groups::NUMBERS..]);
-    if !kinds_are(older, LogQueue::Rewrite, newer, LogQueue::Append) {
+    let its = lists::kind_in(&ys[groups::NUMBERS..]);
+    if !kinds_are(older, LogQueue::Rewrite, its, LogQueue::Append) {
         return Err(Cause::WrongKind.into());
     }
     carry_out(xs, bs, ys, cs, Mode::Join)

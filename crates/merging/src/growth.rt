@@ -21,6 +21,7 @@ fn merge_lists(ys: &mut [u64], cs: &mut [u8], its_ys: &[u64], its_cs: &[u8])
 }
 
 // Makes the lists those of the index, with the cleaned numbers of both.
+#[tactic(auto, using(crate::proofs::JoinWays::lists_joined))]
 fn join_lists(ys: &mut [u64], its_ys: &[u64])
     requires ys_len { (length ys.old ≡ 7855) × (length its_ys.now ≡ 7855) }
     requires its_ys_bound { get_or ys.old 2 0 + get_or its_ys.now 2 0 ≤ 64 }

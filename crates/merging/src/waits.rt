@@ -36,6 +36,7 @@ fn count_finished(xs: &[u64], bs: &[u8], ys: &[u64], cs: &[u8]) -> usize
 }
 
 // Whether the lists of both, with the tombstones that finish, and what waits in the room ws pass no limit.
+#[tactic(auto, using(crate::proofs::WaitWays::over_lists, crate::proofs::WaitWays::over_finished, contexts::proofs::Lengths::area_numbers))]
 fn rest_fits(xs: &[u64], bs: &[u8], ys: &[u64], cs: &[u8], ws: &[u64]) -> bool
     requires wf { Wf xs.now bs.now }
     requires wf_2 { Wf ys.now cs.now }

@@ -57,30 +57,30 @@ module _ (s : Store) (a : Area) (ts : List ℕ) (v : Stored s a) (n : s.items �
     abbrev x : rules.LogItem
     x = item_of it a.entries a.bytes
 
-    pub count-not : rules.is_tombstone (content_of it.content a.entries a.bytes) ≡ false → count + length (tombs_of (rest (j + 1))) ≡ count + length (tombs_of (rest j))
-    count-not f =
+    pub count_not : rules.is_tombstone (content_of it.content a.entries a.bytes) ≡ false → count + length (tombs_of (rest (j + 1))) ≡ count + length (tombs_of (rest j))
+    count_not f =
         ap (λ (y : List rules.LogItem). count + length y) (sym (ap tombs_of (here-is s a ts v n t j l an_item it at e) ∙ tomb-out x (rest (j + 1)) (unfold item_of in f)))
 
-    pub count-one : rules.is_tombstone (content_of it.content a.entries a.bytes) ≡ true → count + 1 + length (tombs_of (rest (j + 1))) ≡ count + length (tombs_of (rest j))
-    count-one f =
+    pub count_one : rules.is_tombstone (content_of it.content a.entries a.bytes) ≡ true → count + 1 + length (tombs_of (rest (j + 1))) ≡ count + length (tombs_of (rest j))
+    count_one f =
         let q : length (tombs_of (rest j)) ≡ suc (length (tombs_of (rest (j + 1)))) = ap length (ap tombs_of (here-is s a ts v n t j l an_item it at e) ∙ tomb-in x (rest (j + 1)) (unfold item_of in f)) in
         omega (arith, q)
 
-pub count-end : (s : Store) (a : Area) (ts : List ℕ) → Stored s a → s.items ≤ length ts → (count t j all : ℕ) → s.items ≤ j → count + length (tombs_of (items_with t (drop j (store_tagged s a ts)))) ≡ all → count ≡ all
-count-end s a ts v n count t j all h e =
+pub count_end : (s : Store) (a : Area) (ts : List ℕ) → Stored s a → s.items ≤ length ts → (count t j all : ℕ) → s.items ≤ j → count + length (tombs_of (items_with t (drop j (store_tagged s a ts)))) ≡ all → count ≡ all
+count_end s a ts v n count t j all h e =
     let q : length (tombs_of (items_with t (drop j (store_tagged s a ts)))) ≡ 0 = ap length (ap tombs_of (end_is s a ts v n t j an_item h) ∙ no-tombs) in
     omega (arith, e, q)
 
 -- ---- a group
 
 module _ (g : ℕ) (ws vs us ds : List ℕ) (w : RoomWf 16 ws vs) (u : RoomWf 16 us ds) (r : Option Ending) (is : (ys es : List ℕ) → RoomWf 16 ws ys → RoomWf 16 us es → finished_in g ws ys us es ≡ finished_as r (tagged ws ys) (tagged us es)) where
-  pub group-none : r ≡ None → 0 ≡ length (tombs_in (finished_in g ws vs us ds))
+  pub group_none : r ≡ None → 0 ≡ length (tombs_in (finished_in g ws vs us ds))
   unfolding tombs_in
-  group-none e = rw (is vs ds w u, e) (unfold finished_as or_else in refl)
+  group_none e = rw (is vs ds w u, e) (unfold finished_as or_else in refl)
 
-  pub group-some : (e : Ending) → r ≡ Some e → (m n : ℕ) → m ≡ length (tombs_of (items_with e.older (tagged ws vs))) → n ≡ length (tombs_of (items_with e.newer (tagged us ds))) → m + n ≡ length (tombs_in (finished_in g ws vs us ds))
+  pub group_some : (e : Ending) → r ≡ Some e → (m n : ℕ) → m ≡ length (tombs_of (items_with e.older (tagged ws vs))) → n ≡ length (tombs_of (items_with e.newer (tagged us ds))) → m + n ≡ length (tombs_in (finished_in g ws vs us ds))
   unfolding tombs_in tombs_of
-  group-some e q m n a b =
+  group_some e q m n a b =
       rw (is vs ds w u, q)
       (unfold finished_as or_else in
       (let p = length-append (select (λ (it : rules.LogItem). rules.is_tombstone it.content) (items_with e.older (tagged ws vs))) (select (λ (it : rules.LogItem). rules.is_tombstone it.content) (items_with e.newer (tagged us ds))) in
@@ -109,8 +109,8 @@ module _ (ws vs us ds : List ℕ) (u : RoomWf 16 us ds) where
   unfolding waiting_of waiting_in room_of
   few-groups = let n = cells_count us ds u in let m = length-le (Rattle.room.specs.Rooms.cells_of (part 2 160 us) (tagged us ds)) in omega (arith, n, m)
 
-  pub counting-none : Counting 0 None ws vs us ds
-  counting-none =
+  pub counting_none : Counting 0 None ws vs us ds
+  counting_none =
       let q = walked_all (waiting_of us ds) in
       let l = few-groups in
       record { few = rw q (omega (arith, l)); whole = rw q (zero-add _) }
@@ -127,8 +127,8 @@ module _ (ws vs us ds : List ℕ) (u : RoomWf 16 us ds) where
       abbrev ps : List Part
       ps = parts_of (head_at k (part 2 160 us)) (tagged us ds)
 
-      pub counted-more : (n : ℕ) → n ≡ length (tombs_in (finished_in g ws vs us ds)) → n ≤ 256 → Counting (count + n) (Some g) ws vs us ds
-      counted-more n q few =
+      pub counted_more : (n : ℕ) → n ≡ length (tombs_in (finished_in g ws vs us ds)) → n ≤ 256 → Counting (count + n) (Some g) ws vs us ds
+      counted_more n q few =
           let nx = next-group b us ds u k l g e in
           let a : length (beyond_of b (waiting_of us ds)) ≡ suc (length (beyond_of (Some g) (waiting_of us ds))) = ap length nx in
           let m : n ≡ length (tombs_in (finished_of (Some ps) (lookup numbers g (waiting_of ws vs)))) = q ∙ ap (λ o. length (tombs_in (finished_of o (lookup numbers g (waiting_of ws vs))))) (lookup-group b us ds u k l g e) in

@@ -79,25 +79,25 @@ count-after a ys cs ys' cs' w k =
 
 -- ---- the items of a tag
 
-pub no-entries : (x : content.LogItemContent) (es bs : List ℕ) → rules.is_tombstone (content_of x es bs) ≡ true → count_of x ≡ 0
+pub no_entries : (x : content.LogItemContent) (es bs : List ℕ) → rules.is_tombstone (content_of x es bs) ≡ true → count_of x ≡ 0
 unfolding rules.is_tombstone content_of
-no-entries (content.TheVariants.EntryIndexes e) es bs h = absurd (clash h)
-no-entries (content.TheVariants.Command c) es bs h = refl
-no-entries (content.TheVariants.Kv k) es bs h = refl
+no_entries (content.TheVariants.EntryIndexes e) es bs h = absurd (clash h)
+no_entries (content.TheVariants.Command c) es bs h = refl
+no_entries (content.TheVariants.Kv k) es bs h = refl
 
 pub keeping_none : (xs : List rules.LogItem) (ys cs : List ℕ) → lists.Wf ys cs → Keeping xs xs ys cs ys cs
 keeping_none xs ys cs w = record { front = []; splits = refl; added = added_none ys cs w }
 
-pub keeping-then : (xs rest more : List rules.LogItem) (ys cs ys' cs' ys'' cs'' : List ℕ) → Keeping xs rest ys cs ys' cs' → Keeping rest more ys' cs' ys'' cs'' → Keeping xs more ys cs ys'' cs''
-keeping-then xs rest more ys cs ys' cs' ys'' cs'' k n =
+pub keeping_then : (xs rest more : List rules.LogItem) (ys cs ys' cs' ys'' cs'' : List ℕ) → Keeping xs rest ys cs ys' cs' → Keeping rest more ys' cs' ys'' cs'' → Keeping xs more ys cs ys'' cs''
+keeping_then xs rest more ys cs ys' cs' ys'' cs'' k n =
     record {
       front = k.front ++ n.front;
       splits = k.splits ∙ ap (λ (l : List rules.LogItem). k.front ++ l) n.splits ∙ sym (append_assoc k.front n.front (tombs_of more));
       added = added_then k.front n.front ys cs ys' cs' ys'' cs'' k.added n.added;
     }
 
-pub keeping-room : (xs rest : List rules.LogItem) (ys cs ys' cs' : List ℕ) → lists.Wf ys cs → get_or ys 1 0 + length (tombs_of xs) ≤ 64 → Keeping xs rest ys cs ys' cs' → get_or ys' 1 0 + length (tombs_of rest) ≤ 64
-keeping-room xs rest ys cs ys' cs' w h k =
+pub keeping_room : (xs rest : List rules.LogItem) (ys cs ys' cs' : List ℕ) → lists.Wf ys cs → get_or ys 1 0 + length (tombs_of xs) ≤ 64 → Keeping xs rest ys cs ys' cs' → get_or ys' 1 0 + length (tombs_of rest) ≤ 64
+keeping_room xs rest ys cs ys' cs' w h k =
     let p = count-after k.front ys cs ys' cs' w k.added in
     let q = length-append k.front (tombs_of rest) in
     let r : length (tombs_of xs) ≡ length (k.front ++ tombs_of rest) = ap length k.splits in
@@ -112,15 +112,15 @@ module _ (s : Store) (a : Area) (ts : List ℕ) (v : Stored s a) (n : s.items �
   abbrev rest : ℕ → List rules.LogItem
   rest i = items_with t (drop i (store_tagged s a ts))
 
-  pub keep-past : (get_or ts j 0 ≡ t → ⊥) → Keeping (rest j) (rest (j + 1)) ys cs ys cs
-  keep-past e = record { front = []; splits = ap tombs_of (past_is s a ts v n t j l an_item e); added = added_none ys cs w }
+  pub keep_past : (get_or ts j 0 ≡ t → ⊥) → Keeping (rest j) (rest (j + 1)) ys cs ys cs
+  keep_past e = record { front = []; splits = ap tombs_of (past_is s a ts v n t j l an_item e); added = added_none ys cs w }
 
   module _ (it : LogItem) (at : ItemAt s a j it) (e : get_or ts j 0 ≡ t) where
     abbrev x : rules.LogItem
     x = item_of it a.entries a.bytes
 
-    pub keep-not : rules.is_tombstone (content_of it.content a.entries a.bytes) ≡ false → Keeping (rest j) (rest (j + 1)) ys cs ys cs
-    keep-not f =
+    pub keep_not : rules.is_tombstone (content_of it.content a.entries a.bytes) ≡ false → Keeping (rest j) (rest (j + 1)) ys cs ys cs
+    keep_not f =
         record {
           front = [];
           splits = ap tombs_of (here-is s a ts v n t j l an_item it at e) ∙ tomb-out x (rest (j + 1)) (unfold item_of in f);
@@ -131,14 +131,14 @@ module _ (s : Store) (a : Area) (ts : List ℕ) (v : Stored s a) (n : s.items �
       here : tombs_of (rest j) ≡ x ∷ tombs_of (rest (j + 1))
       here = ap tombs_of (here-is s a ts v n t j l an_item it at e) ∙ tomb-in x (rest (j + 1)) (unfold item_of in f)
 
-      pub keep-room : get_or ys 1 0 + length (tombs_of (rest j)) ≤ 64 → get_or ys 1 0 < 64
-      keep-room h = let q : length (tombs_of (rest j)) ≡ suc (length (tombs_of (rest (j + 1)))) = ap length here in omega (arith, h, q)
+      pub keep_room : get_or ys 1 0 + length (tombs_of (rest j)) ≤ 64 → get_or ys 1 0 < 64
+      keep_room h = let q : length (tombs_of (rest j)) ≡ suc (length (tombs_of (rest (j + 1)))) = ap length here in omega (arith, h, q)
 
       pub keep_one : (ys' cs' : List ℕ) → TombstonesAdded (x ∷ []) ys cs ys' cs' → Keeping (rest j) (rest (j + 1)) ys cs ys' cs'
       keep_one ys' cs' k = record { front = x ∷ []; splits = here; added = k }
 
-pub kept-tag : (s : Store) (a : Area) (ts : List ℕ) → Stored s a → s.items ≤ length ts → (t j : ℕ) (ys cs ys' cs' : List ℕ) → s.items ≤ j → Keeping (items_with t (store_tagged s a ts)) (items_with t (drop j (store_tagged s a ts))) ys cs ys' cs' → TombstonesAdded (tombs_of (items_with t (store_tagged s a ts))) ys cs ys' cs'
-kept-tag s a ts v n t j ys cs ys' cs' h k = keeping_all _ _ ys cs ys' cs' (end_is s a ts v n t j an_item h) k
+pub kept_tag : (s : Store) (a : Area) (ts : List ℕ) → Stored s a → s.items ≤ length ts → (t j : ℕ) (ys cs ys' cs' : List ℕ) → s.items ≤ j → Keeping (items_with t (store_tagged s a ts)) (items_with t (drop j (store_tagged s a ts))) ys cs ys' cs' → TombstonesAdded (tombs_of (items_with t (store_tagged s a ts))) ys cs ys' cs'
+kept_tag s a ts v n t j ys cs ys' cs' h k = keeping_all _ _ ys cs ys' cs' (end_is s a ts v n t j an_item h) k
 
 -- ---- a group
 
@@ -147,8 +147,8 @@ module _ (g : ℕ) (ws vs us ds : List ℕ) (w : RoomWf 16 ws vs) (u : RoomWf 16
   unfolding tombs_in
   none-there e = rw (is vs ds w u, e) (unfold finished_as or_else in refl)
 
-  pub kept-none : r ≡ None → TombstonesAdded (tombs_in (finished_in g ws vs us ds)) ys cs ys cs
-  kept-none e = subst (λ (l : List rules.LogItem). TombstonesAdded l ys cs ys cs) (sym (none-there e)) (added_none ys cs f)
+  pub kept_none : r ≡ None → TombstonesAdded (tombs_in (finished_in g ws vs us ds)) ys cs ys cs
+  kept_none e = subst (λ (l : List rules.LogItem). TombstonesAdded l ys cs ys cs) (sym (none-there e)) (added_none ys cs f)
 
   module _ (e : Ending) (q : r ≡ Some e) where
     abbrev older : List rules.LogItem
@@ -165,15 +165,15 @@ module _ (g : ℕ) (ws vs us ds : List ℕ) (w : RoomWf 16 ws vs) (u : RoomWf 16
       sums : length (tombs_in (finished_in g ws vs us ds)) ≡ length older + length newer
       sums = ap length some-there ∙ length-append older newer
 
-      pub older-room : get_or ys 1 0 + length older ≤ 64
-      older-room = let s = sums in omega (arith, h, s)
+      pub older_room : get_or ys 1 0 + length older ≤ 64
+      older_room = let s = sums in omega (arith, h, s)
 
       module _ (ys' cs' : List ℕ) (k : TombstonesAdded older ys cs ys' cs') where
-        pub newer-room : get_or ys' 1 0 + length newer ≤ 64
-        newer-room = let s = sums in let p = count-after older ys cs ys' cs' f k in omega (arith, h, s, p)
+        pub newer_room : get_or ys' 1 0 + length newer ≤ 64
+        newer_room = let s = sums in let p = count-after older ys cs ys' cs' f k in omega (arith, h, s, p)
 
-        pub kept-both : (ys'' cs'' : List ℕ) → TombstonesAdded newer ys' cs' ys'' cs'' → TombstonesAdded (tombs_in (finished_in g ws vs us ds)) ys cs ys'' cs''
-        kept-both ys'' cs'' m = subst (λ (l : List rules.LogItem). TombstonesAdded l ys cs ys'' cs'') (sym some-there) (added_then older newer ys cs ys' cs' ys'' cs'' k m)
+        pub kept_both : (ys'' cs'' : List ℕ) → TombstonesAdded newer ys' cs' ys'' cs'' → TombstonesAdded (tombs_in (finished_in g ws vs us ds)) ys cs ys'' cs''
+        kept_both ys'' cs'' m = subst (λ (l : List rules.LogItem). TombstonesAdded l ys cs ys'' cs'') (sym some-there) (added_then older newer ys cs ys' cs' ys'' cs'' k m)
 
 -- ---- all groups
 
@@ -213,8 +213,8 @@ module _ (ws vs us ds : List ℕ) (u : RoomWf 16 us ds) (ys cs : List ℕ) (f : 
       group-sums : length (finished_tombs (beyond_of b (waiting_of us ds)) (waiting_of ws vs)) ≡ length (tombs_in (finished_in g ws vs us ds)) + length (finished_tombs (beyond_of (Some g) (waiting_of us ds)) (waiting_of ws vs))
       group-sums = ap length group_here ∙ length-append (tombs_in (finished_in g ws vs us ds)) _
 
-      pub group-fits : get_or ys' 1 0 + length (tombs_in (finished_in g ws vs us ds)) ≤ 64
-      group-fits = let s = group-sums in let r = c.room in omega (arith, s, r)
+      pub group_fits : get_or ys' 1 0 + length (tombs_in (finished_in g ws vs us ds)) ≤ 64
+      group_fits = let s = group-sums in let r = c.room in omega (arith, s, r)
 
       pub kept_more : (ys'' cs'' : List ℕ) → TombstonesAdded (tombs_in (finished_in g ws vs us ds)) ys' cs' ys'' cs'' → KeepingAll (Some g) ws vs us ds ys cs ys'' cs''
       kept_more ys'' cs'' k =

@@ -31,11 +31,12 @@ use Rattle.stores.specs.Stores.{store_items}
 use Rattle.stores.specs.StoreLaws.{length-stored}
 use Rattle.room.specs.Rooms.{head_at, count_in, group_in, newest_tag, older_tag, newest, older, parts_of, cell_of, cells_of, items_in, area_in, waiting_in}
 use Rattle.room.specs.Layout.{store_of, room_of, waiting_of, tagged, RoomWf}
-use Rattle.waiting.specs.declared.Place as place
+use Rattle.waiting.specs.declared.PartHead.{PartHead}
 use Rattle.waiting.specs.declared.Step as step
-use Rattle.waiting.specs.Steps.{is_of, step_of, stepped, AtCell, Found}
+use Rattle.waiting.specs.Steps.{is_of, step_by, step_of, stepped, AtCell}
 use Rattle.waiting.specs.StepLaws.{accept_step}
 use Rattle.parts.specs.declared.Ending.{Ending}
+use Rattle.parts.specs.Walks.{HeadAt}
 use Rattle.parts.specs.Finishings.{finished_as, oldest_at, oldest, is_finish, has_items}
 use Rattle.parts.specs.ItemLaws.{enough-tags, few-items}
 use Rattle.parts.specs.CellLaws.{in_cell, count-is, cells_count, cell_at_lem}
@@ -71,21 +72,23 @@ last-is h xs = split (eqb (count_in h) 1) (λ e. rw e) (λ e. rw e)
 
 finished_by_lem : (s : step.Step) (p : Part) (ps : List Part) (new : Part) → finished_by new (stepped s p ps new) ≡ cond (is_finish s) (Some (record { items = p.items ++ new.items; span = record { start = p.start; end = new.end } })) None
 unfolding stepped finished_by is_finish
-finished_by_lem step.TheVariants.Replace p ps new = refl
-finished_by_lem step.TheVariants.Front p ps new = refl
-finished_by_lem step.TheVariants.Join p ps new = refl
+finished_by_lem (step.TheVariants.Wait f) p ps new = refl
 finished_by_lem step.TheVariants.Drop p ps new = refl
 finished_by_lem step.TheVariants.Finish p ps new = refl
 finished_by_lem step.TheVariants.Back p ps new = refl
 
-accept-head : (h : List ℕ) (xs : List Tagged) (st : ℕ) (new : Part) → new.status ≡ status_of st → accept (parts_of h xs) new ≡ stepped (step_of st new.start h) (newest h xs) (cond (eqb (count_in h) 1) [] (older h xs ∷ [])) new
-unfolding parts_of step_of
-accept-head h xs st new e = accept_step (newest h xs) new _ st (get_or h 3 0) (unfold newest in refl) e ∙ (unfold newest in refl)
+-- the step of the part of cell g whose tag is its number i at the newest part of cell h
+abbrev step_told : ℕ → List ℕ → List ℕ → step.Step
+step_told i g h = step_by (status_of (get_or g (i + 1) 0)) (get_or g (i + 2) 0) (status_of (get_or h 3 0)) (get_or h 5 0)
+
+accept-head : (i : ℕ) (g h : List ℕ) (xs ys : List Tagged) → accept (parts_of h xs) (part_at i g ys) ≡ stepped (step_told i g h) (newest h xs) (cond (eqb (count_in h) 1) [] (older h xs ∷ [])) (part_at i g ys)
+unfolding parts_of
+accept-head i g h xs ys = accept_step (newest h xs) (part_at i g ys) _ ∙ (unfold newest in refl)
 
 -- what finishes, by the newest part of cell h and the part of cell g whose tag is its number i
 abbrev told : ℕ → List ℕ → List ℕ → List Tagged → List Tagged → Option Finished
 told i g h xs ys =
-    cond (is_finish (step_of (get_or g (i + 1) 0) (get_or g (i + 2) 0) h))
+    cond (is_finish (step_told i g h))
     (Some (record { items = items_with (get_or h 2 0) xs ++ items_with (get_or g i 0) ys; span = record { start = get_or h 4 0; end = get_or g (i + 3) 0 } }))
     None
 
@@ -94,11 +97,11 @@ unfolding finished_of group.parts_of or_else
 heads-tell g h xs ys =
     let p = part_at (oldest_at g) g ys in
     rw (last-is g ys, oldest-is g ys)
-    (ap (finished_by p) (accept-head h xs (get_or g (oldest_at g + 1) 0) p refl)
-    ∙ finished_by_lem (step_of (get_or g (oldest_at g + 1) 0) (get_or g (oldest_at g + 2) 0) h) (newest h xs) _ p
+    (ap (finished_by p) (accept-head (oldest_at g) g h xs ys)
+    ∙ finished_by_lem (step_told (oldest_at g) g h) (newest h xs) _ p
     ∙ (unfold newest newest_tag in refl))
 
-module _ (ws us : List ℕ) (k j at : ℕ) (hk : k < 16) (hj : j < 16) (e : at ≡ 2 + j * 10 + oldest_at (head_at j (part 2 160 us))) (s : step.Step) (es : s ≡ step_of (get_or us (at + 1) 0) (get_or us (at + 2) 0) (head_at k (part 2 160 ws))) (xs ys : List Tagged) where
+module _ (ws us : List ℕ) (k j at : ℕ) (hk : k < 16) (hj : j < 16) (e : at ≡ 2 + j * 10 + oldest_at (head_at j (part 2 160 us))) (new : PartHead) (n : HeadAt at us new) (s : step.Step) (es : s ≡ step_of new (head_at k (part 2 160 ws))) (xs ys : List Tagged) where
   abbrev newer-head : List ℕ
   newer-head = head_at j (part 2 160 us)
 
@@ -114,16 +117,17 @@ module _ (ws us : List ℕ) (k j at : ℕ) (hk : k < 16) (hj : j < 16) (e : at �
   tag_is : get_or newer-head (oldest_at newer-head) 0 ≡ get_or us at 0
   tag_is = let f = oldest-few newer-head in in_cell us j (oldest_at newer-head) hj (omega (arith, f)) ∙ ap (λ (x : ℕ). get_or us x 0) (sym e)
 
-  step_is : step_of (get_or newer-head (oldest_at newer-head + 1) 0) (get_or newer-head (oldest_at newer-head + 2) 0) older-head ≡ s
-  step_is = rw (from_cell 1 (omega arith), from_cell 2 (omega arith)) (sym es)
+  step_is : step_told (oldest_at newer-head) newer-head older-head ≡ s
+  unfolding step_of
+  step_is = rw (from_cell 1 (omega arith), from_cell 2 (omega arith), ← n.status, ← n.start) (sym es)
 
-  pub none-finishes : is_finish s ≡ false → finished_of (Some (parts_of newer-head ys)) (Some (parts_of older-head xs)) ≡ finished_as None xs ys
+  pub none_finishes : is_finish s ≡ false → finished_of (Some (parts_of newer-head ys)) (Some (parts_of older-head xs)) ≡ finished_as None xs ys
   unfolding finished_as
-  none-finishes f = heads-tell newer-head older-head xs ys ∙ rw (step_is, f)
+  none_finishes f = heads-tell newer-head older-head xs ys ∙ rw (step_is, f)
 
-  pub one-finishes : is_finish s ≡ true → finished_of (Some (parts_of newer-head ys)) (Some (parts_of older-head xs)) ≡ finished_as (Some (record { older = get_or ws (2 + k * 10 + 2) 0; newer = get_or us at 0; start = get_or ws (2 + k * 10 + 4) 0; end = get_or us (at + 3) 0 })) xs ys
+  pub one_finishes : is_finish s ≡ true → finished_of (Some (parts_of newer-head ys)) (Some (parts_of older-head xs)) ≡ finished_as (Some (record { older = get_or ws (2 + k * 10 + 2) 0; newer = get_or us at 0; start = get_or ws (2 + k * 10 + 4) 0; end = new.end })) xs ys
   unfolding finished_as
-  one-finishes f = heads-tell newer-head older-head xs ys ∙ rw (step_is, f, in_cell ws k 2 hk (omega arith), in_cell ws k 4 hk (omega arith), tag_is, from_cell 3 (omega arith))
+  one_finishes f = heads-tell newer-head older-head xs ys ∙ rw (step_is, f, in_cell ws k 2 hk (omega arith), in_cell ws k 4 hk (omega arith), tag_is, from_cell 3 (omega arith), n.end)
 
 -- ---- a group's cell is what the map has of it
 
@@ -160,20 +164,6 @@ module _ (ws vs : List ℕ) (w : RoomWf 16 ws vs) where
       let h : i < 16 = omega (arith, n) in
       ap (holds g) (cell_at_lem ws vs w i h) ∙ other-cell g (head_at i heads) (tagged ws vs) (f i h))
 
--- where a group was found
-module _ (g : ℕ) (hs : List ℕ) (p : place.Place) (f : Found g 16 hs p) where
-  pub at-cell : (k : ℕ) → p ≡ place.TheVariants.At k → AtCell g 16 hs k
-  unfolding Found
-  at-cell k e = rw e at f
-
-  pub free-absent : (k : ℕ) → p ≡ place.TheVariants.Free k → (j : ℕ) → j < 16 → is_of g (head_at j hs) ≡ false
-  unfolding Found
-  free-absent k e = (rw e at f).absent
-
-  pub full-absent : p ≡ place.TheVariants.Full → (j : ℕ) → j < 16 → is_of g (head_at j hs) ≡ false
-  unfolding Found
-  full-absent e = (rw e at f).absent
-
 -- ---- both rooms
 
 pub none-older : (ps : List Part) → finished_of (Some ps) None ≡ None
@@ -188,19 +178,19 @@ unfolding finished_of group.parts_of or_else last
 none-newer o = refl
 
 module _ (g : ℕ) (ws us : List ℕ) (j : ℕ) where
-  pub older-there : (k : ℕ) (r : Option Ending) → AtCell g 16 (part 2 160 ws) k → ((xs ys : List Tagged) → finished_of (Some (parts_of (head_at j (part 2 160 us)) ys)) (Some (parts_of (head_at k (part 2 160 ws)) xs)) ≡ finished_as r xs ys) → (vs : List ℕ) (ys : List Tagged) → RoomWf 16 ws vs → finished_of (Some (parts_of (head_at j (part 2 160 us)) ys)) (lookup numbers g (waiting_of ws vs)) ≡ finished_as r (tagged ws vs) ys
-  older-there k r a f vs ys w = rw (lookup-cell ws vs w g k a.inside a.here) (f (tagged ws vs) ys)
+  pub older_there : (k : ℕ) (r : Option Ending) → AtCell g 16 (part 2 160 ws) k → ((xs ys : List Tagged) → finished_of (Some (parts_of (head_at j (part 2 160 us)) ys)) (Some (parts_of (head_at k (part 2 160 ws)) xs)) ≡ finished_as r xs ys) → (vs : List ℕ) (ys : List Tagged) → RoomWf 16 ws vs → finished_of (Some (parts_of (head_at j (part 2 160 us)) ys)) (lookup numbers g (waiting_of ws vs)) ≡ finished_as r (tagged ws vs) ys
+  older_there k r a f vs ys w = rw (lookup-cell ws vs w g k a.inside a.here) (f (tagged ws vs) ys)
 
-  pub older-absent : ((i : ℕ) → i < 16 → is_of g (head_at i (part 2 160 ws)) ≡ false) → (vs : List ℕ) (ys : List Tagged) → RoomWf 16 ws vs → finished_of (Some (parts_of (head_at j (part 2 160 us)) ys)) (lookup numbers g (waiting_of ws vs)) ≡ finished_as None (tagged ws vs) ys
+  pub older_absent : ((i : ℕ) → i < 16 → is_of g (head_at i (part 2 160 ws)) ≡ false) → (vs : List ℕ) (ys : List Tagged) → RoomWf 16 ws vs → finished_of (Some (parts_of (head_at j (part 2 160 us)) ys)) (lookup numbers g (waiting_of ws vs)) ≡ finished_as None (tagged ws vs) ys
   unfolding finished_as
-  older-absent f vs ys w = rw (lookup_no-cell ws vs w g f) (none-older (parts_of (head_at j (part 2 160 us)) ys))
+  older_absent f vs ys w = rw (lookup_no-cell ws vs w g f) (none-older (parts_of (head_at j (part 2 160 us)) ys))
 
-  pub newer-there : (r : Option Ending) → AtCell g 16 (part 2 160 us) j → ((vs : List ℕ) (ys : List Tagged) → RoomWf 16 ws vs → finished_of (Some (parts_of (head_at j (part 2 160 us)) ys)) (lookup numbers g (waiting_of ws vs)) ≡ finished_as r (tagged ws vs) ys) → (vs ds : List ℕ) → RoomWf 16 ws vs → RoomWf 16 us ds → finished_of (lookup numbers g (waiting_of us ds)) (lookup numbers g (waiting_of ws vs)) ≡ finished_as r (tagged ws vs) (tagged us ds)
-  newer-there r a f vs ds w u = rw (lookup-cell us ds u g j a.inside a.here) (f vs (tagged us ds) w)
+  pub newer_there : (r : Option Ending) → AtCell g 16 (part 2 160 us) j → ((vs : List ℕ) (ys : List Tagged) → RoomWf 16 ws vs → finished_of (Some (parts_of (head_at j (part 2 160 us)) ys)) (lookup numbers g (waiting_of ws vs)) ≡ finished_as r (tagged ws vs) ys) → (vs ds : List ℕ) → RoomWf 16 ws vs → RoomWf 16 us ds → finished_of (lookup numbers g (waiting_of us ds)) (lookup numbers g (waiting_of ws vs)) ≡ finished_as r (tagged ws vs) (tagged us ds)
+  newer_there r a f vs ds w u = rw (lookup-cell us ds u g j a.inside a.here) (f vs (tagged us ds) w)
 
-pub newer-absent : (g : ℕ) (ws us : List ℕ) → ((i : ℕ) → i < 16 → is_of g (head_at i (part 2 160 us)) ≡ false) → (vs ds : List ℕ) → RoomWf 16 ws vs → RoomWf 16 us ds → finished_of (lookup numbers g (waiting_of us ds)) (lookup numbers g (waiting_of ws vs)) ≡ finished_as None (tagged ws vs) (tagged us ds)
+pub newer_absent : (g : ℕ) (ws us : List ℕ) → ((i : ℕ) → i < 16 → is_of g (head_at i (part 2 160 us)) ≡ false) → (vs ds : List ℕ) → RoomWf 16 ws vs → RoomWf 16 us ds → finished_of (lookup numbers g (waiting_of us ds)) (lookup numbers g (waiting_of ws vs)) ≡ finished_as None (tagged ws vs) (tagged us ds)
 unfolding finished_as
-newer-absent g ws us f vs ds w u = rw (lookup_no-cell us ds u g f) (none-newer (lookup numbers g (waiting_of ws vs)))
+newer_absent g ws us f vs ds w u = rw (lookup_no-cell us ds u g f) (none-newer (lookup numbers g (waiting_of ws vs)))
 
 -- ---- whether a room has an item with a tag
 

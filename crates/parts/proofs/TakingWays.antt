@@ -25,11 +25,12 @@ use Rattle.room.specs.LimitLaws.{fits-few}
 use Rattle.waiting.specs.Accepts.{parts_at}
 use Rattle.waiting.specs.Merges.{items_from, MergedAs, Joined, Finished, RoomFor}
 use Rattle.waiting.specs.Forms.{part_with}
-use Rattle.parts.specs.Walks.{beyond_of, Least, LeastAt}
+use Rattle.waiting.specs.declared.PartHead.{PartHead}
+use Rattle.parts.specs.Walks.{HeadAt, beyond_of, Least, LeastAt}
 use Rattle.parts.specs.CellLaws.{in_cell, count-is}
 use Rattle.parts.specs.Takings.{newer_part, Taken, PartRefused, TakenAs, newer_cell, RoomForAll, PartsTaken}
 use Rattle.parts.specs.TakingLaws.{one-taken, one-refused, two-taken, two-refused, room_here, room_next, room-one, room-older, room-newer}
-use Rattle.parts.proofs.WalkWays.{walked_all, none_left, next-is}
+use Rattle.parts.proofs.WalkWays.{walked_all, none_left, next_is}
 use Rattle.parts.proofs.FinalWays.{few-groups}
 
 -- ---- a part
@@ -39,13 +40,13 @@ by-accept : (g : ℕ) (new : Part) (ws vs : List ℕ) (a : Accepted) → accept 
 unfolding accept_part parts_of parts_at
 by-accept g new ws vs a e = ap waits e
 
-module _ (g at : ℕ) (us ds ws vs ws' vs' : List ℕ) where
-  part-is : part_with (get_or us (at + 1) 0) (items_from us ds (get_or us at 0)) (get_or us (at + 2) 0) (get_or us (at + 3) 0) ≡ newer_part at us ds
+module _ (g at : ℕ) (us ds ws vs ws' vs' : List ℕ) (new : PartHead) (h : HeadAt at us new) where
+  part-is : part_with new (items_from us ds (get_or us at 0)) ≡ newer_part at us ds
   unfolding newer_part
-  part-is = refl
+  part-is = rw (h.status, h.start, h.end)
 
-  pub part-taken : (a : Option ℕ) → MergedAs g (part_with (get_or us (at + 1) 0) (items_from us ds (get_or us at 0)) (get_or us (at + 2) 0) (get_or us (at + 3) 0)) ws vs (Ok a) ws' vs' → Taken g (newer_part at us ds) ws vs ws' vs'
-  part-taken None m =
+  pub part_taken : (a : Option ℕ) → MergedAs g (part_with new (items_from us ds (get_or us at 0))) ws vs (Ok a) ws' vs' → Taken g (newer_part at us ds) ws vs ws' vs'
+  part_taken None m =
       let k : Joined g (newer_part at us ds) ws vs ws' vs' = rw part-is at m in
       record {
         parts = some_parts k.parts;
@@ -53,7 +54,7 @@ module _ (g at : ℕ) (us ds ws vs ws' vs' : List ℕ) where
         waiting = k.waiting;
         room = k.room;
       }
-  part-taken (Some i) m =
+  part_taken (Some i) m =
       let k : Finished g (newer_part at us ds) ws vs ws' vs' = rw part-is at m in
       record {
         parts = some_parts k.others;
@@ -62,10 +63,11 @@ module _ (g at : ℕ) (us ds ws vs ws' vs' : List ℕ) where
         room = k.room;
       }
 
-  pub part-refused : (e : Cause) → MergedAs g (part_with (get_or us (at + 1) 0) (items_from us ds (get_or us at 0)) (get_or us (at + 2) 0) (get_or us (at + 3) 0)) ws vs (Err e) ws' vs' → PartRefused g (newer_part at us ds) e ws vs ws' vs'
-  part-refused e m =
+  pub part_refused : (e : Cause) → MergedAs g (part_with new (items_from us ds (get_or us at 0))) ws vs (Err e) ws' vs' → PartRefused g (newer_part at us ds) e ws vs ws' vs'
+  part_refused e m =
       let k : (e ≡ FilesGoBack) × (accept (parts_at g (waiting_of ws vs)) (newer_part at us ds) ≡ back) × (ws' ≡ ws) × (vs' ≡ vs) = rw part-is at m in
       record {
+        cause-is = k.0;
         refuses = rw k.0 (by-accept g (newer_part at us ds) ws vs back k.1 ∙ (unfold waits in refl));
         numbers-are = k.2;
         bytes-are = k.3;
@@ -79,7 +81,7 @@ ascends ws vs = waiting-ascends (store_of ws) (room_of 16 ws vs)
 only-taken : (g : ℕ) (p : Part) (ws vs : List ℕ) (r : ByCause (Unit {0})) (ws' vs' : List ℕ) → TakenAs g p ws vs r ws' vs' → PartsTaken (accept_parts_of (pair g (p ∷ [])) (waiting_of ws vs)) r ws' vs'
 only-taken g p ws vs (Ok _) ws' vs' t =
     (one-taken g (waiting_of ws vs) p t.parts t.accepts ∙ ap (λ (m : Map ℕ (List Part)). Ok m) (sym t.waiting), t.room)
-only-taken g p ws vs (Err e) ws' vs' t = one-refused g (waiting_of ws vs) p (refusal_of e) t.refuses
+only-taken g p ws vs (Err e) ws' vs' t = (one-refused g (waiting_of ws vs) p (refusal_of e) t.refuses, t.cause-is)
 
 -- ---- a cell
 
@@ -138,12 +140,12 @@ module _ (us ds : List ℕ) (k : ℕ) (l : k < 16) where
     cell-one = λ i. record { key = group-is i; val = one-part i }
 
     module _ (ws vs : List ℕ) where
-      pub one-room : RoomForAll (newer_cell k us ds ∷ []) (waiting_of ws vs) → RoomFor group (items_from us ds (get_or us (at + 2) 0)) ws vs
+      pub one_room : RoomForAll (newer_cell k us ds ∷ []) (waiting_of ws vs) → RoomFor group (items_from us ds (get_or us (at + 2) 0)) ws vs
       unfolding newer_part
-      one-room h = room-one group newest_part ws vs (subst (λ (x : Pair ℕ (List Part)). RoomForAll (x ∷ []) (waiting_of ws vs)) cell-one h)
+      one_room h = room-one group newest_part ws vs (subst (λ (x : Pair ℕ (List Part)). RoomForAll (x ∷ []) (waiting_of ws vs)) cell-one h)
 
-      pub one-accepted : (r : ByCause (Unit {0})) (ws' vs' : List ℕ) → TakenAs group newest_part ws vs r ws' vs' → PartsTaken (accept_parts_of (newer_cell k us ds) (waiting_of ws vs)) r ws' vs'
-      one-accepted r ws' vs' t =
+      pub one_accepted : (r : ByCause (Unit {0})) (ws' vs' : List ℕ) → TakenAs group newest_part ws vs r ws' vs' → PartsTaken (accept_parts_of (newer_cell k us ds) (waiting_of ws vs)) r ws' vs'
+      one_accepted r ws' vs' t =
           subst (λ (x : Pair ℕ (List Part)). PartsTaken (accept_parts_of x (waiting_of ws vs)) r ws' vs') (sym cell-one) (only-taken group newest_part ws vs r ws' vs' t)
 
   module _ (e : get_or us at 0 ≡ 1 → ⊥) where
@@ -158,23 +160,23 @@ module _ (us ds : List ℕ) (k : ℕ) (l : k < 16) where
       room_two : RoomForAll (newer_cell k us ds ∷ []) (waiting_of ws vs) → RoomForAll (pair group (newest_part ∷ older_part ∷ []) ∷ []) (waiting_of ws vs)
       room_two h = subst (λ (x : Pair ℕ (List Part)). RoomForAll (x ∷ []) (waiting_of ws vs)) cell_two h
 
-      pub older-room : RoomForAll (newer_cell k us ds ∷ []) (waiting_of ws vs) → RoomFor group (items_from us ds (get_or us (at + 6) 0)) ws vs
+      pub older_room : RoomForAll (newer_cell k us ds ∷ []) (waiting_of ws vs) → RoomFor group (items_from us ds (get_or us (at + 6) 0)) ws vs
       unfolding newer_part
-      older-room h = room-older group newest_part older_part ws vs (room_two h)
+      older_room h = room-older group newest_part older_part ws vs (room_two h)
 
-      pub older-refused : (e : Cause) (ws' vs' : List ℕ) → PartRefused group older_part e ws vs ws' vs' → accept_parts_of (newer_cell k us ds) (waiting_of ws vs) ≡ refuse e
-      older-refused e ws' vs' b =
+      pub older_refused : (e : Cause) (ws' vs' : List ℕ) → PartRefused group older_part e ws vs ws' vs' → accept_parts_of (newer_cell k us ds) (waiting_of ws vs) ≡ refuse e
+      older_refused e ws' vs' b =
           ap (λ (x : Pair ℕ (List Part)). accept_parts_of x (waiting_of ws vs)) cell_two
           ∙ two-refused group (waiting_of ws vs) newest_part older_part (refusal_of e) b.refuses
 
       -- the older part is accepted; the newest follows
       module _ (ws' vs' : List ℕ) (older-taken : Taken group older_part ws vs ws' vs') where
-        pub newest-room : RoomForAll (newer_cell k us ds ∷ []) (waiting_of ws vs) → RoomFor group (items_from us ds (get_or us (at + 2) 0)) ws' vs'
+        pub newest_room : RoomForAll (newer_cell k us ds ∷ []) (waiting_of ws vs) → RoomFor group (items_from us ds (get_or us (at + 2) 0)) ws' vs'
         unfolding newer_part
-        newest-room h = room-newer group newest_part older_part ws vs (room_two h) (ascends ws vs) ws' vs' (only-taken group older_part ws vs (Ok tt) ws' vs' older-taken).0
+        newest_room h = room-newer group newest_part older_part ws vs (room_two h) (ascends ws vs) ws' vs' (only-taken group older_part ws vs (Ok tt) ws' vs' older-taken).0
 
-        pub two-accepted : (s : ByCause (Unit {0})) (ws'' vs'' : List ℕ) → TakenAs group newest_part ws' vs' s ws'' vs'' → PartsTaken (accept_parts_of (newer_cell k us ds) (waiting_of ws vs)) s ws'' vs''
-        two-accepted s ws'' vs'' n =
+        pub two_accepted : (s : ByCause (Unit {0})) (ws'' vs'' : List ℕ) → TakenAs group newest_part ws' vs' s ws'' vs'' → PartsTaken (accept_parts_of (newer_cell k us ds) (waiting_of ws vs)) s ws'' vs''
+        two_accepted s ws'' vs'' n =
             let same : accept_parts_of (newer_cell k us ds) (waiting_of ws vs) ≡ accept_parts_of (pair group (newest_part ∷ [])) (waiting_of ws' vs') =
             ap (λ (x : Pair ℕ (List Part)). accept_parts_of x (waiting_of ws vs)) cell_two
             ∙ two-taken group (waiting_of ws vs) newest_part older_part (ascends ws vs) older-taken.parts older-taken.accepts
@@ -202,8 +204,8 @@ module _ (us ds ws vs : List ℕ) (u : RoomWf 16 us ds) where
   abbrev newer : Map ℕ (List Part)
   newer = waiting_of us ds
 
-  pub taking-start : ContextRoom us ds → ContextRoom ws vs → Taking None us ds ws vs ws vs
-  taking-start n o =
+  pub taking_start : ContextRoom us ds → ContextRoom ws vs → Taking None us ds ws vs ws vs
+  taking_start n o =
       let q = walked_all newer in
       let l = few-groups ws vs us ds u in
       let f = fits-few newer n.fits in
@@ -229,7 +231,7 @@ module _ (us ds ws vs : List ℕ) (u : RoomWf 16 us ds) where
       rest = beyond_of (Some (group_in (head_at k (part 2 160 us)))) newer
 
       next : beyond_of b newer ≡ newer_cell k us ds ∷ rest
-      next = next-is b us ds u k l
+      next = next_is b us ds u k l
 
       room_for : RoomForAll (newer_cell k us ds ∷ rest) (waiting_of ws' vs')
       room_for = subst (λ (m : Map ℕ (List Part)). RoomForAll m (waiting_of ws' vs')) next c.fits
@@ -240,8 +242,8 @@ module _ (us ds ws vs : List ℕ) (u : RoomWf 16 us ds) where
       here : waiting_after newer (waiting_of ws vs) ≡ and_then (accept_parts_of (newer_cell k us ds) (waiting_of ws' vs')) (waiting_after rest)
       here = sym c.whole ∙ ap (λ (m : Map ℕ (List Part)). waiting_after m (waiting_of ws' vs')) next ∙ after_more (newer_cell k us ds) rest (waiting_of ws' vs')
 
-      pub taken-refused : (e : Cause) → accept_parts_of (newer_cell k us ds) (waiting_of ws' vs') ≡ refuse e → waiting_after newer (waiting_of ws vs) ≡ refuse e
-      taken-refused e x =
+      pub taken_refused : (e : Cause) → accept_parts_of (newer_cell k us ds) (waiting_of ws' vs') ≡ refuse e → waiting_after newer (waiting_of ws vs) ≡ refuse e
+      taken_refused e x =
           here ∙ and_then-refused (accept_parts_of (newer_cell k us ds) (waiting_of ws' vs')) (waiting_after rest) (refusal_of e) x
 
       module _ (ws'' vs'' : List ℕ) (x : (accept_parts_of (newer_cell k us ds) (waiting_of ws' vs') ≡ Ok (waiting_of ws'' vs'')) × RoomWf 16 ws'' vs'') where

@@ -23,9 +23,7 @@ unfoldable pub oldest : List ℕ → List Tagged → Part
 oldest h xs = cond (eqb (count_in h) 1) (newest h xs) (older h xs)
 
 unfoldable pub is_finish : step.Step → Bool
-is_finish step.TheVariants.Replace = false
-is_finish step.TheVariants.Front = false
-is_finish step.TheVariants.Join = false
+is_finish (step.TheVariants.Wait f) = false
 is_finish step.TheVariants.Drop = false
 is_finish step.TheVariants.Finish = true
 is_finish step.TheVariants.Back = false

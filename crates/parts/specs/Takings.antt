@@ -3,7 +3,7 @@ use Rattle.std.specs.Prelude.{Option, List, ◌≡◌, ℕ, ◌+◌, ◌≤◌, 
 use Rattle.cells.specs.Part.{part}
 use Rattle.maps.specs.Maps.{Pair, Map, lookup, store, numbers}
 use Rattle.maps.specs.MapLaws.{pair}
-use Rattle.rules.specs.Causes.{Cause, Result, ByCause, Ok, Err, refuse}
+use Rattle.rules.specs.Causes.{Cause, FilesGoBack, Result, ByCause, Ok, Err, refuse}
 use Rattle.rules.specs.Items.{status_of}
 use Rattle.rules.specs.Context.{Part}
 use Rattle.rules_by_group.specs.Group.{accept_part}
@@ -26,6 +26,7 @@ pub record Taken (g : ℕ) (new : Part) (ws vs ws' vs' : List ℕ) : Type 0 wher
 -- the part is refused, and all is as it was
 pub record PartRefused (g : ℕ) (new : Part) (e : Cause) (ws vs ws' vs' : List ℕ) : Type 0 where
   pub refuses : accept_part new (lookup numbers g (waiting_of ws vs)) ≡ refuse e
+  pub cause-is : e ≡ FilesGoBack
   pub numbers-are : ws' ≡ ws
   pub bytes-are : vs' ≡ vs
 
@@ -48,4 +49,4 @@ pub record RoomForAll (more w : Map ℕ (List Part)) : Type 0 where
 -- x says what waits afterwards: the room has it, or it is refused
 abbrev pub PartsTaken : Result (Map ℕ (List Part)) → ByCause (Unit {0}) → List ℕ → List ℕ → Type 0
 PartsTaken x (Ok _) ws' vs' = (x ≡ Ok (waiting_of ws' vs')) × RoomWf 16 ws' vs'
-PartsTaken x (Err e) ws' vs' = x ≡ refuse e
+PartsTaken x (Err e) ws' vs' = (x ≡ refuse e) × (e ≡ FilesGoBack)

@@ -10,9 +10,11 @@ ghost use Rattle.waiting.specs.Steps.{AtCell};
 ghost use Rattle.parts.specs.Finishings.{finished_as, oldest_at, is_finish, has_items};
 
 use crate::Ending;
+use crate::walks::part_head;
+use cells::Slot;
 use room::{CELLS, HEAD_WIDTH, HEADS_AT, NEWEST_AT, OLDER_AT};
+use waiting::Step;
 use waiting::find::{find, step_at};
-use waiting::{Place, Step};
 
 // Whether a step finishes a part.
 #[tactic(auto, unfolding(crate::specs::Finishings::is_finish))]
@@ -38,13 +40,14 @@ fn oldest_at(us: &[u64], j: usize) -> usize
 }
 
 // What the oldest part of the newer cell j finishes in the older cell k.
+#[tactic(auto, using(crate::proofs::PartWays::none_finishes, crate::proofs::PartWays::one_finishes))]
 fn finishing_by(ws: &[u64], us: &[u64], k: usize, j: usize) -> Option<Ending>
     requires { (length ws.now ≡ 3490) × (length us.now ≡ 3490) × (k < 16) × (j < 16) }
     ensures { (xs ys : List Tagged) → finished_of (Some (parts_of (head_at j (part 2 160 us.now)) ys)) (Some (parts_of (head_at k (part 2 160 ws.now)) xs)) ≡ finished_as result xs ys }
 {
     let at = oldest_at(us, j);
-    let step = step_at(ws, CELLS, k, us[at + 1], us[at + 2]);
-    if !is_finish(step) {
+    let new = part_head(us, at);
+    if !is_finish(step_at(ws, CELLS, k, new)) {
         return None;
     }
     let cell = HEADS_AT + k * HEAD_WIDTH;
@@ -52,31 +55,33 @@ fn finishing_by(ws: &[u64], us: &[u64], k: usize, j: usize) -> Option<Ending>
         older: ws[cell + NEWEST_AT],
         newer: us[at],
         start: ws[cell + 4],
-        end: us[at + 3],
+        end: new.end,
     })
 }
 
 // What the parts of the newer cell j finish in the older room.
+#[tactic(auto, using(crate::proofs::PartWays::older_there, crate::proofs::PartWays::older_absent), unfolding(waiting::specs::Steps::Found))]
 fn finishing_at(ws: &[u64], us: &[u64], group: u64, j: usize) -> Option<Ending>
     requires { (length ws.now ≡ 3490) × (length us.now ≡ 3490) × (j < 16) }
     ensures { (vs : List ℕ) (ys : List Tagged) → RoomWf 16 ws.now vs → finished_of (Some (parts_of (head_at j (part 2 160 us.now)) ys)) (lookup numbers group (waiting_of ws.now vs)) ≡ finished_as result (tagged ws.now vs) ys }
 {
     match find(ws, CELLS, group) {
-        Place::At(k) => finishing_by(ws, us, k, j),
-        Place::Free(_) => None,
-        Place::Full => None,
+        Slot::At(k) => finishing_by(ws, us, k, j),
+        Slot::Free(_) => None,
+        Slot::Full => None,
     }
 }
 
 // What the parts of a group in the newer room finish in the older one.
+#[tactic(auto, using(crate::proofs::PartWays::newer_there, crate::proofs::PartWays::newer_absent), unfolding(waiting::specs::Steps::Found))]
 pub fn find_finishing(ws: &[u64], us: &[u64], group: u64) -> Option<Ending>
     requires { (length ws.now ≡ 3490) × (length us.now ≡ 3490) }
     ensures { (vs ds : List ℕ) → RoomWf 16 ws.now vs → RoomWf 16 us.now ds → finished_of (lookup numbers group (waiting_of us.now ds)) (lookup numbers group (waiting_of ws.now vs)) ≡ finished_as result (tagged ws.now vs) (tagged us.now ds) }
 {
     match find(us, CELLS, group) {
-        Place::At(j) => finishing_at(ws, us, group, j),
-        Place::Free(_) => None,
-        Place::Full => None,
+        Slot::At(j) => finishing_at(ws, us, group, j),
+        Slot::Free(_) => None,
+        Slot::Full => None,
     }
 }
 

@@ -5,16 +5,15 @@ ghost use Rattle.std.specs.Prelude.{List, ◌≡◌, ℕ, ◌+◌, ◌≤◌, �
 ghost use Rattle.rules.specs.Items.{is_tombstone};
 ghost use Rattle.rules_by_group.specs.Stage.{tombs_in, finished_tombs};
 ghost use Rattle.log_batch.specs.Lent.{content_of};
-ghost use Rattle.stores.specs.Stores.{area, Stored};
-ghost use Rattle.stores.specs.Tags.{store_tagged, items_with};
+ghost use Rattle.stores.specs.Tags.{tagged_in, items_with, StoredTagged};
 ghost use Rattle.room.specs.Layout.{waiting_of, tagged, RoomWf};
 ghost use Rattle.parts.specs.Finals.{tombs_of, finished_in};
 
 use crate::endings::find_finishing;
+use crate::items::items_in;
 use crate::walks::{group_at, next_cell};
 use log_batch::item::{LogItemContent, OpType};
-use room::{CELLS, HEADS_AT};
-use stores::Store;
+use stores::TaggedStore;
 use stores::read::item_at;
 
 // Del, a reserved one too, Clean and Compact are tombstones.
@@ -29,25 +28,17 @@ pub fn is_tombstone(content: LogItemContent) -> bool
 }
 
 // The count so far, with item j of a store if it has the tag and is a tombstone.
-fn count_at(
-    count: usize,
-    store: Store,
-    tag: u64,
-    tags: &[u64],
-    items: &[u64],
-    entries: &[u64],
-    bytes: &[u8],
-    j: usize,
-) -> usize
-    requires stored { Stored store (area items.now entries.now bytes.now) × (j < store.items) × (store.items ≤ length tags.now) × (store.items ≤ 128) }
+fn count_at(count: usize, items: &TaggedStore, tag: u64, j: usize) -> usize
+    requires stored { StoredTagged items.now }
+    requires j_bound { (j < items.now.store.counts.items) × (items.now.store.counts.items ≤ 128) }
     requires count_le_j { count ≤ j }
-    ensures tags_value { result + length (tombs_of (items_with tag (drop (j + 1) (store_tagged store (area items.now entries.now bytes.now) tags.now)))) ≡ count + length (tombs_of (items_with tag (drop j (store_tagged store (area items.now entries.now bytes.now) tags.now)))) }
+    ensures value { result + length (tombs_of (items_with tag (drop (j + 1) (tagged_in items.now)))) ≡ count + length (tombs_of (items_with tag (drop j (tagged_in items.now)))) }
     ensures upper_bound { result ≤ j + 1 }
 {
-    if tags[j] != tag {
+    if items.tags[j] != tag {
         return count;
     }
-    let item = item_at(store, items, entries, bytes, j);
+    let item = item_at(&items.store, j);
     if is_tombstone(item.content) {
         count + 1
     } else {
@@ -56,21 +47,15 @@ fn count_at(
 }
 
 // How many items of a store have the tag and are tombstones.
-fn count_tag(
-    store: Store,
-    tag: u64,
-    tags: &[u64],
-    items: &[u64],
-    entries: &[u64],
-    bytes: &[u8],
-) -> usize
-    requires { Stored store (area items.now entries.now bytes.now) × (store.items ≤ length tags.now) × (store.items ≤ 128) }
-    ensures value { result ≡ length (tombs_of (items_with tag (store_tagged store (area items.now entries.now bytes.now) tags.now))) }
+fn count_tag(items: &TaggedStore, tag: u64) -> usize
+    requires stored { StoredTagged items.now }
+    requires items_bound { items.now.store.counts.items ≤ 128 }
+    ensures value { result ≡ length (tombs_of (items_with tag (tagged_in items.now))) }
     ensures upper_bound { result ≤ 128 }
 {
     let mut count = 0;
-    for j in 0..store.items {
-        count = count_at(count, store, tag, tags, items, entries, bytes, j);
+    for j in 0..items.store.counts.items {
+        count = count_at(count, items, tag, j);
     }
     count
 }
@@ -81,17 +66,11 @@ fn count_part(ws: &[u64], vs: &[u8], tag: u64) -> usize
     ensures value { result ≡ length (tombs_of (items_with tag (tagged ws.now vs.now))) }
     ensures upper_bound { result ≤ 128 }
 {
-    let store = Store {
-        items: ws[0] as usize,
-        entries: ws[1] as usize,
-    };
-    let t = HEADS_AT + CELLS * room::TAGS_FROM;
-    let a = HEADS_AT + CELLS * room::ITEMS_FROM;
-    let e = HEADS_AT + CELLS * room::ENTRIES_FROM;
-    count_tag(store, tag, &ws[t..a], &ws[a..e], &ws[e..], vs)
+    count_tag(&items_in(ws, vs), tag)
 }
 
 // How many tombstones there are among the items of a group that finish.
+#[tactic(auto, using(crate::proofs::FinalWays::group_none, crate::proofs::FinalWays::group_some))]
 fn count_group(ws: &[u64], vs: &[u8], us: &[u64], ds: &[u8], group: u64) -> usize
     requires room_wf { RoomWf 16 ws.now vs.now }
     requires room_wf_2 { RoomWf 16 us.now ds.now }
@@ -105,6 +84,7 @@ fn count_group(ws: &[u64], vs: &[u8], us: &[u64], ds: &[u8], group: u64) -> usiz
 }
 
 // How many tombstones there are among the items that finish.
+#[tactic(auto, using(crate::proofs::WalkWays::fewer))]
 pub fn count_finals(ws: &[u64], vs: &[u8], us: &[u64], ds: &[u8]) -> usize
     requires room_wf { RoomWf 16 ws.now vs.now }
     requires room_wf_2 { RoomWf 16 us.now ds.now }

@@ -1,8 +1,7 @@
 // The tombstones among the items of parts that finish, kept behind those of both contexts.
 ghost use Rattle.std.specs.Prelude.{◌≡◌, ◌+◌, ◌≤◌, ◌<◌, length, get_or, drop};
 ghost use Rattle.rules_by_group.specs.Stage.{tombs_in, finished_tombs};
-ghost use Rattle.stores.specs.Stores.{area, Stored};
-ghost use Rattle.stores.specs.Tags.{store_tagged, items_with};
+ghost use Rattle.stores.specs.Tags.{tagged_in, items_with, StoredTagged};
 ghost use Rattle.lists.specs.Rest.{Wf};
 ghost use Rattle.lists.specs.Calls.{TombstonesAdded};
 ghost use Rattle.room.specs.Layout.{waiting_of, tagged, RoomWf};
@@ -10,55 +9,40 @@ ghost use Rattle.parts.specs.Finals.{tombs_of, finished_in, Keeping};
 
 use crate::endings::find_finishing;
 use crate::finals::is_tombstone;
+use crate::items::items_in;
 use crate::walks::{group_at, next_cell};
-use room::{CELLS, HEADS_AT};
-use stores::Store;
+use stores::TaggedStore;
 use stores::read::item_at;
 
 // Keeps item j of a store, if it has the tag and is a tombstone.
-fn keep_at(
-    ys: &mut [u64],
-    cs: &mut [u8],
-    store: Store,
-    tag: u64,
-    tags: &[u64],
-    items: &[u64],
-    entries: &[u64],
-    bytes: &[u8],
-    j: usize,
-)
+#[tactic(auto, using(crate::proofs::KeepWays::keep_past))]
+fn keep_at(ys: &mut [u64], cs: &mut [u8], items: &TaggedStore, tag: u64, j: usize)
     requires wf { Wf ys.old cs.old }
-    requires stored { Stored store (area items.now entries.now bytes.now) × (j < store.items) × (store.items ≤ length tags.now) }
-    requires tags_bound { get_or ys.old 1 0 + length (tombs_of (items_with tag (drop j (store_tagged store (area items.now entries.now bytes.now) tags.now)))) ≤ 64 }
-    ensures { Keeping (items_with tag (drop j (store_tagged store (area items.now entries.now bytes.now) tags.now))) (items_with tag (drop (j + 1) (store_tagged store (area items.now entries.now bytes.now) tags.now))) ys.old cs.old ys.new cs.new }
+    requires stored { StoredTagged items.now }
+    requires j_bound { j < items.now.store.counts.items }
+    requires room { get_or ys.old 1 0 + length (tombs_of (items_with tag (drop j (tagged_in items.now)))) ≤ 64 }
+    ensures { Keeping (items_with tag (drop j (tagged_in items.now))) (items_with tag (drop (j + 1) (tagged_in items.now))) ys.old cs.old ys.new cs.new }
 {
-    if tags[j] != tag {
+    if items.tags[j] != tag {
         return;
     }
-    let item = item_at(store, items, entries, bytes, j);
+    let item = item_at(&items.store, j);
     if is_tombstone(item.content) {
-        lists::add_tombstone(ys, cs, item, entries, bytes);
+        let parts = items.store.parts;
+        lists::add_tombstone(ys, cs, item, parts.entries, parts.bytes);
     }
 }
 
 // Keeps the items of a store that have the tag and are tombstones.
-fn keep_tag(
-    ys: &mut [u64],
-    cs: &mut [u8],
-    store: Store,
-    tag: u64,
-    tags: &[u64],
-    items: &[u64],
-    entries: &[u64],
-    bytes: &[u8],
-)
+#[tactic(auto, using(crate::proofs::KeepWays::keeping_none))]
+fn keep_tag(ys: &mut [u64], cs: &mut [u8], items: &TaggedStore, tag: u64)
     requires wf { Wf ys.old cs.old }
-    requires stored { Stored store (area items.now entries.now bytes.now) × (store.items ≤ length tags.now) }
-    requires tags_bound { get_or ys.old 1 0 + length (tombs_of (items_with tag (store_tagged store (area items.now entries.now bytes.now) tags.now))) ≤ 64 }
-    ensures { TombstonesAdded (tombs_of (items_with tag (store_tagged store (area items.now entries.now bytes.now) tags.now))) ys.old cs.old ys.new cs.new }
+    requires stored { StoredTagged items.now }
+    requires room { get_or ys.old 1 0 + length (tombs_of (items_with tag (tagged_in items.now))) ≤ 64 }
+    ensures { TombstonesAdded (tombs_of (items_with tag (tagged_in items.now))) ys.old cs.old ys.new cs.new }
 {
-    for j in 0..store.items {
-        keep_at(ys, cs, store, tag, tags, items, entries, bytes, j);
+    for j in 0..items.store.counts.items {
+        keep_at(ys, cs, items, tag, j);
     }
 }
 
@@ -69,17 +53,11 @@ fn keep_part(ys: &mut [u64], cs: &mut [u8], ws: &[u64], vs: &[u8], tag: u64)
     requires vs_bound { get_or ys.old 1 0 + length (tombs_of (items_with tag (tagged ws.now vs.now))) ≤ 64 }
     ensures { TombstonesAdded (tombs_of (items_with tag (tagged ws.now vs.now))) ys.old cs.old ys.new cs.new }
 {
-    let store = Store {
-        items: ws[0] as usize,
-        entries: ws[1] as usize,
-    };
-    let t = HEADS_AT + CELLS * room::TAGS_FROM;
-    let a = HEADS_AT + CELLS * room::ITEMS_FROM;
-    let e = HEADS_AT + CELLS * room::ENTRIES_FROM;
-    keep_tag(ys, cs, store, tag, &ws[t..a], &ws[a..e], &ws[e..], vs);
+    keep_tag(ys, cs, &items_in(ws, vs), tag);
 }
 
 // Keeps the tombstones among the items of a group that finish.
+#[tactic(auto, using(crate::proofs::KeepWays::kept_none))]
 fn keep_group(
     ys: &mut [u64],
     cs: &mut [u8],
@@ -102,6 +80,7 @@ fn keep_group(
 }
 
 // Keeps the tombstones among the items that finish, groups ascending.
+#[tactic(auto, using(crate::proofs::WalkWays::fewer, crate::proofs::KeepWays::keeping_start, crate::proofs::KeepWays::kept_more))]
 pub fn keep_finals(ys: &mut [u64], cs: &mut [u8], ws: &[u64], vs: &[u8], us: &[u64], ds: &[u8])
     requires wf { Wf ys.old cs.old }
     requires room_wf { RoomWf 16 ws.now vs.now }

@@ -3,6 +3,7 @@
 
 mod endings;
 mod finals;
+mod items;
 mod keeps;
 mod limits;
 mod takings;
@@ -10,6 +11,7 @@ mod walks;
 
 pub use endings::{find_finishing, has_items};
 pub use finals::count_finals;
+pub use items::items_in;
 pub use keeps::keep_finals;
 pub use limits::room_fits;
 pub use takings::take_parts;

@@ -5,12 +5,13 @@ ghost use Rattle.room.specs.Layout.{waiting_of, RoomWf, ContextRoom};
 ghost use Rattle.waiting.specs.Merges.{items_from, RoomFor};
 ghost use Rattle.parts.specs.Takings.{newer_part, TakenAs, newer_cell, RoomForAll, PartsTaken};
 
-use crate::walks::{group_at, next_cell};
+use crate::walks::{group_at, next_cell, part_head};
 use pipe_log::Cause;
 use room::{HEAD_WIDTH, HEADS_AT, NEWEST_AT, OLDER_AT};
-use waiting::accept_part;
+use waiting::{PartItems, accept_part};
 
 // Accepts the newer part of a group whose tag is number `at` of the newer room.
+#[tactic(auto, using(crate::proofs::TakingWays::part_taken))]
 fn accept_at(
     ws: &mut [u64],
     vs: &mut [u8],
@@ -25,21 +26,18 @@ fn accept_at(
     requires room_for { RoomFor group (items_from us.now ds.now (get_or us.now at 0)) ws.old vs.old }
     ensures { TakenAs group (newer_part at us.now ds.now) ws.old vs.old result ws.new vs.new }
 {
-    accept_part(
-        ws,
-        vs,
-        group,
-        us[at + 1],
-        us[at + 2],
-        us[at + 3],
-        us,
-        ds,
-        us[at],
-    )?;
+    let new = part_head(us, at);
+    let its = PartItems {
+        numbers: us,
+        bytes: ds,
+        tag: us[at],
+    };
+    accept_part(ws, vs, group, new, &its)?;
     Ok(())
 }
 
 // Accepts the parts of the newer cell k, the oldest first.
+#[tactic(auto, using(crate::proofs::TakingWays::one_accepted, crate::proofs::TakingWays::newest_room, crate::proofs::TakingWays::two_accepted))]
 fn accept_cell(ws: &mut [u64], vs: &mut [u8], us: &[u64], ds: &[u8], k: usize) -> Result<(), Cause>
     requires room_wf { RoomWf 16 ws.old vs.old }
     requires room_wf_2 { RoomWf 16 us.now ds.now }
@@ -57,6 +55,7 @@ fn accept_cell(ws: &mut [u64], vs: &mut [u8], us: &[u64], ds: &[u8], k: usize) -
 }
 
 // Accepts the newer waiting parts in the older room, groups ascending, the oldest part of a group first.
+#[tactic(auto, using(crate::proofs::WalkWays::fewer, crate::proofs::TakingWays::taken_all))]
 pub fn take_parts(ws: &mut [u64], vs: &mut [u8], us: &[u64], ds: &[u8]) -> Result<(), Cause>
     requires context_room { ContextRoom ws.old vs.old }
     requires context_room_2 { ContextRoom us.now ds.now }

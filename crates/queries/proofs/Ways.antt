@@ -4,8 +4,8 @@ use mathlib.Core.List.{List}
 use Rattle.std.specs.Prelude.{Option, IsErrAnd}
 use Rattle.std.proofs.lemmas.Result.{err_from_is_err_and}
 use mathlib.Core.Path.{◌≡◌, refl, sym, ◌∙◌}
-use Prim.Native.Nat.{ℕ, ◌*◌, ◌≤◌, ◌<◌}
-use lib.ListN.{length}
+use Prim.Native.Nat.{ℕ, ◌*◌, ◌/◌, ◌≤◌, ◌<◌}
+use lib.ListN.{length, take}
 use Rattle.maps.specs.Maps.{Map}
 use Rattle.rules.specs.Causes.{Cause, ByCause, Err, Result, Ok, and_then}
 use Rattle.rules.specs.Items.{LogQueue}
@@ -15,6 +15,7 @@ use Rattle.rules.specs.Queries.{in_group, answered, lent_after}
 use Rattle.kvs.specs.Rows.{keys_in}
 use Rattle.kvs.specs.Rows as kvs
 use Rattle.kvs.specs.RowLaws.{length-keys}
+use Rattle.kvs.specs.SameLaws.{keys_used}
 use Rattle.kvs.specs.Calls.{GetKey}
 use Rattle.key_lists.specs.Lists.{lens_after, bytes_after, Fetches}
 use Rattle.memtable.specs.declared.Head.{Head}
@@ -109,13 +110,19 @@ keys-absent query s h r p =
 -- ---- `get` and `min_file_seq` in the stretch p with its bytes d
 
 module _ (p d : List ℕ) where
-  pub min-there : {h : Head} {es : List ℕ} {n : ℕ} {rows : List ℕ} → h ≡ head_part p → es ≡ entry_rows p → n ≡ key_count p → rows ≡ key_rows p → (q : LogQueue) (f : Option ℕ) → MinFileSeq h es n rows q f → f ≡ min_file_seq q (table_in p d)
-  unfolding table_in
-  min-there a b c e q f m = rw (a, b, c, e) at (m d (is_counted p))
+  module _ {h : Head} {es : List ℕ} {n : ℕ} {rows : List ℕ} (a : h ≡ head_part p) (b : es ≡ entry_rows p) (c : n ≡ key_count p) (e : rows ≡ key_rows p) (w : stretch.Wf p d) where
+    pub min-fits : memtable.Wf h es
+    min-fits = rw (a, b) w.numbers.entries
 
-  pub min-fits : {h : Head} {es : List ℕ} {n : ℕ} {rows : List ℕ} → h ≡ head_part p → es ≡ entry_rows p → n ≡ key_count p → rows ≡ key_rows p → stretch.Wf p d → memtable.Wf h es × (n * 4 ≤ length rows)
-  min-fits a b c e w = (rw (a, b) w.numbers.entries, rw (c, e) w.keys.rows_fit)
+    rows-fit : n * 4 ≤ length rows
+    rows-fit = rw (c, e) w.keys.rows_fit
 
-  pub got-there : {n : ℕ} {rows b : List ℕ} → n ≡ key_count p → rows ≡ key_rows p → b ≡ d → (key : List ℕ) (value : Option (List ℕ)) → GetKey n rows b key value → value ≡ get_key key (table_in p d)
+    pub min-there : (q : LogQueue) (f : Option ℕ) → MinFileSeq h es (length (take (n * 4) rows) / 4) (take (n * 4) rows) q f → f ≡ min_file_seq q (table_in p d)
+    unfolding table_in
+    min-there q f m =
+        let k : keys_in (length (take (n * 4) rows) / 4) (take (n * 4) rows) d ≡ keys_in n rows d = keys_used n rows d (take (n * 4) rows) rows-fit refl in
+        m d (is_counted p) ∙ rw (k, a, b, c, e)
+
+  pub got-there : {n : ℕ} {rows b : List ℕ} → n ≡ key_count p → rows ≡ key_rows p → b ≡ d → (key : List ℕ) (value : Option (List ℕ)) → GetKey (keys_in n rows b) key value → value ≡ get_key key (table_in p d)
   unfolding table_in table_of get_key
   got-there c e f key value g = rw (c, e, f) at g

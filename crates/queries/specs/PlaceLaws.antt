@@ -8,8 +8,8 @@ use Rattle.rules.specs.Table.{Table}
 use Rattle.rules.specs.Context.{with_groups}
 use Rattle.rules.specs.Queries.{in_group}
 use Rattle.stretch.specs.Stretch.{table_in}
-use Rattle.groups.specs.declared.Slot.{Slot}
-use Rattle.groups.specs.declared.Slot.TheVariants as slot
+use Rattle.cells.specs.declared.Slot.{Slot}
+use Rattle.cells.specs.declared.Slot.TheVariants as slot
 use Rattle.groups.specs.Area.{stretch_at, bytes_at, groups_of, Found}
 use Rattle.groups.specs.Laws.{found_at_lem, found-free, found-full, lookup-found, lookup-free, lookup-full}
 use Rattle.contexts.specs.Contexts.{context_of, Wf}

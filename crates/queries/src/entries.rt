@@ -4,67 +4,60 @@ ghost use Rattle.rules.specs.Causes.{by_cause, Ok};
 ghost use Rattle.rules.specs.Table.{first_index_of, last_index};
 ghost use Rattle.rules.specs.TableQueries.{get_entry, rewrite_count, has_at_least_some_entries_before};
 ghost use Rattle.rules.specs.Queries.{in_group};
-ghost use Rattle.contexts.specs.Contexts.{context_of, Wf};
 
 use crate::places::{entry_rows, head_at, place_of};
+use contexts::Area;
 use pipe_log::{Cause, EntryIndex};
 
 // The index of a group's first entry.
-pub fn first_index(xs: &[u64], bs: &[u8], group: u64) -> Result<Option<u64>, Cause>
-    requires { Wf xs.now bs.now }
-    ensures { by_cause result ≡ in_group group (λ t. Ok (first_index_of t.entries)) (context_of xs.now bs.now) }
+pub fn first_index(area: &Area, group: u64) -> Result<Option<u64>, Cause>
+    ensures { by_cause result ≡ in_group group (λ t. Ok (first_index_of t.entries)) area.now }
 {
-    let k = place_of(xs, group)?;
-    Ok(head_at(xs, k).first_index())
+    let k = place_of(area.xs, group)?;
+    Ok(head_at(area.xs, k).first_index())
 }
 
 // The index of a group's last entry.
-pub fn last_index(xs: &[u64], bs: &[u8], group: u64) -> Result<Option<u64>, Cause>
-    requires { Wf xs.now bs.now }
-    ensures { by_cause result ≡ in_group group (λ t. Ok (last_index t.entries)) (context_of xs.now bs.now) }
+pub fn last_index(area: &Area, group: u64) -> Result<Option<u64>, Cause>
+    ensures { by_cause result ≡ in_group group (λ t. Ok (last_index t.entries)) area.now }
 {
-    let k = place_of(xs, group)?;
-    Ok(head_at(xs, k).last_index())
+    let k = place_of(area.xs, group)?;
+    Ok(head_at(area.xs, k).last_index())
 }
 
 // The number of a group's Rewrite entries.
-pub fn rewrite_count(xs: &[u64], bs: &[u8], group: u64) -> Result<usize, Cause>
-    requires { Wf xs.now bs.now }
-    ensures { by_cause result ≡ in_group group (λ t. Ok (rewrite_count t)) (context_of xs.now bs.now) }
+pub fn rewrite_count(area: &Area, group: u64) -> Result<usize, Cause>
+    ensures { by_cause result ≡ in_group group (λ t. Ok (rewrite_count t)) area.now }
 {
-    let k = place_of(xs, group)?;
-    Ok(head_at(xs, k).rewrite_count())
+    let k = place_of(area.xs, group)?;
+    Ok(head_at(area.xs, k).rewrite_count())
 }
 
 // The number of a group's entries.
-pub fn entry_count(xs: &[u64], bs: &[u8], group: u64) -> Result<usize, Cause>
-    requires { Wf xs.now bs.now }
-    ensures { by_cause result ≡ in_group group (λ t. Ok (length t.entries)) (context_of xs.now bs.now) }
+pub fn entry_count(area: &Area, group: u64) -> Result<usize, Cause>
+    ensures { by_cause result ≡ in_group group (λ t. Ok (length t.entries)) area.now }
 {
-    let k = place_of(xs, group)?;
-    Ok(head_at(xs, k).len)
+    let k = place_of(area.xs, group)?;
+    Ok(head_at(area.xs, k).len)
 }
 
 // The record at an index of a group, if it is held.
-pub fn get_entry(xs: &[u64], bs: &[u8], group: u64, index: u64) -> Result<Option<EntryIndex>, Cause>
-    requires { Wf xs.now bs.now }
-    ensures { by_cause result ≡ in_group group (λ t. Ok (get_entry index t)) (context_of xs.now bs.now) }
+pub fn get_entry(area: &Area, group: u64, index: u64) -> Result<Option<EntryIndex>, Cause>
+    ensures { by_cause result ≡ in_group group (λ t. Ok (get_entry index t)) area.now }
 {
-    let k = place_of(xs, group)?;
-    Ok(head_at(xs, k).get_entry(entry_rows(xs, k), index))
+    let k = place_of(area.xs, group)?;
+    Ok(head_at(area.xs, k).get_entry(entry_rows(area.xs, k), index))
 }
 
 // Whether a group's entry at place `count` − 1 has a sequence number up to the gate's.
 pub fn has_at_least_some_entries_before(
-    xs: &[u64],
-    bs: &[u8],
+    area: &Area,
     group: u64,
     gate: u64,
     count: usize,
 ) -> Result<bool, Cause>
-    requires { Wf xs.now bs.now }
-    ensures { by_cause result ≡ in_group group (has_at_least_some_entries_before gate count) (context_of xs.now bs.now) }
+    ensures { by_cause result ≡ in_group group (has_at_least_some_entries_before gate count) area.now }
 {
-    let k = place_of(xs, group)?;
-    head_at(xs, k).has_at_least_some_entries_before(entry_rows(xs, k), gate, count)
+    let k = place_of(area.xs, group)?;
+    head_at(area.xs, k).has_at_least_some_entries_before(entry_rows(area.xs, k), gate, count)
 }

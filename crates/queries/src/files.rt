@@ -6,9 +6,10 @@ ghost use Rattle.rules.specs.Queries.{in_group};
 ghost use Rattle.stretch.specs.Stretch.{table_in};
 ghost use Rattle.stretch.specs.Stretch as stretch;
 ghost use Rattle.groups.specs.Area.{stretch_at, bytes_at};
-ghost use Rattle.contexts.specs.Contexts.{context_of, Wf};
 
 use crate::places::{entry_rows, head_at, key_count_at, key_rows, place_of};
+use contexts::Area;
+use kvs::rows::ROW_WIDTH;
 use pipe_log::{Cause, LogQueue};
 
 // The least file of a queue in the group of stretch k.
@@ -21,19 +22,13 @@ fn min_file_seq_at(xs: &[u64], bs: &[u8], k: usize, queue: LogQueue) -> Option<u
     let entries = entry_rows(xs, k);
     let n = key_count_at(xs, k);
     let rows = key_rows(xs, k);
-    memtable::table::min_file_seq(head, entries, n, rows, queue)
+    memtable::table::min_file_seq(head, entries, &rows[..n * ROW_WIDTH], queue)
 }
 
 // The least file of a queue in a group, with the group's span.
-pub fn min_file_seq(
-    xs: &[u64],
-    bs: &[u8],
-    group: u64,
-    queue: LogQueue,
-) -> Result<Option<u64>, Cause>
-    requires { Wf xs.now bs.now }
-    ensures { by_cause result ≡ in_group group (λ t. Ok (min_file_seq queue t)) (context_of xs.now bs.now) }
+pub fn min_file_seq(area: &Area, group: u64, queue: LogQueue) -> Result<Option<u64>, Cause>
+    ensures { by_cause result ≡ in_group group (λ t. Ok (min_file_seq queue t)) area.now }
 {
-    let k = place_of(xs, group)?;
-    Ok(min_file_seq_at(xs, bs, k, queue))
+    let k = place_of(area.xs, group)?;
+    Ok(min_file_seq_at(area.xs, area.bs, k, queue))
 }

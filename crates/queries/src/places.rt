@@ -1,5 +1,6 @@
-// Where a group stands, and the parts of its stretch.
-ghost use Rattle.std.specs.Prelude.{List, ◌≡◌, ℕ, ◌≤◌, ◌<◌, length};
+// Where a group stands, and the parts of its stretch. What speaks of a stretch takes the slices, here and in the other modules, since a
+// clause sees of an `Area` the context alone.
+ghost use Rattle.std.specs.Prelude.{List, ◌≡◌, ℕ, ◌≤◌, ◌<◌, length, IfOk};
 ghost use Rattle.stretch.specs.Stretch.{head_part, entry_rows, key_count, key_rows};
 ghost use Rattle.groups.specs.Area.{stretch_at, bytes_at};
 ghost use Rattle.contexts.specs.Contexts.{Wf};
@@ -13,7 +14,8 @@ use stretch::{BYTES, ENTRIES_AT, KEY_COUNT, KEYS_AT, STRETCH};
 // The stretch where a group stands.
 pub fn place_of(xs: &[u64], group: u64) -> Result<usize, Cause>
     requires { 9376 ≤ length xs.now }
-    ensures { (bs : List ℕ) → Wf xs.now bs → Stands group xs.now bs result }
+    ensures stands { (bs : List ℕ) → Wf xs.now bs → Stands group xs.now bs result }
+    ensures inside { IfOk result (λ k. k < 8) }
 {
     let Slot::At(k) = groups::find(xs, group) else {
         return Err(Cause::GroupAbsent);

@@ -6,13 +6,13 @@ ghost use Rattle.pipe_log.specs.Rows.{window};
 ghost use Rattle.rules.specs.Causes.{Ok};
 ghost use Rattle.rules.specs.TableQueries.{fetch_entries_to, fetch_entry_indexes_before, fetch_rewritten_entry_indexes};
 ghost use Rattle.rules.specs.Queries.{in_group};
-ghost use Rattle.contexts.specs.Contexts.{context_of, Wf};
 ghost use Rattle.records.specs.Fetches.{query_of};
 ghost use Rattle.records.specs.Filling.{Fillable};
 ghost use Rattle.records.specs.Rows.{cells_of, rows_of, RowsFetched};
 
 use crate::planning::plan;
 use crate::{Fetch, Plan};
+use contexts::Area;
 use pipe_log::{Cause, ENTRY_WIDTH};
 
 // Lays the row of `xs` from place `from` on, with an index of its own, in from place `to` on.
@@ -45,65 +45,48 @@ fn fill_rows(xs: &[u64], plan: Plan, out: &mut [u64])
 }
 
 // Fetches a group's records into a lent list of rows.
-fn fetch_rows(
-    xs: &[u64],
-    bs: &[u8],
-    group: u64,
-    fetch: Fetch,
-    out: &mut [u64],
-) -> Result<usize, Cause>
-    requires { Wf xs.now bs.now }
-    ensures { RowsFetched (in_group group (query_of fetch) (context_of xs.now bs.now)) out.old result out.new }
+fn fetch_rows(area: &Area, group: u64, fetch: Fetch, out: &mut [u64]) -> Result<usize, Cause>
+    ensures { RowsFetched (in_group group (query_of fetch) area.now) out.old result out.new }
 {
-    let plan = plan(xs, bs, group, fetch, out.len() / ENTRY_WIDTH)?;
-    fill_rows(xs, plan, out);
+    let plan = plan(area.xs, area.bs, group, fetch, out.len() / ENTRY_WIDTH)?;
+    fill_rows(area.xs, plan, out);
     Ok(plan.count)
 }
 
 // Fetches a group's entries with indexes in [begin, end), up to a size.
 pub fn fetch_rows_to(
-    xs: &[u64],
-    bs: &[u8],
+    area: &Area,
     group: u64,
     begin: u64,
     end: u64,
     max_size: Option<u64>,
     out: &mut [u64],
 ) -> Result<usize, Cause>
-    requires { Wf xs.now bs.now }
-    ensures { RowsFetched (in_group group (fetch_entries_to begin end max_size) (context_of xs.now bs.now)) out.old result out.new }
+    ensures { RowsFetched (in_group group (fetch_entries_to begin end max_size) area.now) out.old result out.new }
 {
     let fetch = Fetch::EntriesTo {
         begin,
         end,
         max_size,
     };
-    fetch_rows(xs, bs, group, fetch, out)
+    fetch_rows(area, group, fetch, out)
 }
 
 // Fetches a group's Append entries from the front while their file is at most the gate.
 pub fn fetch_rows_before(
-    xs: &[u64],
-    bs: &[u8],
+    area: &Area,
     group: u64,
     gate: u64,
     out: &mut [u64],
 ) -> Result<usize, Cause>
-    requires { Wf xs.now bs.now }
-    ensures { RowsFetched (in_group group (λ t. Ok (fetch_entry_indexes_before gate t)) (context_of xs.now bs.now)) out.old result out.new }
+    ensures { RowsFetched (in_group group (λ t. Ok (fetch_entry_indexes_before gate t)) area.now) out.old result out.new }
 {
-    fetch_rows(xs, bs, group, Fetch::EntryIndexesBefore { gate }, out)
+    fetch_rows(area, group, Fetch::EntryIndexesBefore { gate }, out)
 }
 
 // Fetches all Rewrite entries of a group.
-pub fn fetch_rewritten_rows(
-    xs: &[u64],
-    bs: &[u8],
-    group: u64,
-    out: &mut [u64],
-) -> Result<usize, Cause>
-    requires { Wf xs.now bs.now }
-    ensures { RowsFetched (in_group group (λ t. Ok (fetch_rewritten_entry_indexes t)) (context_of xs.now bs.now)) out.old result out.new }
+pub fn fetch_rewritten_rows(area: &Area, group: u64, out: &mut [u64]) -> Result<usize, Cause>
+    ensures { RowsFetched (in_group group (λ t. Ok (fetch_rewritten_entry_indexes t)) area.now) out.old result out.new }
 {
-    fetch_rows(xs, bs, group, Fetch::RewrittenEntryIndexes, out)
+    fetch_rows(area, group, Fetch::RewrittenEntryIndexes, out)
 }

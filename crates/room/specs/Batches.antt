@@ -4,8 +4,10 @@ use Rattle.maps.specs.Lists.{select, sum}
 use Rattle.rules.specs.Items as rules
 use Rattle.rules.specs.Items.{is_mark}
 use Rattle.rules.specs.Context.{entries_in}
+use Rattle.log_batch.specs.declared.batch.LogBatch.{LogBatch}
 use Rattle.log_batch.specs.declared.item.LogItem.{LogItem}
 use Rattle.log_batch.specs.Lent.{item_of, item_at}
+use Rattle.log_batch.specs.Batch.{item_in}
 use Rattle.stores.specs.declared.Store.{Store}
 use Rattle.stores.specs.Written.{count_of, Lent}
 use Rattle.stores.specs.Stores.{Stored}
@@ -26,9 +28,9 @@ pub record Plain (xs es bs : List ℕ) (i : ℕ) (it : LogItem) : Type 0 where
   pub lent : Lent it (length es) (length bs)
   pub few : count_of it.content ≤ 32
 
-abbrev pub Unmarks : List ℕ → List ℕ → List ℕ → ℕ → Option LogItem → Type 0
-Unmarks xs es bs i None = is_mark (item_at es bs (drop (i * 9) xs)) ≡ true
-Unmarks xs es bs i (Some it) = Plain xs es bs i it
+abbrev pub Unmarks : LogBatch → ℕ → Option LogItem → Type 0
+Unmarks b i None = is_mark (item_in i b) ≡ true
+Unmarks b i (Some it) = Plain b.items.now b.entries.now b.bytes.now i it
 
 -- an item with the tag
 abbrev pub tag_with : ℕ → rules.LogItem → Tagged

@@ -1,9 +1,7 @@
 // The heads of parts: written with the counts of the store, and a newest part that leaves.
-ghost use Rattle.std.specs.Prelude.{List, ◌≡◌, ℕ, ◌+◌, ◌*◌, ◌≤◌, ◌<◌, length, get_or, None};
+ghost use Rattle.std.specs.Prelude.{List, ◌≡◌, ℕ, ◌+◌, ◌*◌, ◌≤◌, ◌<◌, length, get_or};
 ghost use Rattle.cells.specs.Part.{part};
-ghost use Rattle.rules.specs.Items.{replay_rewrite};
-ghost use Rattle.rules.specs.Checks.{checks};
-ghost use Rattle.log_batch.specs.Lent.{items_of};
+ghost use Rattle.log_batch.specs.Batch.{items_in};
 ghost use Rattle.stores.specs.Stores.{Stored};
 ghost use Rattle.room.specs.Rooms.{area_in, head_at, count_in};
 ghost use Rattle.room.specs.Layout.{store_of, room_of, RoomWf};
@@ -13,6 +11,7 @@ ghost use Rattle.room.specs.Parts.{left_head, Settled, WroteIn, TookPart};
 use crate::batches::push_batch;
 use crate::items::take_out;
 use crate::{HEAD_WIDTH, HEADS_AT, NEWEST_AT};
+use log_batch::RewriteReplay;
 use stores::Store;
 
 // The counts of the items of a room.
@@ -83,16 +82,13 @@ pub fn write_part(
     head: &[u64],
     store: Store,
     tag: u64,
-    items: &[u64],
-    entries: &[u64],
-    bytes: &[u8],
+    replay: &RewriteReplay,
 )
     requires ws_len { (length ws.old ≡ 2 + cells * 218) × (length vs.old ≡ cells * 512) × (k < cells) × (length head.now ≡ 10) }
     requires stored { Stored store (area_in (room_of cells ws.old vs.old)) }
-    requires bytes_value { checks replay_rewrite (items_of items.now entries.now bytes.now) ≡ None }
-    requires bytes_bound { (store.items + (counts_for (unmarked (items_of items.now entries.now bytes.now))).items ≤ cells * 8) × (store.entries + (counts_for (unmarked (items_of items.now entries.now bytes.now))).entries ≤ cells * 16) }
-    ensures { WroteIn k head.now tag (unmarked (items_of items.now entries.now bytes.now)) store (room_of cells ws.old vs.old) (store_of ws.new) (room_of cells ws.new vs.new) }
+    requires bound { (store.items + (counts_for (unmarked (items_in replay.now.batch))).items ≤ cells * 8) × (store.entries + (counts_for (unmarked (items_in replay.now.batch))).entries ≤ cells * 16) }
+    ensures { WroteIn k head.now tag (unmarked (items_in replay.now.batch)) store (room_of cells ws.old vs.old) (store_of ws.new) (room_of cells ws.new vs.new) }
 {
-    let all = push_batch(ws, vs, cells, store, tag, items, entries, bytes);
+    let all = push_batch(ws, vs, cells, store, tag, replay);
     settle(ws, cells, k, head, all);
 }

@@ -1,4 +1,5 @@
-// The items of a room with their tags: one is added, and a tag is taken out.
+// The items of a room with their tags: one is added, and a tag is taken out. `stores::parts` does so on four slices; a room is one slice of
+// numbers, and to take it apart into three at each step is no plainer.
 ghost use Rattle.std.specs.Prelude.{true, ◌≡◌, ◌+◌, ◌*◌, ◌/◌, ◌≤◌, ◌<◌, eqb, length, get_or, drop};
 ghost use Rattle.log_batch.specs.Lent.{row_count_of, opened_row, OpenedWithin, item_of};
 ghost use Rattle.stores.specs.Written.{count_of, Behind, Lent};
@@ -10,6 +11,7 @@ ghost use Rattle.room.specs.Items.{item_in, OpenedIn, AddedIn, MovedIn, KeepingI
 
 use crate::places::{copy_rows, move_rows, write_row};
 use crate::{ENTRIES, ENTRIES_FROM, HEADS_AT, ITEMS, ITEMS_FROM, TAGS_FROM};
+use log_batch::LogBatch;
 use log_batch::item::LogItem;
 use log_batch::open::{Unopened, open_item};
 use stores::Store;
@@ -52,7 +54,12 @@ pub fn open_in(ws: &[u64], vs: &[u8], cells: usize, j: usize) -> Result<LogItem,
     let e = a + cells * ITEMS;
     let b = HEADS_AT + cells * ENTRIES_FROM;
     let f = b + cells * ENTRIES;
-    open_item(&ws[a..e], &ws[b..f], vs, j)
+    let parts = LogBatch {
+        items: &ws[a..e],
+        entries: &ws[b..f],
+        bytes: vs,
+    };
+    open_item(&parts, j)
 }
 
 // Moves an item of the room down behind fewer items.

@@ -1,5 +1,6 @@
 // The room in which the parts of Rewrite replay wait: cells of part heads, and one store of their items. A room has any number of
-// cells; it stands in one slice of numbers and one of bytes.
+// cells; it stands in one slice of numbers and one of bytes. What writes it is passed both: a struct that holds `&mut`s is no plainer
+// (`kvs::Keys` says why).
 #![tactic(auto)]
 
 mod batches;
@@ -37,7 +38,8 @@ pub const NEWEST_AT: usize = 2;
 
 pub const OLDER_AT: usize = 6;
 
-// Where the parts of a room of n cells stand: each at a place and so many numbers a cell. The counts stand before the cells.
+// Where the parts of a room of n cells stand: each at a place and so many numbers a cell. The counts stand before the cells: there is no
+// heap and C lends the area, so a room has fixed rows and counts those in use.
 pub const HEADS_AT: usize = 2;
 
 pub const TAGS_FROM: usize = HEAD_WIDTH;

@@ -3,6 +3,8 @@ ghost use Rattle.std.specs.Prelude.{◌≤◌, length};
 ghost use Rattle.contexts.specs.Contexts.{Wf};
 
 use crate::writing::write;
+use contexts::Area;
+use index::LogBatch;
 use scripts::{HEAD, LISTED, Row, ask, is_listed, is_told, told_answer, told_count};
 
 // `take_cleaned_region_logs`, with room for so many numbers.
@@ -41,13 +43,18 @@ fn make(row: Row, xs: &mut [u64], bs: &mut [u8], numbers: &[u64], bytes: &[u8]) 
     if row.what < 6 {
         let items = between(numbers, HEAD, row.items as usize);
         let entries = between(numbers, row.items as usize, row.entries as usize);
-        let answer = write(row, xs, bs, items, entries, bytes);
+        let batch = LogBatch {
+            items,
+            entries,
+            bytes,
+        };
+        let answer = write(row, xs, bs, &batch);
         return is_told(told_answer(answer), numbers, row.bytes as usize);
     }
     let want = between(numbers, row.bytes as usize, numbers.len());
     match row.what {
         9 => cleaned(row, xs, bs, want),
-        _ => ask(row, xs, bs, bytes, want),
+        _ => ask(row, &Area { xs, bs }, bytes, want),
     }
 }
 

@@ -5,7 +5,7 @@ ghost use Rattle.script_areas.specs.Areas.{Areas};
 
 use crate::calls::call;
 use crate::writing::unite;
-use index::{BYTES, NUMBERS};
+use index::{Area, BYTES, NUMBERS};
 use pipe_log::{LogQueue, Refusal};
 use scripts::{Row, is_told, row_of, told_answer};
 
@@ -55,16 +55,9 @@ fn copy_area(xs: &[u64], bs: &[u8], k: usize, ys: &mut [u64], cs: &mut [u8])
 }
 
 // Merges another context into that of area k, or joins it.
-fn unite_at(
-    k: usize,
-    what: u64,
-    xs: &mut [u64],
-    bs: &mut [u8],
-    ys: &[u64],
-    cs: &[u8],
-) -> Result<(), Refusal>
+fn unite_at(k: usize, what: u64, xs: &mut [u64], bs: &mut [u8], newer: &Area) -> Result<(), Refusal>
     requires k_bound { k < 8 }
-    requires areas { Areas 8 xs.old bs.old × Wf ys.now cs.now }
+    requires areas { Areas 8 xs.old bs.old }
     ensures { Areas 8 xs.new bs.new }
 {
     let number = k * NUMBERS;
@@ -73,8 +66,7 @@ fn unite_at(
         what,
         &mut xs[number..number + NUMBERS],
         &mut bs[byte..byte + BYTES],
-        ys,
-        cs,
+        newer,
     )
 }
 
@@ -93,7 +85,7 @@ fn unite_areas(
     let mut ys = [0; NUMBERS];
     let mut cs = [0; BYTES];
     copy_area(xs, bs, other, &mut ys, &mut cs);
-    unite_at(k, what, xs, bs, &ys, &cs)
+    unite_at(k, what, xs, bs, &Area { xs: &ys, bs: &cs })
 }
 
 // Makes the call of a row on area k.

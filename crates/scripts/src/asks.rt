@@ -1,10 +1,10 @@
 // Arguments and queries that a row names.
 ghost use Rattle.rules.specs.Causes.{by_cause};
 ghost use Rattle.std.specs.Prelude.{◌≡◌};
-ghost use Rattle.contexts.specs.Contexts.{context_of, Wf};
 ghost use Rattle.scripts.specs.Arguments.{option_as, fetch_as, number_asked, count_asked};
 
 use crate::row::Row;
+use contexts::Area;
 use pipe_log::{Cause, LogQueue};
 use records::Fetch;
 
@@ -16,26 +16,24 @@ pub fn option_of(given: u64, number: u64) -> Option<u64>
 }
 
 // Numbers of a group: 10 first_index, 11 last_index, otherwise min_file_seq.
-pub fn number(row: Row, xs: &[u64], bs: &[u8]) -> Result<Option<u64>, Cause>
-    requires { Wf xs.now bs.now }
-    ensures { by_cause result ≡ number_asked row (context_of xs.now bs.now) }
+pub fn number(row: Row, area: &Area) -> Result<Option<u64>, Cause>
+    ensures { by_cause result ≡ number_asked row area.now }
 {
     match row.what {
-        10 => index::first_index(xs, bs, row.group),
-        11 => index::last_index(xs, bs, row.group),
-        _ => index::min_file_seq(xs, bs, row.group, LogQueue::from(row.a)),
+        10 => index::first_index(area, row.group),
+        11 => index::last_index(area, row.group),
+        _ => index::min_file_seq(area, row.group, LogQueue::from(row.a)),
     }
 }
 
 // Counts of a group: 20 entry_count, 21 rewrite_count, otherwise key_count.
-pub fn count(row: Row, xs: &[u64], bs: &[u8]) -> Result<usize, Cause>
-    requires { Wf xs.now bs.now }
-    ensures { by_cause result ≡ count_asked row (context_of xs.now bs.now) }
+pub fn count(row: Row, area: &Area) -> Result<usize, Cause>
+    ensures { by_cause result ≡ count_asked row area.now }
 {
     match row.what {
-        20 => index::entry_count(xs, bs, row.group),
-        21 => index::rewrite_count(xs, bs, row.group),
-        _ => index::key_count(xs, bs, row.group),
+        20 => index::entry_count(area, row.group),
+        21 => index::rewrite_count(area, row.group),
+        _ => index::key_count(area, row.group),
     }
 }
 

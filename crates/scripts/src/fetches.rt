@@ -1,13 +1,13 @@
 // The fetches of entry records, in each form: into parallel slices, into a list of rows, and into a list of records. The records are stored
 // twice: field by field as the slices have them, and then row by row.
 ghost use Rattle.std.specs.Prelude.{◌≤◌, length};
-ghost use Rattle.contexts.specs.Contexts.{Wf};
 ghost use Rattle.scripts.specs.Agreement.{Stored};
 
 use crate::asks::fetch_of;
 use crate::compare::{ROWS, is_told, numbers_are, record_is};
 use crate::row::Row;
 use crate::told::told_count;
+use contexts::Area;
 use pipe_log::{Cause, CompressionType, ENTRY_WIDTH, EntryIndex};
 use records::Fetch;
 use stretch::MAX_ENTRIES;
@@ -33,9 +33,7 @@ fn columns_are(told: [u64; 3], columns: &[[u64; MAX_ENTRIES]; ENTRY_WIDTH], want
 }
 
 // Whether a fetch into slices, one for each number in the row of a record, is answered as stored.
-fn in_slices(row: Row, xs: &[u64], bs: &[u8], want: &[u64]) -> bool
-    requires { Wf xs.now bs.now }
-{
+fn in_slices(row: Row, area: &Area, want: &[u64]) -> bool {
     let [
         mut index,
         mut queue,
@@ -52,8 +50,7 @@ fn in_slices(row: Row, xs: &[u64], bs: &[u8], want: &[u64]) -> bool
             end,
             max_size,
         } => index::fetch_entries_to(
-            xs,
-            bs,
+            area,
             row.group,
             begin,
             end,
@@ -68,8 +65,7 @@ fn in_slices(row: Row, xs: &[u64], bs: &[u8], want: &[u64]) -> bool
             &mut entry_len,
         ),
         Fetch::EntryIndexesBefore { gate } => index::fetch_entry_indexes_before(
-            xs,
-            bs,
+            area,
             row.group,
             gate,
             &mut index,
@@ -82,8 +78,7 @@ fn in_slices(row: Row, xs: &[u64], bs: &[u8], want: &[u64]) -> bool
             &mut entry_len,
         ),
         Fetch::RewrittenEntryIndexes => index::fetch_rewritten_entry_indexes(
-            xs,
-            bs,
+            area,
             row.group,
             &mut index,
             &mut queue,
@@ -109,28 +104,25 @@ fn in_slices(row: Row, xs: &[u64], bs: &[u8], want: &[u64]) -> bool
 }
 
 // The fetch into a list of rows that a row of the script names.
-fn fetch_rows(row: Row, xs: &[u64], bs: &[u8], out: &mut [u64]) -> Result<usize, Cause>
-    requires { Wf xs.now bs.now }
-{
+fn fetch_rows(row: Row, area: &Area, out: &mut [u64]) -> Result<usize, Cause> {
     let group = row.group;
     match fetch_of(row) {
         Fetch::EntriesTo {
             begin,
             end,
             max_size,
-        } => index::fetch_rows_to(xs, bs, group, begin, end, max_size, out),
-        Fetch::EntryIndexesBefore { gate } => index::fetch_rows_before(xs, bs, group, gate, out),
-        Fetch::RewrittenEntryIndexes => index::fetch_rewritten_rows(xs, bs, group, out),
+        } => index::fetch_rows_to(area, group, begin, end, max_size, out),
+        Fetch::EntryIndexesBefore { gate } => index::fetch_rows_before(area, group, gate, out),
+        Fetch::RewrittenEntryIndexes => index::fetch_rewritten_rows(area, group, out),
     }
 }
 
 // Whether a fetch into a list of rows is answered as stored.
-fn in_rows(row: Row, xs: &[u64], bs: &[u8], want: &[u64]) -> bool
-    requires { Wf xs.now bs.now }
+fn in_rows(row: Row, area: &Area, want: &[u64]) -> bool
     ensures { Stored want.now result }
 {
     let mut list = [0; ROW_NUMBERS];
-    let told = told_count(fetch_rows(row, xs, bs, &mut list));
+    let told = told_count(fetch_rows(row, area, &mut list));
     if !is_told(told, want, 0) {
         return false;
     }
@@ -155,8 +147,7 @@ fn records_are(list: &[EntryIndex], want: &[u64]) -> bool
 }
 
 // Whether a fetch into a list of records is answered as stored.
-fn in_records(row: Row, xs: &[u64], bs: &[u8], want: &[u64]) -> bool
-    requires { Wf xs.now bs.now }
+fn in_records(row: Row, area: &Area, want: &[u64]) -> bool
     ensures { Stored want.now result }
 {
     let empty = EntryIndex {
@@ -167,7 +158,7 @@ fn in_records(row: Row, xs: &[u64], bs: &[u8], want: &[u64]) -> bool
         entry_len: 0,
     };
     let list = [empty; MAX_ENTRIES];
-    let answer = records::fetch_listed(xs, bs, row.group, fetch_of(row), list);
+    let answer = records::fetch_listed(area, row.group, fetch_of(row), list);
     if !is_told(told_count(answer.map(|listed| listed.count)), want, 0) {
         return false;
     }
@@ -181,9 +172,8 @@ fn in_records(row: Row, xs: &[u64], bs: &[u8], want: &[u64]) -> bool
 }
 
 // Whether a fetch is answered as stored in each form.
-pub fn entries(row: Row, xs: &[u64], bs: &[u8], want: &[u64]) -> bool
-    requires { Wf xs.now bs.now }
+pub fn entries(row: Row, area: &Area, want: &[u64]) -> bool
     ensures { Stored want.now result }
 {
-    in_slices(row, xs, bs, want) && in_rows(row, xs, bs, want) && in_records(row, xs, bs, want)
+    in_slices(row, area, want) && in_rows(row, area, want) && in_records(row, area, want)
 }

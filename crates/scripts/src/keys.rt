@@ -1,10 +1,10 @@
 // The queries of keys into lent lists: two numbers a row for the lengths, and 64 bytes a row.
-ghost use Rattle.contexts.specs.Contexts.{Wf};
 ghost use Rattle.scripts.specs.Agreement.{Stored};
 
 use crate::compare::{ROWS, bytes_are, is_told, numbers_are};
 use crate::row::Row;
 use crate::told::told_count;
+use contexts::Area;
 use kvs::rows::{LENS_WIDTH, ROW_BYTES};
 use pipe_log::Cause;
 use stretch::MAX_KEYS;
@@ -17,20 +17,16 @@ const ALL_BYTES: usize = MAX_KEYS * ROW_BYTES;
 // A scan whose start is the first bytes of a list, and whose end the rest.
 fn scan(
     row: Row,
-    xs: &[u64],
-    bs: &[u8],
+    area: &Area,
     bytes: &[u8],
     lens: &mut [u64],
     out: &mut [u8],
-) -> Result<usize, Cause>
-    requires { Wf xs.now bs.now }
-{
+) -> Result<usize, Cause> {
     let Some((start, end)) = bytes.split_at_checked(row.b as usize) else {
         return Err(Cause::BadRange);
     };
     index::scan(
-        xs,
-        bs,
+        area,
         row.group,
         (row.a == 1).then_some(start),
         (row.c == 1).then_some(end),
@@ -44,18 +40,15 @@ fn scan(
 // 40 scan, 41 fetch_kvs_before, otherwise fetch_rewritten_kvs.
 fn fetch(
     row: Row,
-    xs: &[u64],
-    bs: &[u8],
+    area: &Area,
     bytes: &[u8],
     lens: &mut [u64],
     out: &mut [u8],
-) -> Result<usize, Cause>
-    requires { Wf xs.now bs.now }
-{
+) -> Result<usize, Cause> {
     match row.what {
-        40 => scan(row, xs, bs, bytes, lens, out),
-        41 => index::fetch_kvs_before(xs, bs, row.group, row.a, lens, out),
-        _ => index::fetch_rewritten_kvs(xs, bs, row.group, lens, out),
+        40 => scan(row, area, bytes, lens, out),
+        41 => index::fetch_kvs_before(area, row.group, row.a, lens, out),
+        _ => index::fetch_rewritten_kvs(area, row.group, lens, out),
     }
 }
 
@@ -73,8 +66,7 @@ fn keys_are(told: [u64; 3], lens: &[u64; ALL_LENS], out: &[u8; ALL_BYTES], want:
 }
 
 // Whether a query of keys is answered as stored, with room for so many rows.
-pub fn keys(row: Row, xs: &[u64], bs: &[u8], bytes: &[u8], want: &[u64]) -> bool
-    requires { Wf xs.now bs.now }
+pub fn keys(row: Row, area: &Area, bytes: &[u8], want: &[u64]) -> bool
     ensures { Stored want.now result }
 {
     let room = row.room as usize;
@@ -85,8 +77,7 @@ pub fn keys(row: Row, xs: &[u64], bs: &[u8], bytes: &[u8], want: &[u64]) -> bool
     let mut out = [0; ALL_BYTES];
     let answer = fetch(
         row,
-        xs,
-        bs,
+        area,
         bytes,
         &mut lens[..room * LENS_WIDTH],
         &mut out[..room * ROW_BYTES],

@@ -16,8 +16,8 @@ use Rattle.groups.specs.Undo.{live_numbers, mark_at}
 use Rattle.groups.specs.UndoLaws.{mark-is}
 use Rattle.staging.specs.Staging.{Begun, sealed_mark, Sealed}
 
-pub begun-none : (xs : List ℕ) → Begun 0 xs xs
-begun-none xs = record { marks = λ k l. absurd (omega arith); live = refl; behind = refl; length-is = refl }
+pub begun_none : (xs : List ℕ) → Begun 0 xs xs
+begun_none xs = record { marks = λ k l. absurd (omega arith); live = refl; behind = refl; length-is = refl }
 
 pub begun_more : (n : ℕ) (xs xs' : List ℕ) → numbers_in_use ≤ length xs → n < slots → Begun n xs xs' → Begun (n + 1) xs (set xs' ((slots + n) * stretch_width) 0)
 unfolding mark_at
@@ -36,8 +36,8 @@ begun_more n xs xs' p l b =
 
 -- ---- the marks of what is staged
 
-pub sealed-none : (xs : List ℕ) → Sealed 0 xs xs
-sealed-none xs =
+pub sealed_none : (xs : List ℕ) → Sealed 0 xs xs
+sealed_none xs =
     record { sealed = λ k l. absurd (omega arith); still = λ k a l. refl; live = refl; behind = refl; length-is = refl }
 
 module _ (n : ℕ) (xs xs' : List ℕ) (p : numbers_in_use ≤ length xs) (l : n < slots) (s : Sealed n xs xs') where
@@ -62,8 +62,8 @@ module _ (n : ℕ) (xs xs' : List ℕ) (p : numbers_in_use ≤ length xs) (l : n
   unfolding stretch_at
   sealed-after k h = part-set-before ((slots + k) * stretch_width) stretch_width xs' ((slots + n) * stretch_width) _ (omega arith)
 
-  pub sealed-more : Sealed (n + 1) xs with
-  sealed-more =
+  pub sealed_more : Sealed (n + 1) xs with
+  sealed_more =
       record {
         sealed =
             λ k h.

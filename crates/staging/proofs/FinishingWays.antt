@@ -149,9 +149,9 @@ module _ (e : Ending) (xs ys : List ℕ) (r : Bool) where
   newer-items cs = items_with e.newer (tagged (waiting_numbers ys) (waiting_bytes cs))
 
   -- what is lent of the rooms' numbers is their part
-  pub any-front : (h : Bool) → h ≡ true → ((vs : List ℕ) → RoomWf 16 (take 3490 (drop 10019 xs)) vs → h ≡ has_items (items_with e.older (tagged (take 3490 (drop 10019 xs)) vs))) → (bs cs : List ℕ) → RoomWf 16 (waiting_numbers xs) (waiting_bytes bs) → RoomWf 16 (waiting_numbers ys) (waiting_bytes cs) → h ≡ has_items (ending_items e xs bs ys cs)
+  pub any_front : (h : Bool) → h ≡ true → ((vs : List ℕ) → RoomWf 16 (take 3490 (drop 10019 xs)) vs → h ≡ has_items (items_with e.older (tagged (take 3490 (drop 10019 xs)) vs))) → (bs cs : List ℕ) → RoomWf 16 (waiting_numbers xs) (waiting_bytes bs) → RoomWf 16 (waiting_numbers ys) (waiting_bytes cs) → h ≡ has_items (ending_items e xs bs ys cs)
   unfolding ending_items
-  any-front h e f bs cs w v = e ∙ sym (has-front (older-items bs) (newer-items cs) (sym ((rw (part-is 10019 3490 xs) at f) (waiting_bytes bs) w) ∙ e))
+  any_front h e f bs cs w v = e ∙ sym (has-front (older-items bs) (newer-items cs) (sym ((rw (part-is 10019 3490 xs) at f) (waiting_bytes bs) w) ∙ e))
 
   pub any_back : (h : Bool) → h ≡ false → ((vs : List ℕ) → RoomWf 16 (take 3490 (drop 10019 xs)) vs → h ≡ has_items (items_with e.older (tagged (take 3490 (drop 10019 xs)) vs))) → ((vs : List ℕ) → RoomWf 16 (take 3490 (drop 10019 ys)) vs → r ≡ has_items (items_with e.newer (tagged (take 3490 (drop 10019 ys)) vs))) → (bs cs : List ℕ) → RoomWf 16 (waiting_numbers xs) (waiting_bytes bs) → RoomWf 16 (waiting_numbers ys) (waiting_bytes cs) → r ≡ has_items (ending_items e xs bs ys cs)
   unfolding ending_items

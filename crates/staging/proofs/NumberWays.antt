@@ -37,6 +37,6 @@ module _ (xs ys : List ℕ) (i : ℕ) (r : Option ℕ) where
   unfolding number_at
   of_tombstone h l e = rw (le-ltb i 8 (omega arith), le-ltb i 16 h, lt-ltb i 80 l) (rw (part_to_end ys 9376) at e)
 
-  pub of-waiting : 80 ≤ i → numbers_of r ≡ waiting_number (i - 80) (take 3490 (drop 10019 ys)) → numbers_of r ≡ number_at xs ys i
+  pub of_waiting : 80 ≤ i → numbers_of r ≡ waiting_number (i - 80) (take 3490 (drop 10019 ys)) → numbers_of r ≡ number_at xs ys i
   unfolding number_at
-  of-waiting h e = rw (le-ltb i 8 (omega arith), le-ltb i 16 (omega arith), le-ltb i 80 h) (rw (part-is 10019 3490 ys) at e)
+  of_waiting h e = rw (le-ltb i 8 (omega arith), le-ltb i 16 (omega arith), le-ltb i 80 h) (rw (part-is 10019 3490 ys) at e)

@@ -115,8 +115,8 @@ module _ (it : LogItem) (es bs : List ℕ) (o : Option Table) (l : Lent it (leng
   pub replayed-taken : Taken its (rows_in it.content es) (key_in it.content bs) (value_in it.content bs) o
   replayed-taken = record { ready = says.ready; taken = gives ∙ ap Ok (sym gives_left); room = rw gives_left room }
 
-  pub replayed-becomes : (p b : List ℕ) → Becomes (left o (deed_to its (rows_in it.content es) (key_in it.content bs) (value_in it.content bs) o)) p b → Becomes (replayed what o) p b
-  replayed-becomes p b k = record { is = k.is ∙ gives_left; wf = k.wf }
+  pub replayed_becomes : (p b : List ℕ) → Becomes (left o (deed_to its (rows_in it.content es) (key_in it.content bs) (value_in it.content bs) o)) p b → Becomes (replayed what o) p b
+  replayed_becomes p b k = record { is = k.is ∙ gives_left; wf = k.wf }
 
 -- ---- one after the other
 
@@ -161,11 +161,11 @@ module _ (x : rules.LogItem) (xs : List rules.LogItem) (o : Option Table) (r : R
       }
 
 -- none is replayed yet
-pub replaying-none : (xs : List rules.LogItem) (p b : List ℕ) → Wf p b → Replayable xs (work_in p b) → Replaying xs (work_in p b) xs p b
-replaying-none xs p b w r = record { whole = refl; ready = r; wf = w }
+pub replaying_none : (xs : List rules.LogItem) (p b : List ℕ) → Wf p b → Replayable xs (work_in p b) → Replaying xs (work_in p b) xs p b
+replaying_none xs p b w r = record { whole = refl; ready = r; wf = w }
 
-pub replaying-then : (xs : List rules.LogItem) (o : Option Table) (rest more : List rules.LogItem) (p b p' b' : List ℕ) → Replaying xs o rest p b → Replaying rest (work_in p b) more p' b' → Replaying xs o more p' b'
-replaying-then xs o rest more p b p' b' k n = record { whole = n.whole ∙ k.whole; ready = n.ready; wf = n.wf }
+pub replaying_then : (xs : List rules.LogItem) (o : Option Table) (rest more : List rules.LogItem) (p b p' b' : List ℕ) → Replaying xs o rest p b → Replaying rest (work_in p b) more p' b' → Replaying xs o more p' b'
+replaying_then xs o rest more p b p' b' k n = record { whole = n.whole ∙ k.whole; ready = n.ready; wf = n.wf }
 
 pub replaying_all : (xs : List rules.LogItem) (o : Option Table) (rest : List rules.LogItem) (p b : List ℕ) → rest ≡ [] → Replaying xs o rest p b → Becomes (replayed_items xs o) p b
 unfolding replayed_items
@@ -175,7 +175,7 @@ replaying_all xs o rest p b e k = record { is = rw e at k.whole; wf = k.wf }
 
 module _ (s : Store) (a : Area) (ts : List ℕ) (v : Stored s a) (n : s.items ≤ length ts) (t j : ℕ) (l : j < s.items) (p b : List ℕ) (r : Replayable (items_with t (drop j (store_tagged s a ts))) (work_in p b)) where
   pub other-replayed : (get_or ts j 0 ≡ t → ⊥) → Wf p b → Replaying (items_with t (drop j (store_tagged s a ts))) (work_in p b) (items_with t (drop (j + 1) (store_tagged s a ts))) p b
-  other-replayed e w = rw (← past_is s a ts v n t j l an_item e) (replaying-none (items_with t (drop j (store_tagged s a ts))) p b w r)
+  other-replayed e w = rw (← past_is s a ts v n t j l an_item e) (replaying_none (items_with t (drop j (store_tagged s a ts))) p b w r)
 
   module _ (it : LogItem) (at : ItemAt s a j it) (e : get_or ts j 0 ≡ t) where
     pub at_replayable : Replayable (item_of it a.entries a.bytes ∷ []) (work_in p b)
@@ -188,5 +188,5 @@ module _ (s : Store) (a : Area) (ts : List ℕ) (v : Stored s a) (n : s.items �
     at-replayed p' b' k =
         rw (here-is s a ts v n t j l an_item it at e) (one-replayed _ _ _ (rw (here-is s a ts v n t j l an_item it at e) at r) p' b' k)
 
-pub all-replayed : (s : Store) (a : Area) (ts : List ℕ) → Stored s a → s.items ≤ length ts → (t j : ℕ) (o : Option Table) (p b : List ℕ) → s.items ≤ j → Replaying (items_with t (store_tagged s a ts)) o (items_with t (drop j (store_tagged s a ts))) p b → Becomes (replayed_items (items_with t (store_tagged s a ts)) o) p b
-all-replayed s a ts v n t j o p b h k = replaying_all _ o _ p b (end_is s a ts v n t j an_item h) k
+pub all_replayed : (s : Store) (a : Area) (ts : List ℕ) → Stored s a → s.items ≤ length ts → (t j : ℕ) (o : Option Table) (p b : List ℕ) → s.items ≤ j → Replaying (items_with t (store_tagged s a ts)) o (items_with t (drop j (store_tagged s a ts))) p b → Becomes (replayed_items (items_with t (store_tagged s a ts)) o) p b
+all_replayed s a ts v n t j o p b h k = replaying_all _ o _ p b (end_is s a ts v n t j an_item h) k

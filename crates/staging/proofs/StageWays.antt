@@ -15,7 +15,7 @@ use Rattle.rules.specs.Causes.{ByCause, Result, Ok, Err}
 use Rattle.rules.specs.Table.{Table, made}
 use Rattle.rules.specs.Context.{table_fits}
 use Rattle.stretch.specs.Stretch.{is_used, table_at}
-use Rattle.groups.specs.declared.Slot.TheVariants.{At, Free, Full}
+use Rattle.cells.specs.declared.Slot.TheVariants.{At, Free, Full}
 use Rattle.groups.specs.Area.{slots, Found, FreeSlot}
 use Rattle.groups.specs.Laws.{found-free, found-full, Absent}
 use Rattle.worktable.specs.Work.{long_keys_at, work_in}
@@ -32,7 +32,7 @@ use Rattle.contexts.specs.Contexts.{context_of}
 use Rattle.contexts.specs.Contexts as areas
 use Rattle.contexts.specs.AreaLaws.{formed_of, area-length, area-bytes}
 use Rattle.worktable.specs.declared.Mode.{Mode}
-use Rattle.groups.specs.declared.Slot.{Slot}
+use Rattle.cells.specs.declared.Slot.{Slot}
 use Rattle.staging.proofs.Settling.{settled-none, settled-clashed, settled-large, settled-full, settled-put}
 use Rattle.staging.proofs.WorkWays.{long-is}
 
@@ -53,11 +53,11 @@ not-staged g xs (Free k) f n = f.absent
 not-staged g xs Full f n = f.absent
 
 -- the area's long stretch, as it is lent
-pub long-inside : (xs : List ℕ) → length xs ≡ 17231 → 13509 ≤ length xs
-long-inside xs n = omega arith
+pub long_inside : (xs : List ℕ) → length xs ≡ 17231 → 13509 ≤ length xs
+long_inside xs n = omega arith
 
-pub lent-head : (xs : List ℕ) → length xs ≡ 17231 → 10 ≤ length (take (length xs - 13509) (drop 13509 xs))
-lent-head xs n = rw (part_to_end xs 13509, length-drop 13509 xs) (omega arith)
+pub lent_head : (xs : List ℕ) → length xs ≡ 17231 → 10 ≤ length (take (length xs - 13509) (drop 13509 xs))
+lent_head xs n = rw (part_to_end xs 13509, length-drop 13509 xs) (omega arith)
 
 pub lent-used : (xs : List ℕ) (b : _) → b ≡ is_used (take (length xs - 13509) (drop 13509 xs)) → b ≡ is_used (drop 13509 xs)
 lent-used xs b e = rw (part_to_end xs 13509) at e

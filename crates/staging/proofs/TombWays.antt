@@ -59,11 +59,11 @@ module _ (g : ℕ) (it : LogItem) (es bs : List ℕ) (o : Option Table) where
           room = rw gives (within_more 320 144 384 160 (effected (content_of it.content es bs) o) (omega arith) (omega arith) (tomb-room 320 144 o w (content_of it.content es bs)));
         }
 
-    pub buried-becomes : it.raft_group_id ≡ g → (p b : List ℕ) → Becomes (left o (deed_to its (rows_in it.content es) (key_in it.content bs) (value_in it.content bs) o)) p b → Becomes (buried g (item_of it es bs) o) p b
-    buried-becomes e p b k = record { is = k.is ∙ gives ∙ sym (buried-own e); wf = k.wf }
+    pub buried_becomes : it.raft_group_id ≡ g → (p b : List ℕ) → Becomes (left o (deed_to its (rows_in it.content es) (key_in it.content bs) (value_in it.content bs) o)) p b → Becomes (buried g (item_of it es bs) o) p b
+    buried_becomes e p b k = record { is = k.is ∙ gives ∙ sym (buried-own e); wf = k.wf }
 
-pub buried-stays : (g : ℕ) (it : LogItem) (es bs p b : List ℕ) → (it.raft_group_id ≡ g → ⊥) → Wf p b → Becomes (buried g (item_of it es bs) (work_in p b)) p b
-buried-stays g it es bs p b n w = record { is = sym (buried-other g it es bs (work_in p b) n); wf = w }
+pub buried_stays : (g : ℕ) (it : LogItem) (es bs p b : List ℕ) → (it.raft_group_id ≡ g → ⊥) → Wf p b → Becomes (buried g (item_of it es bs) (work_in p b)) p b
+buried_stays g it es bs p b n w = record { is = sym (buried-other g it es bs (work_in p b) n); wf = w }
 
 -- ---- one after the other
 
@@ -73,8 +73,8 @@ pub record Buried (g : ℕ) (a : Area) (o : Option Table) (j : ℕ) (p b : List 
   pub room : Within 320 144 o
 
 module _ (g : ℕ) (s : Store) (a : Area) (p₀ b₀ : List ℕ) where
-  pub buried-none : Wf p₀ b₀ → Within 320 144 (work_in p₀ b₀) → Buried g a (work_in p₀ b₀) 0 p₀ b₀
-  buried-none w r =
+  pub buried_none : Wf p₀ b₀ → Within 320 144 (work_in p₀ b₀) → Buried g a (work_in p₀ b₀) 0 p₀ b₀
+  buried_none w r =
       record {
         becomes = record { is = sym (ap (λ l. tombed g l (work_in p₀ b₀)) (first-none a) ∙ tombed-none g (work_in p₀ b₀)); wf = w };
         room = r;

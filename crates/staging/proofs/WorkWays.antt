@@ -23,8 +23,8 @@ use Rattle.stores.specs.declared.Store.{Store}
 use Rattle.stores.specs.Stores.{Area, area, store_items, Stored}
 use Rattle.stretch.specs.Layout.{stretch_width, bytes_width}
 use Rattle.stretch.specs.Stretch.{table_in}
-use Rattle.groups.specs.declared.Slot.{Slot}
-use Rattle.groups.specs.declared.Slot.TheVariants.{At, Free, Full}
+use Rattle.cells.specs.declared.Slot.{Slot}
+use Rattle.cells.specs.declared.Slot.TheVariants.{At, Free, Full}
 use Rattle.groups.specs.Area.{stretch_at, bytes_at, groups_of, Found}
 use Rattle.groups.specs.Laws.{found_at_lem, found-free, found-full, lookup-found, lookup-free, lookup-full}
 use Rattle.lists.specs.Rest.{tombstone_store, tombstone_area, tombstones_in, rest_of}
@@ -51,8 +51,8 @@ length_back a d s h e = ap length (loan-put a (length d - a) d s e) ∙ length-p
 pub long-bytes_back : (bs b : List ℕ) → length bs ≡ 38912 → length b ≡ 10240 → length (put_mid 28672 (length bs - 28672) bs b) ≡ length bs
 long-bytes_back bs b m l = length_back 28672 bs b (omega arith) (omega arith)
 
-pub long-bytes-length : (bs : List ℕ) → length bs ≡ 38912 → length (drop 28672 bs) ≡ 10240
-long-bytes-length bs m = omega (arith, length-drop 28672 bs)
+pub long_bytes_length : (bs : List ℕ) → length bs ≡ 38912 → length (drop 28672 bs) ≡ 10240
+long_bytes_length bs m = omega (arith, length-drop 28672 bs)
 
 module _ (xs : List ℕ) (p : List ℕ) (n : length xs ≡ 17231) (k : length p ≡ 3722) where
   pub long-front : take long_numbers (put_mid 13509 (length xs - 13509) xs p) ≡ take long_numbers xs
@@ -64,10 +64,10 @@ module _ (xs : List ℕ) (p : List ℕ) (n : length xs ≡ 17231) (k : length p 
   pub long-length : length (put_mid 13509 (length xs - 13509) xs p) ≡ length xs
   long-length = length_back 13509 xs p (omega arith) (omega arith)
 
-  pub cleared-loaded : (bs : List ℕ) → length bs ≡ 38912 → ((b : List ℕ) → length b ≡ 10240 → Becomes None p b) → Loaded None xs bs (put_mid 13509 (length xs - 13509) xs p) bs
-  cleared-loaded bs m f =
+  pub cleared_loaded : (bs : List ℕ) → length bs ≡ 38912 → ((b : List ℕ) → length b ≡ 10240 → Becomes None p b) → Loaded None xs bs (put_mid 13509 (length xs - 13509) xs p) bs
+  cleared_loaded bs m f =
       record {
-        becomes = rw long_back (f (drop long_bytes bs) (long-bytes-length bs m));
+        becomes = rw long_back (f (drop long_bytes bs) (long_bytes_length bs m));
         working = record { front = long-front; front_bytes = refl; numbers-length = long-length; bytes-length = refl };
       }
 
@@ -144,13 +144,13 @@ module _ (ys cs : List ℕ) where
 -- ---- the newer table
 
 -- stretch k and its bytes, as they are lent
-pub lent-stretch : (k : ℕ) (ys : List ℕ) → take ((k + 1) * stretch_width - k * stretch_width) (drop (k * stretch_width) ys) ≡ stretch_at k ys
+pub lent_stretch : (k : ℕ) (ys : List ℕ) → take ((k + 1) * stretch_width - k * stretch_width) (drop (k * stretch_width) ys) ≡ stretch_at k ys
 unfolding stretch_at part
-lent-stretch k ys = let e : (k + 1) * stretch_width - k * stretch_width ≡ stretch_width = omega arith in rw e
+lent_stretch k ys = let e : (k + 1) * stretch_width - k * stretch_width ≡ stretch_width = omega arith in rw e
 
-pub lent-bytes : (k : ℕ) (cs : List ℕ) → take ((k + 1) * bytes_width - k * bytes_width) (drop (k * bytes_width) cs) ≡ bytes_at k cs
+pub lent_bytes : (k : ℕ) (cs : List ℕ) → take ((k + 1) * bytes_width - k * bytes_width) (drop (k * bytes_width) cs) ≡ bytes_at k cs
 unfolding bytes_at part
-lent-bytes k cs = let e : (k + 1) * bytes_width - k * bytes_width ≡ bytes_width = omega arith in rw e
+lent_bytes k cs = let e : (k + 1) * bytes_width - k * bytes_width ≡ bytes_width = omega arith in rw e
 
 pub context-groups : (xs bs : List ℕ) → (context_of xs bs).groups ≡ groups_of xs bs
 unfolding context_of rest_at with_waiting with_groups
@@ -168,8 +168,8 @@ module _ (m : Mode) (g : ℕ) (ys cs p b : List ℕ) (w : Wf ys cs) (slot : Slot
         room = r;
       }
 
-  pub newer-laid : (k : ℕ) → slot ≡ At k → (r : ByCause (Unit {0})) (p' b' : List ℕ) → Ends (laid_over m (table_in (stretch_at k ys) (bytes_at k cs)) (work_in p b)) r p' b' → Ends (laid_by m (lookup numbers g (groups_of ys cs)) (work_in p b)) r p' b'
-  newer-laid k e r p' b' d = rw (newer-there k e, ← laid-some m (table_in (stretch_at k ys) (bytes_at k cs)) (work_in p b)) d
+  pub newer_laid : (k : ℕ) → slot ≡ At k → (r : ByCause (Unit {0})) (p' b' : List ℕ) → Ends (laid_over m (table_in (stretch_at k ys) (bytes_at k cs)) (work_in p b)) r p' b' → Ends (laid_by m (lookup numbers g (groups_of ys cs)) (work_in p b)) r p' b'
+  newer_laid k e r p' b' d = rw (newer-there k e, ← laid-some m (table_in (stretch_at k ys) (bytes_at k cs)) (work_in p b)) d
 
   stays : lookup numbers g (groups_of ys cs) ≡ None → work.Wf p b → Ends (laid_by m (lookup numbers g (groups_of ys cs)) (work_in p b)) (Ok tt) p b
   stays e v = record { rule = rw e (laid_none m (work_in p b)); wf = v }
@@ -186,5 +186,5 @@ module _ (g : ℕ) (ts : List _) (p b p' b' : List ℕ) (k : Becomes (tombed g t
   pub buried_for : (m : Mode) → OlderFor m (tombed g ts (work_in p b)) → OlderFor m (work_in p' b')
   buried_for m o = rw k.is o
 
-  pub buried-laid : (m : Mode) (newer : Option Table) (r : ByCause (Unit {0})) (p'' b'' : List ℕ) → Ends (laid_by m newer (work_in p' b')) r p'' b'' → Ends (laid_by m newer (tombed g ts (work_in p b))) r p'' b''
-  buried-laid m newer r p'' b'' e = rw k.is at e
+  pub buried_laid : (m : Mode) (newer : Option Table) (r : ByCause (Unit {0})) (p'' b'' : List ℕ) → Ends (laid_by m newer (work_in p' b')) r p'' b'' → Ends (laid_by m newer (tombed g ts (work_in p b))) r p'' b''
+  buried_laid m newer r p'' b'' e = rw k.is at e

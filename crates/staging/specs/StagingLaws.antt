@@ -17,7 +17,7 @@ use Rattle.stretch.specs.Stretch.{is_used, head_part, entry_rows}
 use Rattle.stretch.specs.Stretch as stretch
 use Rattle.groups.specs.Area.{slots, numbers_in_use, bytes_in_use, stretch_at, bytes_at, cell_at, cells, groups_of, Found}
 use Rattle.groups.specs.Area as groups
-use Rattle.groups.specs.declared.Slot.{Slot}
+use Rattle.cells.specs.declared.Slot.{Slot}
 use Rattle.groups.specs.AreaLaws.{Same, same-groups, same_wf, same-found, same-stretch, same_bytes}
 use Rattle.groups.specs.Laws.{none-used, free-cell, cells-groups}
 use Rattle.groups.specs.PlaceLaws.{part-short}

@@ -70,6 +70,7 @@ fn close_part(
 }
 
 // Whether the parts have an item at all.
+#[tactic(auto, using(crate::proofs::FinishingWays::room_lent, crate::proofs::FinishingWays::any_front))]
 fn any_item(xs: &[u64], ys: &[u64], ending: Ending) -> bool
     requires xs_len { (length xs.now ≡ 17231) × (length ys.now ≡ 17231) }
     requires xs_bound { (get_or (part 10019 3490 xs.now) 0 0 ≤ 128) × (get_or (part 10019 3490 ys.now) 0 0 ≤ 128) }

@@ -16,6 +16,7 @@ const FREE: u64 = 1;
 const WHOLE: u64 = 3;
 
 // Marks the spare stretches as holding no group.
+#[tactic(auto, using(crate::proofs::Beginning::begun_none, crate::proofs::Beginning::begun_more))]
 pub fn begin(xs: &mut [u64])
     requires { 9376 ≤ length xs.old }
     ensures { Begun 8 xs.old xs.new }
@@ -34,6 +35,7 @@ fn mark_of(first: u64) -> u64
 }
 
 // Marks the spare stretches, so that the staged groups become the groups by `groups::undo`.
+#[tactic(auto, using(crate::proofs::Beginning::sealed_none, crate::proofs::Beginning::sealed_more), unfolding(groups::specs::Undo::mark_at))]
 pub fn seal(xs: &mut [u64])
     requires { 9376 ≤ length xs.old }
     ensures { Sealed 8 xs.old xs.new }

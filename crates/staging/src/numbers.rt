@@ -51,6 +51,7 @@ fn waiting_number(ws: &[u64], k: usize) -> Option<u64>
 }
 
 // The number at place i: first the older stretches, then the newer ones, the newer tombstones and the newer waiting parts.
+#[tactic(auto, using(crate::proofs::NumberWays::older_number, crate::proofs::NumberWays::newer_number, crate::proofs::NumberWays::of_tombstone, crate::proofs::NumberWays::of_waiting))]
 pub fn number_at(xs: &[u64], ys: &[u64], i: usize) -> Option<u64>
     requires i_bound { i < 96 }
     requires in_bounds { (9376 ≤ length xs.now) × (13509 ≤ length ys.now) }

@@ -27,6 +27,7 @@ fn find_staged(xs: &[u64], group: u64) -> Slot
 }
 
 // Puts the work table into spare stretch k, if it is within the limits.
+#[tactic(auto, using(crate::proofs::StageWays::long_inside, crate::proofs::StageWays::lent_head))]
 fn put_at(xs: &mut [u64], bs: &mut [u8], k: usize, group: u64, flags: Flags) -> Flags
     requires ready { Ready xs.old bs.old }
     requires found { Found group (drop 4688 xs.old) (Slot.Free k) }
@@ -46,6 +47,7 @@ fn put_at(xs: &mut [u64], bs: &mut [u8], k: usize, group: u64, flags: Flags) -> 
 
 // Takes the work table, with which the work on a group that is not staged ended, into the staged groups. Where no spare stretch is free,
 // a table is a ninth group.
+#[tactic(auto, using(crate::proofs::StageWays::long_inside, crate::proofs::StageWays::lent_head))]
 fn settle(
     xs: &mut [u64],
     bs: &mut [u8],

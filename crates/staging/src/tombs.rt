@@ -5,7 +5,7 @@ ghost use Rattle.rules_by_group.specs.Group.{tombed};
 ghost use Rattle.rules_by_group.specs.Kept.{all_tombstones};
 ghost use Rattle.rules_by_group.specs.Kept.{Within};
 ghost use Rattle.log_batch.specs.Lent.{item_of, content_of};
-ghost use Rattle.stores.specs.Stores.{area, store_items, Stored};
+ghost use Rattle.stores.specs.Stores.{area_in, store_items, Stored};
 ghost use Rattle.stores.specs.Written.{Lent};
 ghost use Rattle.worktable.specs.Work.{work_in, Wf};
 ghost use Rattle.worktable.specs.Calls.{Becomes};
@@ -14,10 +14,11 @@ ghost use Rattle.staging.specs.TombLaws.{buried};
 use deeds::{deed_of, key_in, rows_in, value_in};
 use log_batch::Call;
 use log_batch::item::LogItem;
-use stores::Store;
+use stores::LentStore;
 use stores::read::item_at;
 
 // Carries out a tombstone, which has no entries, if it is one of the group.
+#[tactic(auto, using(crate::proofs::TombWays::buried_becomes, crate::proofs::TombWays::buried_stays))]
 fn bury_item(p: &mut [u64], b: &mut [u8], group: u64, item: LogItem, entries: &[u64], bytes: &[u8])
     requires wf { Wf p.old b.old }
     requires within { Within 320 144 (work_in p.old b.old) }
@@ -36,24 +37,17 @@ fn bury_item(p: &mut [u64], b: &mut [u8], group: u64, item: LogItem, entries: &[
     worktable::act(p, b, deed, rows, key, value);
 }
 
-// Carries out the tombstones of a group, of which a store has so many.
-pub fn bury(
-    p: &mut [u64],
-    b: &mut [u8],
-    group: u64,
-    store: Store,
-    items: &[u64],
-    entries: &[u64],
-    bytes: &[u8],
-)
+// Carries out the tombstones of a group, among those of a store.
+#[tactic(auto, using(crate::proofs::TombWays::buried_all))]
+pub fn bury(p: &mut [u64], b: &mut [u8], group: u64, store: &LentStore)
     requires wf { Wf p.old b.old }
     requires within { Within 320 144 (work_in p.old b.old) }
-    requires stored { Stored store (area items.now entries.now bytes.now) }
-    requires bytes_value { all_tombstones (store_items store (area items.now entries.now bytes.now)) ≡ true }
-    ensures { Becomes (tombed group (store_items store (area items.now entries.now bytes.now)) (work_in p.old b.old)) p.new b.new }
+    requires stored { Stored store.now.counts (area_in store.now.parts) }
+    requires tombstones { all_tombstones (store_items store.now.counts (area_in store.now.parts)) ≡ true }
+    ensures { Becomes (tombed group (store_items store.now.counts (area_in store.now.parts)) (work_in p.old b.old)) p.new b.new }
 {
-    for j in 0..store.items {
-        let item = item_at(store, items, entries, bytes, j);
-        bury_item(p, b, group, item, entries, bytes);
+    for j in 0..store.counts.items {
+        let item = item_at(store, j);
+        bury_item(p, b, group, item, store.parts.entries, store.parts.bytes);
     }
 }

@@ -18,12 +18,14 @@ ghost use Rattle.staging.specs.Works.{laid_by, Loaded, WorkedAs};
 use crate::finishes::finish_part;
 use crate::tombs::bury;
 use groups::Slot;
+use log_batch::LogBatch;
 use pipe_log::Cause;
-use stores::Store;
+use stores::{LentStore, Store};
 use stretch::{BYTES, STRETCH};
 use worktable::{Mode, WORK_AT, WORK_BYTES_AT};
 
 // Makes the work table absent.
+#[tactic(auto, using(crate::proofs::WorkWays::long_bytes_length, crate::proofs::WorkWays::cleared_loaded))]
 fn clear_long(xs: &mut [u64])
     requires { length xs.old ≡ 17231 }
     ensures { (bs : _) → length bs ≡ 38912 → Loaded None xs.old bs xs.new bs }
@@ -32,6 +34,7 @@ fn clear_long(xs: &mut [u64])
 }
 
 // Makes the work table the older one of a group, or absent.
+#[tactic(auto, using(contexts::proofs::Lengths::area_numbers))]
 fn load_older(xs: &mut [u64], bs: &mut [u8], group: u64)
     requires { contexts·areas.Wf xs.old bs.old }
     ensures { Loaded (lookup numbers group (groups_of xs.old bs.old)) xs.old bs.old xs.new bs.new }
@@ -51,14 +54,20 @@ fn bury_newer(p: &mut [u64], b: &mut [u8], ys: &[u64], cs: &[u8], group: u64)
 {
     let rows = &ys[groups::NUMBERS + lists::ROWS_FROM..groups::NUMBERS + lists::ROWS_TO];
     let bytes = &cs[groups::BYTES..groups::BYTES + lists::ROW_BYTES];
-    let store = Store {
+    let counts = Store {
         items: ys[groups::NUMBERS + lists::TOMBSTONES_AT] as usize,
         entries: 0,
     };
-    bury(p, b, group, store, rows, &[], bytes);
+    let parts = LogBatch {
+        items: rows,
+        entries: &[],
+        bytes,
+    };
+    bury(p, b, group, &LentStore { counts, parts });
 }
 
 // Lays stretch k of the newer area over the work table.
+#[tactic(auto, using(crate::proofs::WorkWays::lent_stretch, crate::proofs::WorkWays::lent_bytes))]
 fn lay_at(
     p: &mut [u64],
     b: &mut [u8],
@@ -83,6 +92,7 @@ fn lay_at(
 }
 
 // Lays the newer table of a group, if there is one, over the work table.
+#[tactic(auto, using(crate::proofs::WorkWays::newer_laid))]
 fn lay_newer(
     p: &mut [u64],
     b: &mut [u8],
@@ -104,6 +114,7 @@ fn lay_newer(
 }
 
 // Works on what was loaded: the newer tombstones, then the newer table.
+#[tactic(auto, using(crate::proofs::WorkWays::buried_laid))]
 fn work_loaded(
     p: &mut [u64],
     b: &mut [u8],

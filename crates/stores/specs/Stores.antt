@@ -5,6 +5,7 @@ use Rattle.std.specs.Prelude.{Option, Some, None, Bool, false, cond, ◌&&◌, L
 use Rattle.maps.specs.Lists.{sum}
 use Rattle.rules.specs.Items as rules
 use Rattle.rules.specs.Context.{entries_in}
+use Rattle.log_batch.specs.declared.batch.LogBatch.{LogBatch}
 use Rattle.log_batch.specs.declared.item.LogItem.{LogItem}
 use Rattle.log_batch.specs.Lent.{opened_row, item_of, items_from}
 use Rattle.stores.specs.declared.Store.{Store}
@@ -18,6 +19,10 @@ pub record Area : Type 0 where
 
 abbrev pub area : List ℕ → List ℕ → List ℕ → Area
 area items entries bytes = record { items = items; entries = entries; bytes = bytes }
+
+-- the same, lent as a batch is
+abbrev pub area_in : LogBatch → Area
+area_in b = area b.items.now b.entries.now b.bytes.now
 
 -- the items that a store stands for
 unfoldable pub store_items : Store → Area → List rules.LogItem

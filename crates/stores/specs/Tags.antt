@@ -7,8 +7,9 @@ use Rattle.rules.specs.Context.{entries_in}
 use Rattle.log_batch.specs.declared.item.LogItem.{LogItem}
 use Rattle.log_batch.specs.Lent.{row_count_of, opened_row, item_at}
 use Rattle.stores.specs.declared.Store.{Store}
+use Rattle.stores.specs.declared.TaggedStore.{TaggedStore}
 use Rattle.stores.specs.Written.{count_of, Behind, Lent}
-use Rattle.stores.specs.Stores.{Area, store_items, row_entries, Stored, Sized, has_room, one_more, Added, Pushing}
+use Rattle.stores.specs.Stores.{Area, area_in, store_items, row_entries, Stored, Sized, has_room, one_more, Added, Pushing}
 
 pub record Tagged : Type 0 where
   pub tag : ℕ
@@ -23,6 +24,15 @@ tagged (t ∷ ts) (x ∷ xs) = record { tag = t; item = x } ∷ tagged ts xs
 -- the tagged items that a store with tags ts stands for
 unfoldable pub store_tagged : Store → Area → List ℕ → List Tagged
 store_tagged s a ts = tagged ts (store_items s a)
+
+-- those of a store that is lent to be read
+abbrev pub tagged_in : TaggedStore → List Tagged
+tagged_in t = store_tagged t.store.counts (area_in t.store.parts) t.tags.now
+
+-- it is well formed, and there is a tag for each item
+pub record StoredTagged (t : TaggedStore) : Type 0 where
+  pub stored : Stored t.store.counts (area_in t.store.parts)
+  pub enough : t.store.counts.items ≤ length t.tags.now
 
 -- whether an item has tag t, or another
 unfoldable pub has_tag : ℕ → Tagged → Bool

@@ -1,11 +1,11 @@
 // Adding all items of one store behind those of another.
 ghost use Rattle.std.specs.Prelude.{true, ◌≡◌, ◌+◌, ◌*◌, ◌/◌, ◌≤◌, ◌<◌, length, drop};
-ghost use Rattle.log_batch.specs.Lent.{item_at};
-ghost use Rattle.stores.specs.Stores.{area, store_items, row_entries, Stored, has_room, Added, AddedAll};
+ghost use Rattle.log_batch.specs.Batch.{item_in};
+ghost use Rattle.stores.specs.Stores.{area, area_in, store_items, row_entries, Stored, has_room, Added, AddedAll};
 
-use crate::Store;
 use crate::add::add;
 use crate::read::item_at;
+use crate::{LentStore, Store};
 
 // Adds item `j` of the store `from`.
 fn add_item(
@@ -13,20 +13,25 @@ fn add_item(
     items: &mut [u64],
     entries: &mut [u64],
     bytes: &mut [u8],
-    from: Store,
-    its_items: &[u64],
-    its_entries: &[u64],
-    its_bytes: &[u8],
+    from: &LentStore,
     j: usize,
 ) -> Store
     requires stored { Stored store (area items.old entries.old bytes.old) }
-    requires stored_2 { Stored from (area its_items.now its_entries.now its_bytes.now) }
-    requires j_lt_from { j < from.items }
-    requires entries_value { has_room (row_entries (drop (j * 9) its_items.now)) store (length items.old) (length entries.old) ≡ true }
-    ensures { Added store (area items.old entries.old bytes.old) (item_at its_entries.now its_bytes.now (drop (j * 9) its_items.now)) result (area items.new entries.new bytes.new) }
+    requires from_stored { Stored from.now.counts (area_in from.now.parts) }
+    requires j_lt_from { j < from.now.counts.items }
+    requires entries_value { has_room (row_entries (drop (j * 9) from.now.parts.items.now)) store (length items.old) (length entries.old) ≡ true }
+    ensures { Added store (area items.old entries.old bytes.old) (item_in j from.now.parts) result (area items.new entries.new bytes.new) }
 {
-    let item = item_at(from, its_items, its_entries, its_bytes, j);
-    add(store, items, entries, bytes, item, its_entries, its_bytes)
+    let item = item_at(from, j);
+    add(
+        store,
+        items,
+        entries,
+        bytes,
+        item,
+        from.parts.entries,
+        from.parts.bytes,
+    )
 }
 
 // Adds the items of the store `from`, for which there is room.
@@ -35,29 +40,16 @@ pub fn add_all(
     items: &mut [u64],
     entries: &mut [u64],
     bytes: &mut [u8],
-    from: Store,
-    its_items: &[u64],
-    its_entries: &[u64],
-    its_bytes: &[u8],
+    from: &LentStore,
 ) -> Store
     requires stored { Stored store (area items.old entries.old bytes.old) }
-    requires stored_2 { Stored from (area its_items.now its_entries.now its_bytes.now) }
-    requires from_in_bounds { (store.items + from.items ≤ length items.old / 9) × (store.entries + from.entries ≤ length entries.old / 8) }
-    ensures { AddedAll store (area items.old entries.old bytes.old) (store_items from (area its_items.now its_entries.now its_bytes.now)) result (area items.new entries.new bytes.new) }
+    requires from_stored { Stored from.now.counts (area_in from.now.parts) }
+    requires from_in_bounds { (store.items + from.now.counts.items ≤ length items.old / 9) × (store.entries + from.now.counts.entries ≤ length entries.old / 8) }
+    ensures { AddedAll store (area items.old entries.old bytes.old) (store_items from.now.counts (area_in from.now.parts)) result (area items.new entries.new bytes.new) }
 {
     let mut all = store;
-    for j in 0..from.items {
-        all = add_item(
-            all,
-            items,
-            entries,
-            bytes,
-            from,
-            its_items,
-            its_entries,
-            its_bytes,
-            j,
-        );
+    for j in 0..from.counts.items {
+        all = add_item(all, items, entries, bytes, from, j);
     }
     all
 }

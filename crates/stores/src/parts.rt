@@ -8,6 +8,7 @@ ghost use Rattle.stores.specs.Tags.{PushingTagged, Movable, Moved, Keeping, Take
 use crate::Store;
 use crate::add::push;
 use crate::shift::put_down;
+use log_batch::LogBatch;
 use log_batch::item::LogItem;
 use log_batch::open::open_item;
 
@@ -45,7 +46,12 @@ fn keep_item(
     requires movable { Movable left j (area items.old entries.old bytes.old) }
     ensures { Moved left (area items.old entries.old bytes.old) j result (area items.new entries.new bytes.new) }
 {
-    let Ok(item) = open_item(items, entries, bytes, j) else {
+    let parts = LogBatch {
+        items,
+        entries,
+        bytes,
+    };
+    let Ok(item) = open_item(&parts, j) else {
         unreachable!()
     };
     put_down(left, items, entries, bytes, item)

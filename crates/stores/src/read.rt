@@ -1,18 +1,18 @@
 // Reading an item of a store.
 ghost use Rattle.std.specs.Prelude.{◌<◌};
-ghost use Rattle.stores.specs.Stores.{area, Stored, ItemAt};
+ghost use Rattle.stores.specs.Stores.{area_in, Stored, ItemAt};
 
-use crate::Store;
+use crate::LentStore;
 use log_batch::item::LogItem;
 use log_batch::open::open_item;
 
 // Opens item `j`. Every row of a store opens.
-pub fn item_at(store: Store, items: &[u64], entries: &[u64], bytes: &[u8], j: usize) -> LogItem
-    requires stored { Stored store (area items.now entries.now bytes.now) }
-    requires j_lt_store { j < store.items }
-    ensures { ItemAt store (area items.now entries.now bytes.now) j result }
+pub fn item_at(store: &LentStore, j: usize) -> LogItem
+    requires stored { Stored store.now.counts (area_in store.now.parts) }
+    requires j_bound { j < store.now.counts.items }
+    ensures { ItemAt store.now.counts (area_in store.now.parts) j result }
 {
-    let Ok(item) = open_item(items, entries, bytes, j) else {
+    let Ok(item) = open_item(&store.parts, j) else {
         unreachable!()
     };
     item

@@ -1,5 +1,5 @@
 -- What each change leaves as it was, from what the tables' functions say of the rows at exit. Assumes nothing.
-use mathlib.Core.Bool.{Bool, true, false}
+use mathlib.Core.Bool.{Bool, true}
 use mathlib.Core.List.{List, [], ◌∷◌, ◌++◌}
 use Rattle.std.specs.Prelude.{Option}
 use mathlib.Core.Path.{◌≡◌, refl, sym, ap, ◌∙◌}
@@ -13,7 +13,7 @@ use borrow.Author.Tests.{le-ltb, leb-true}
 use borrow.Rule.Slice.PartMut.{put_mid}
 use Rattle.cells.specs.Part.{put}
 use Rattle.cells.specs.PartLaws.{length-put, take_put, put-nil, part_none, part-put_same, part-put-before, part-put-after, part-set-before, loan-put}
-use Rattle.maps.specs.BoolLaws.{and-false, clash}
+use Rattle.maps.specs.BoolLaws.{and-false}
 use Rattle.maps.specs.Lists.{front}
 use Rattle.maps.specs.Maps.{Map}
 use Rattle.maps.specs.OrderLaws.{split}
@@ -235,12 +235,6 @@ module _ (w : ℕ) (p rows : List ℕ) (o : NumbersAt w p) (k : length rows ≡ 
   counted-keys-leave m = count-rows w (put_mid w (length p - w) p rows) m ∙ lent-keys-leave
 
 -- ---- as a change says it
-
-pub entries-leave : (w n : ℕ) (p p' b : List ℕ) → LeavesRows w n p p' → LeavesAt w n false p b p' b
-entries-leave w n p p' b l = record { rows = l.rows; keys = λ e. (l.keys, refl) }
-
-pub keys-leave : (w n : ℕ) (p b p' b' : List ℕ) → entry_rows_at w p' ≡ entry_rows_at w p → LeavesAt w n true p b p' b'
-keys-leave w n p b p' b' e = record { rows = rw e; keys = λ f. absurd (clash (sym f)) }
 
 pub all_left : (w n : ℕ) (written : Bool) (p b : List ℕ) → LeavesAt w n written p b p b
 all_left w n written p b = record { rows = refl; keys = λ e. (refl, refl) }

@@ -7,6 +7,7 @@ use crate::{Change, entries, keys};
 use pipe_log::Cause;
 
 // Carries out a change on a group's stretch p with its bytes b. The rows of keys begin at place `keys_at`.
+#[tactic(auto, unfolding(crate::specs::Changes::Ready, crate::specs::Changes::rule_of, crate::specs::Reach::row_from, crate::specs::Reach::writes_keys))]
 pub fn apply(
     p: &mut [u64],
     b: &mut [u8],

@@ -1,4 +1,6 @@
 // Changes of a group's entries, each by the head's own method on the rows of the stretch before `keys_at`. They see no bytes.
+#![tactic(auto, unfolding(crate::specs::Stretch::entry_rows_at, cells::specs::Part::part))]
+
 ghost use Rattle.std.specs.Prelude.{List, ◌≡◌, ℕ, ◌-◌, ◌/◌, ◌≤◌, length};
 ghost use Rattle.pipe_log.specs.Rows.{window};
 ghost use Rattle.rules.specs.Causes.{Ok};

@@ -8,6 +8,7 @@ use memtable::Head;
 use pipe_log::Span;
 
 // The span that a header has.
+#[tactic(auto, unfolding(crate::specs::Stretch::span_in))]
 fn span_in(p: &[u64]) -> Option<Span>
     requires { 10 ≤ length p.now }
     ensures { result ≡ span_in p.now }
@@ -22,6 +23,7 @@ fn span_in(p: &[u64]) -> Option<Span>
 }
 
 // The head that a header has.
+#[tactic(auto, unfolding(crate::specs::Stretch::head_part))]
 pub fn head_in(p: &[u64]) -> Head
     requires { 10 ≤ length p.now }
     ensures { result ≡ head_part p.now }
@@ -36,6 +38,7 @@ pub fn head_in(p: &[u64]) -> Head
 }
 
 // The numbers of a span.
+#[tactic(auto, unfolding(crate::specs::Stretch::span_numbers))]
 fn span_numbers(span: Option<Span>) -> [u64; 3]
     ensures { result ≡ span_numbers span }
 {
@@ -64,6 +67,7 @@ pub fn write_head(p: &mut [u64], head: Head)
 }
 
 // Makes the stretch that of a group with nothing in it.
+#[tactic(auto, unfolding(crate::specs::Stretch::made_header))]
 pub fn make(p: &mut [u64], group: u64)
     requires { 10 ≤ length p.old }
     ensures { p.new ≡ put p.old 0 (made_header group) }

@@ -1,4 +1,6 @@
 // Changes of a group's keys, each by the keys' own function on the rows of the stretch from `keys_at` on and its bytes.
+#![tactic(auto, unfolding(crate::specs::Stretch::key_count, crate::specs::Stretch::key_rows_at, crate::specs::Stretch::key_rows, cells::specs::Part::part))]
+
 ghost use Rattle.std.specs.Prelude.{◌≡◌, ◌≤◌, length};
 ghost use Rattle.rules.specs.Causes.{Ok};
 ghost use Rattle.rules.specs.Table.{put_key, delete_key, rewritten_key};
@@ -7,6 +9,7 @@ ghost use Rattle.stretch.specs.Stretch.{entry_rows_at, WfAt, table_in, Wf};
 ghost use Rattle.stretch.specs.Changes.{ChangedAt, keys_laid};
 
 use crate::{KEY_COUNT, KEYS_AT, STRETCH};
+use kvs::Keys;
 use pipe_log::{Cause, LogQueue};
 
 // Puts a key with its value and file.
@@ -74,12 +77,13 @@ pub fn lay_keys(
     requires wf { Wf newer.now newbytes.now }
     ensures { ChangedAt keys_at (keys_laid (table_in newer.now newbytes.now).keys) p.old b.old result p.new b.new }
 {
-    let n = p[KEY_COUNT] as usize;
     let m = newer[KEY_COUNT] as usize;
-    let e = p.len();
     let a = KEYS_AT;
     let z = STRETCH;
-    let all = kvs::merge_keys(n, &mut p[keys_at..e], b, m, &newer[a..z], newbytes)?;
+    let keys = Keys::new(m, &newer[a..z], newbytes);
+    let n = p[KEY_COUNT] as usize;
+    let e = p.len();
+    let all = kvs::merge_keys(n, &mut p[keys_at..e], b, &keys)?;
     p[KEY_COUNT] = all as u64;
     Ok(())
 }

@@ -1,6 +1,7 @@
 // The stretch of an area that holds one group: a header, rows of entries and rows of keys in numbers, and the keys' bytes. Its width is
 // told by the place where the rows of keys begin and by the lengths of the slices.
-// A change is carried out by the tables' own functions, `memtable` and `kvs`, each on its part of the stretch.
+// A change is carried out by the tables' own functions, `memtable` and `kvs`, each on its part of the stretch. What writes a stretch is
+// passed its two slices: a struct that holds `&mut`s is no plainer (`kvs::Keys` says why).
 #![tactic(auto)]
 
 mod changes;
@@ -19,7 +20,8 @@ use pipe_log::{ENTRY_WIDTH, LogQueue};
 pub use reach::{row_from, writes_keys};
 pub use spans::{set_span, write_span};
 
-// Document 01's limits of a group.
+// Document 01's limits of a group. There is no heap and C lends the area, so a stretch has so many rows and its header counts those in
+// use.
 pub const MAX_ENTRIES: usize = 64;
 
 pub const MAX_KEYS: usize = 16;
@@ -41,7 +43,8 @@ pub const STRETCH: usize = KEYS_AT + MAX_KEYS * ROW_WIDTH;
 
 pub const BYTES: usize = MAX_KEYS * ROW_BYTES;
 
-// What an item does to its group. The rows of entries, the key and the value are lent beside it.
+// What an item does to its group. The rows of entries, the key and the value are lent beside it. Contracts say by it which rule the
+// answer follows (`rule_of`), so it is data and no step to run.
 #[derive(Clone, Copy)]
 pub enum Change {
     Append { first: u64, live: bool },

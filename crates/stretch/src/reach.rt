@@ -1,34 +1,26 @@
 // What a change may write besides the header: rows of entries from a row on, and keys.
-ghost use Rattle.std.specs.Prelude.{◌≡◌, ◌+◌, ◌-◌, ◌≤◌, ◌^◌};
+ghost use Rattle.std.specs.Prelude.{◌≡◌, ◌+◌, ◌≤◌, ◌^◌};
 ghost use Rattle.stretch.specs.Reach.{kept_before, row_from, writes_keys};
 
 use crate::{Change, MAX_ENTRIES};
 use memtable::Head;
 
-// How far a number is beyond another.
-fn beyond(a: u64, b: u64) -> usize
-    ensures { result ≡ a - b }
-{
-    if a <= b {
-        return 0;
-    }
-    (a - b) as usize
-}
-
 // How many entries stay before rows that start at `first`; where they leave a gap, none.
+#[tactic(auto, unfolding(crate::specs::Reach::kept_before))]
 fn kept_before(head: Head, first: u64) -> usize
     requires { head.first_index + head.len ≤ 2 ^ 63 }
     ensures { result ≡ kept_before head first }
 {
     let start = head.first_index;
     let end = start + (head.len as u64);
-    if first <= end {
-        return beyond(first, start);
+    if end < first {
+        return 0;
     }
-    0
+    first.saturating_sub(start) as usize
 }
 
 // The row from which on a change may write entries.
+#[tactic(auto, unfolding(crate::specs::Reach::row_from))]
 pub fn row_from(head: Head, change: Change) -> usize
     requires { head.first_index + head.len ≤ 2 ^ 63 }
     ensures { result ≡ row_from change head }
@@ -36,7 +28,7 @@ pub fn row_from(head: Head, change: Change) -> usize
     match change {
         Change::Append { first, live: _ } => kept_before(head, first),
         Change::ReplayRewrite { first } => kept_before(head, first),
-        Change::Rewrite { first, gate: _ } => beyond(first, head.first_index),
+        Change::Rewrite { first, gate: _ } => first.saturating_sub(head.first_index) as usize,
         Change::Compact { index: _ } => 0,
         Change::Put { queue: _, seq: _ } => MAX_ENTRIES,
         Change::Delete => MAX_ENTRIES,
@@ -46,6 +38,7 @@ pub fn row_from(head: Head, change: Change) -> usize
 }
 
 // Whether a change may write keys.
+#[tactic(auto, unfolding(crate::specs::Reach::writes_keys))]
 pub fn writes_keys(change: Change) -> bool
     ensures { result ≡ writes_keys change }
 {

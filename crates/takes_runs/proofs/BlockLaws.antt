@@ -8,9 +8,9 @@ use lib.ListN.{length, take, drop, get_or}
 use lib.Seq.{take-suc, take_all}
 use borrow.Rule.Slice.PartMut.{put_mid}
 use Rattle.takes_lines.specs.Bytes.{Reached, take_byte, take_bytes}
-use Rattle.takes_runs.specs.declared.bytes.Known.{Known}
-use Rattle.takes_runs.specs.declared.bytes.Step.{Step}
-use Rattle.takes_runs.specs.Reading.{Holds, Fit, Stepped}
+use Rattle.takes_runs.specs.declared.bytes.Held.{Held}
+use Rattle.takes_runs.specs.Steps.{Fit}
+use Rattle.takes_runs.specs.Reading.{Holds, Stepped}
 use Rattle.takes_runs.proofs.OutLaws.{length_lent, printed-behind, lent_length}
 
 -- ---- a text
@@ -21,24 +21,23 @@ takes-snoc [] b s = refl
 takes-snoc (c ∷ l) b s = takes-snoc l b (take_byte c s)
 
 -- the loop over the bytes: i of them are taken
-pub record Taking (o : Known) (text rows₀ bytes₀ out₀ xs₀ bs₀ ys₀ cs₀ : List ℕ) (k : Known) (n i : ℕ) (rows bytes out xs bs ys cs : List ℕ) : Type 0 where
-  pub steps : Stepped (take_bytes (take i text)) o rows₀ bytes₀ xs₀ bs₀ ys₀ cs₀ (record { known = k; printed = n }) rows bytes out xs bs ys cs
+pub record Taking (h₀ : Held) (text out₀ : List ℕ) (h : Held) (n i : ℕ) (out : List ℕ) : Type 0 where
+  pub steps : Stepped (take_bytes (take i text)) h₀ n out h
   pub inside : i ≤ length text
-  pub lines-few : k.lines ≤ o.lines + i
+  pub lines-few : h.known.lines ≤ h₀.known.lines + i
   pub bound : n ≤ 44 * i
   pub out-is : length out ≡ length out₀
   pub out-fits : length out₀ < 2 ^ 64
 
-module _ (o : Known) (text rows₀ bytes₀ out₀ xs₀ bs₀ ys₀ cs₀ : List ℕ) where
-  pub taking-none : Fit xs₀ bs₀ ys₀ cs₀ → length out₀ < 2 ^ 64 → Taking o text rows₀ bytes₀ out₀ xs₀ bs₀ ys₀ cs₀ o 0 0 rows₀ bytes₀ out₀ xs₀ bs₀ ys₀ cs₀
+module _ (h₀ : Held) (text out₀ : List ℕ) where
+  pub taking-none : Fit h₀.runs → length out₀ < 2 ^ 64 → Taking h₀ text out₀ h₀ 0 0 out₀
   taking-none f small =
       record {
         steps = record {
-          goes = λ s h. unfold take_bytes in h;
-          prints = λ s h. unfold take_bytes in sym (append-nil s.takes.printed);
+          goes = λ s a. unfold take_bytes in a;
+          prints = λ s a. unfold take_bytes in sym (append-nil s.takes.printed);
           few = omega arith;
-          merged-area = f.merged-area;
-          run-area = f.run-area;
+          fit = f;
         };
         inside = omega arith;
         lines-few = omega arith;
@@ -47,22 +46,15 @@ module _ (o : Known) (text rows₀ bytes₀ out₀ xs₀ bs₀ ys₀ cs₀ : Lis
         out-fits = small;
       }
 
-  module _ (room : 44 * length text ≤ length out₀) (k : Known) (n i : ℕ) (rows bytes out xs bs ys cs : List ℕ) (t : Taking o text rows₀ bytes₀ out₀ xs₀ bs₀ ys₀ cs₀ k n i rows bytes out xs bs ys cs) where
+  module _ (room : 44 * length text ≤ length out₀) (h : Held) (n i : ℕ) (out : List ℕ) (t : Taking h₀ text out₀ h n i out) where
     pub taking-room : i < length text → n + 44 ≤ length out
     taking-room l = omega (arith, t.bound, t.out-is)
 
-    pub taking-fits : Fit xs bs ys cs
-    taking-fits =
-        record {
-          merged-area = t.steps.merged-area;
-          run-area = t.steps.run-area;
-        }
-
-    pub taking_all : length text ≤ i → Stepped (take_bytes text) o rows₀ bytes₀ xs₀ bs₀ ys₀ cs₀ (record { known = k; printed = n }) rows bytes out xs bs ys cs
+    pub taking_all : length text ≤ i → Stepped (take_bytes text) h₀ n out h
     taking_all e = rw (take_all i text e) at t.steps
 
-    module _ (r : Step) (rows' bytes' p xs' bs' ys' cs' : List ℕ) (more : i < length text)
-        (one : Stepped (take_byte (get_or text i 0)) k rows bytes xs bs ys cs r rows' bytes' p xs' bs' ys' cs') (same : length p ≡ length (take (n + 44 - n) (drop n out))) where
+    module _ (r : ℕ) (p : List ℕ) (z : Held) (more : i < length text)
+        (one : Stepped (take_byte (get_or text i 0)) h r p z) (same : length p ≡ length (take (n + 44 - n) (drop n out))) where
       abbrev out' : List ℕ
       out' = put_mid n (n + 44 - n) out p
 
@@ -75,26 +67,25 @@ module _ (o : Known) (text rows₀ bytes₀ out₀ xs₀ bs₀ ys₀ cs₀ : Lis
       one_more_lem : (s : Reached) → take_bytes (take (i + 1) text) s ≡ take_byte (get_or text i 0) (take_bytes (take i text) s)
       one_more_lem s = ap (λ l. take_bytes l s) (ap (λ j. take j text) (add-one i) ∙ take-suc text i 0 more) ∙ takes-snoc (take i text) (get_or text i 0) s
 
-      more-printed : (s : Reached) → Holds s o rows₀ bytes₀ xs₀ bs₀ ys₀ cs₀ → (take_bytes (take (i + 1) text) s).takes.printed ≡ s.takes.printed ++ take (n + r.printed) out'
-      more-printed s h =
+      more-printed : (s : Reached) → Holds s h₀ → (take_bytes (take (i + 1) text) s).takes.printed ≡ s.takes.printed ++ take (n + r) out'
+      more-printed s a =
           ap (λ (x : Reached). x.takes.printed) (one_more_lem s)
-          ∙ one.prints (take_bytes (take i text) s) (t.steps.goes s h)
-          ∙ ap (λ l. l ++ take r.printed p) (t.steps.prints s h)
-          ∙ append_assoc s.takes.printed (take n out) (take r.printed p)
-          ∙ ap (λ l. s.takes.printed ++ l) (sym (printed-behind n (n + 44 - n) out p len lent r.printed (omega (arith, one.few, len))))
+          ∙ one.prints (take_bytes (take i text) s) (t.steps.goes s a)
+          ∙ ap (λ l. l ++ take r p) (t.steps.prints s a)
+          ∙ append_assoc s.takes.printed (take n out) (take r p)
+          ∙ ap (λ l. s.takes.printed ++ l) (sym (printed-behind n (n + 44 - n) out p len lent r (omega (arith, one.few, len))))
 
-      more-goes : (s : Reached) → Holds s o rows₀ bytes₀ xs₀ bs₀ ys₀ cs₀ → Holds (take_bytes (take (i + 1) text) s) r.known rows' bytes' xs' bs' ys' cs'
-      more-goes s h = rw (one_more_lem s) (one.goes (take_bytes (take i text) s) (t.steps.goes s h))
+      more-goes : (s : Reached) → Holds s h₀ → Holds (take_bytes (take (i + 1) text) s) z
+      more-goes s a = rw (one_more_lem s) (one.goes (take_bytes (take i text) s) (t.steps.goes s a))
 
-      pub taking-more : r.known.lines ≤ k.lines + 1 → Taking o text rows₀ bytes₀ out₀ xs₀ bs₀ ys₀ cs₀ r.known (n + r.printed) (i + 1) rows' bytes' out' xs' bs' ys' cs'
+      pub taking-more : z.known.lines ≤ h.known.lines + 1 → Taking h₀ text out₀ z (n + r) (i + 1) out'
       taking-more a =
           record {
             steps = record {
               goes = more-goes;
               prints = more-printed;
               few = omega (arith, one.few, len, lent, length_lent n (n + 44 - n) out p len lent);
-              merged-area = one.merged-area;
-              run-area = one.run-area;
+              fit = one.fit;
             };
             inside = omega arith;
             lines-few = omega (arith, t.lines-few);

@@ -3,7 +3,6 @@ use mathlib.Core.List.{List}
 use Rattle.std.specs.Prelude.{None}
 use mathlib.Core.Path.{◌≡◌, refl, sym, ap, ◌∙◌}
 use Prim.Native.Nat.{ℕ}
-use lib.ListN.{length}
 use Rattle.maps.specs.Lists.{or_else}
 use Rattle.rules.specs.Causes.{Result, Ok, Err, refuse, left, WrongKind}
 use Rattle.rules.specs.Items.{LogQueue, Append, Rewrite, same_queue, LogItem, Batch, placed_from, writes, replay_append}
@@ -18,7 +17,6 @@ use Rattle.rules_by_group.proofs.MergeLaws.{merged_deeds}
 use Rattle.rules_by_group.proofs.ItemLaws.{limited_ok}
 use Rattle.rules_by_group.proofs.ByGroupLaws.{kept-accepts, merge-is}
 use Rattle.contexts.specs.Contexts.{context_of, Called, FreshArea}
-use Rattle.contexts.specs.AreaLaws.{formed_of, area-length, area-bytes}
 use Rattle.takes_runs.specs.Steps.{AppendArea}
 
 -- ---- the kind that the rules leave
@@ -84,7 +82,3 @@ merge-area ys cs xs bs a xs' bs' k n h =
 pub fresh-area : (xs bs : List ℕ) → FreshArea Append xs bs → AppendArea xs bs
 unfolding fresh
 fresh-area xs bs f = record { wf = f.wf; kind = ap (λ (x : Context). x.kind) f.context-is }
-
-pub same_areas : (xs bs xs' bs' : List ℕ) → AppendArea xs bs → AppendArea xs' bs' → (length xs' ≡ length xs) × (length bs' ≡ length bs)
-same_areas xs bs xs' bs' a b =
-    (area-length xs' bs' (formed_of xs' bs' b.wf) ∙ sym (area-length xs bs (formed_of xs bs a.wf)), area-bytes xs' bs' (formed_of xs' bs' b.wf) ∙ sym (area-bytes xs bs (formed_of xs bs a.wf)))

@@ -15,7 +15,8 @@ use Rattle.takes_rules.specs.Lines.{malformed, next_run, batch}
 use Rattle.takes_rules.specs.Output.{refusal_line, malformed_line}
 use Rattle.takes_rules.specs.Program.{replayed, merged_as, merge_run, take_line}
 use Rattle.takes_lines.specs.Written.{Written}
-use Rattle.takes_runs.specs.Steps.{AppendArea, said_of, Says, Takes-line, TookLine, ReplayedRun, MergedRun}
+use Rattle.takes_runs.specs.declared.runs.Runs.{Runs}
+use Rattle.takes_runs.specs.Steps.{said_of, Says, Takes-line, Fit, TookLine, ReplayedRun, MergedRun}
 use Rattle.takes_runs.proofs.KindLaws.{replay-area, merge-area, fresh-area}
 
 -- ---- what is printed
@@ -80,25 +81,27 @@ merge-line n xs bs d (Err x) xs' bs' h =
 
 -- ---- the functions
 
-pub replayed_run : (file : FileId) (items rows bytes : List ℕ) (n : ℕ) (ys cs : List ℕ) (a : Result (Unit {0})) (r : ℕ) (ys' cs' out' : List ℕ) → AppendArea ys cs → Called (replay (batch_of file items rows bytes)) ys cs a ys' cs' → Says (said_of n a) r out' → ReplayedRun file items rows bytes n ys cs r ys' cs' out'
-replayed_run file items rows bytes n ys cs a r ys' cs' out' k h s xs bs w =
+module _ (n r : ℕ) (h : Runs) (out' : List ℕ) where
+  pub replayed_run : (file : FileId) (items rows bytes : List ℕ) (a : Result (Unit {0})) (ys' cs' : List ℕ) → Fit h → Called (replay (batch_of file items rows bytes)) h.ys h.cs a ys' cs' → Says (said_of n a) r out' → ReplayedRun file items rows bytes n h r out' (record { xs = h.xs; bs = h.bs; ys = ys'; cs = cs' })
+  replayed_run file items rows bytes a ys' cs' k c s = (
     record {
-      line-is = rw s.said (replay-line n (batch_of file items rows bytes) (context_of xs bs) ys cs a ys' cs' h);
-      merged-area = w;
-      run-area = replay-area (batch_of file items rows bytes) ys cs a ys' cs' k h;
+      line-is = rw s.said (replay-line n (batch_of file items rows bytes) (context_of h.xs h.bs) h.ys h.cs a ys' cs' c);
+      fit = record { merged-area = k.merged-area; run-area = replay-area (batch_of file items rows bytes) h.ys h.cs a ys' cs' k.run-area c };
       few = s.few;
-    }
+    },
+    refl,
+    refl,
+  )
 
-pub merged_run : (n : ℕ) (xs bs ys cs : List ℕ) (a : Result (Unit {0})) (r : ℕ) (xs' bs' ys' cs' out' : List ℕ) → AppendArea xs bs → AppendArea ys cs → Called (merge (context_of ys cs)) xs bs a xs' bs' → FreshArea Append ys' cs' → Says (said_of n a) r out' → MergedRun n xs bs ys cs r xs' bs' ys' cs' out'
-merged_run n xs bs ys cs a r xs' bs' ys' cs' out' k l h f s =
-    record {
-      line-is = rw (s.said, f.context-is) (merge-line n xs bs (context_of ys cs) a xs' bs' h);
-      merged-area = merge-area ys cs xs bs a xs' bs' k l h;
-      run-area = fresh-area ys' cs' f;
-      few = s.few;
-    }
+  pub merged_run : (a : Result (Unit {0})) (xs' bs' ys' cs' : List ℕ) → Fit h → Called (merge (context_of h.ys h.cs)) h.xs h.bs a xs' bs' → FreshArea Append ys' cs' → Says (said_of n a) r out' → MergedRun n h r out' (record { xs = xs'; bs = bs'; ys = ys'; cs = cs' })
+  merged_run a xs' bs' ys' cs' k c f s =
+      record {
+        line-is = rw (s.said, f.context-is) (merge-line n h.xs h.bs (context_of h.ys h.cs) a xs' bs' c);
+        fit = record { merged-area = merge-area h.ys h.cs h.xs h.bs a xs' bs' k.merged-area k.run-area c; run-area = fresh-area ys' cs' f };
+        few = s.few;
+      }
 
-pub malformed-line : (n : ℕ) (xs bs ys cs out : List ℕ) (r : ℕ) (out' : List ℕ) → AppendArea xs bs → AppendArea ys cs → Written out (malformed_line n) r out' → TookLine n malformed xs bs ys cs r xs bs ys cs out'
-unfolding take_line
-malformed-line n xs bs ys cs out r out' w v h =
-    record { line-is = record { takes = λ p. rw h.front }; merged-area = w; run-area = v; few = written-few out (malformed_line n) r out' h }
+  pub malformed-line : (out : List ℕ) → Fit h → Written out (malformed_line n) r out' → TookLine n malformed h r out' h
+  unfolding take_line
+  malformed-line out k w =
+      record { line-is = record { takes = λ p. rw w.front }; fit = k; few = written-few out (malformed_line n) r out' w }

@@ -9,6 +9,7 @@ use Rattle.contexts.specs.Contexts.{context_of, Wf}
 use Rattle.takes_rules.specs.Lines.{Line, next_run, batch}
 use Rattle.takes_rules.specs.Output.{refusal_line}
 use Rattle.takes_rules.specs.Program.{take_line}
+use Rattle.takes_runs.specs.declared.runs.Runs.{Runs}
 
 -- what is printed of an answer to line n
 unfoldable pub said_of : ℕ → Result (Unit {0}) → List ℕ
@@ -29,17 +30,22 @@ pub record AppendArea (xs bs : List ℕ) : Type 0 where
   pub wf : Wf xs bs
   pub kind : (context_of xs bs).kind ≡ context Append
 
-pub record TookLine (n : ℕ) (l : Line) (xs bs ys cs : List ℕ) (r : ℕ) (xs' bs' ys' cs' out' : List ℕ) : Type 0 where
-  pub line-is : Takes-line n l (context_of xs bs) (context_of ys cs) (take r out') (context_of xs' bs') (context_of ys' cs')
-  pub merged-area : AppendArea xs' bs'
-  pub run-area : AppendArea ys' cs'
+-- two areas that are Append contexts
+pub record Fit (h : Runs) : Type 0 where
+  pub merged-area : AppendArea h.xs h.bs
+  pub run-area : AppendArea h.ys h.cs
+
+-- line l, of number n, takes the areas h to z, and what it prints are the first r bytes lent
+pub record TookLine (n : ℕ) (l : Line) (h : Runs) (r : ℕ) (out' : List ℕ) (z : Runs) : Type 0 where
+  pub line-is : Takes-line n l (context_of h.xs h.bs) (context_of h.ys h.cs) (take r out') (context_of z.xs z.bs) (context_of z.ys z.cs)
+  pub fit : Fit z
   pub few : r ≤ length out'
 
 -- a batch: the runs merged so far are not written
-abbrev pub ReplayedRun : FileId → List ℕ → List ℕ → List ℕ → ℕ → List ℕ → List ℕ → ℕ → List ℕ → List ℕ → List ℕ → Type 0
-ReplayedRun file items rows bytes n ys cs r ys' cs' out' =
-    (xs bs : List ℕ) → AppendArea xs bs → TookLine n (batch (batch_of file items rows bytes)) xs bs ys cs r xs bs ys' cs' out'
+abbrev pub ReplayedRun : FileId → List ℕ → List ℕ → List ℕ → ℕ → Runs → ℕ → List ℕ → Runs → Type 0
+ReplayedRun file items rows bytes n h r out' z =
+    TookLine n (batch (batch_of file items rows bytes)) h r out' z × (z.xs ≡ h.xs) × (z.bs ≡ h.bs)
 
 -- the run that was read is merged
-abbrev pub MergedRun : ℕ → List ℕ → List ℕ → List ℕ → List ℕ → ℕ → List ℕ → List ℕ → List ℕ → List ℕ → List ℕ → Type 0
-MergedRun n xs bs ys cs r xs' bs' ys' cs' out' = TookLine n next_run xs bs ys cs r xs' bs' ys' cs' out'
+abbrev pub MergedRun : ℕ → Runs → ℕ → List ℕ → Runs → Type 0
+MergedRun n h r out' z = TookLine n next_run h r out' z

@@ -1,9 +1,11 @@
 // The input, byte by byte: a newline ends a line, and any other byte goes on with the open one.
 ghost use Rattle.std.specs.Prelude.{◌+◌, ◌^◌, ◌≤◌, ◌<◌, length};
 ghost use Rattle.takes_lines.specs.Bytes.{end_of_line, take_byte};
-ghost use Rattle.takes_runs.specs.Reading.{Fit, Stepped};
+ghost use Rattle.takes_runs.specs.Steps.{Fit};
+ghost use Rattle.takes_runs.specs.Reading.{Starts, Stepped};
 
-use crate::runs::take_line;
+use crate::runs::Runs;
+use index::LogBatch;
 use takes_lines::{Lent, LineReader};
 
 // What is known between two bytes: the reader of the open line, how many lines have ended, and whether the open one has a byte.
@@ -14,90 +16,66 @@ pub struct Known {
     pub begun: bool,
 }
 
-// What is known afterwards, and how many bytes are printed.
-#[derive(Clone, Copy)]
-pub struct Step {
+// What the program holds between two bytes: the areas of its runs, the memory that is lent for a line, and what is known of the open
+// line.
+#[derive(Drop)]
+pub struct Held {
+    pub runs: Runs,
+    pub lent: Lent,
     pub known: Known,
-    pub printed: usize,
 }
 
-// Before the first byte.
-pub fn start() -> Known
-    ensures { Rattle.takes_runs.specs.Reading.Starts result }
-{
-    Known {
-        reader: takes_lines::start(),
-        lines: 0,
-        begun: false,
+impl Held {
+    // Before the first byte.
+    pub fn new() -> Self
+        ensures { Starts result }
+    {
+        Held {
+            runs: Runs::new(),
+            lent: Lent::new(),
+            known: Known {
+                reader: takes_lines::start(),
+                lines: 0,
+                begun: false,
+            },
+        }
     }
-}
 
-// Ends the open line.
-pub fn end_line(
-    xs: &mut [u64],
-    bs: &mut [u8],
-    ys: &mut [u64],
-    cs: &mut [u8],
-    lent: &mut Lent,
-    known: Known,
-    out: &mut [u8],
-) -> Step
-    requires fit { Fit xs.old bs.old ys.old cs.old }
-    requires in_bounds { (44 ≤ length out.old) × (known.lines + 1 < 2 ^ 64) }
-    ensures stepped { Stepped end_of_line known lent.old.rows lent.old.bytes xs.old bs.old ys.old cs.old result lent.new.rows lent.new.bytes out.new xs.new bs.new ys.new cs.new }
-    ensures lines_bound { result.known.lines ≤ known.lines + 1 }
-{
-    let n = known.lines + 1;
-    let line = takes_lines::finish(known.reader, lent);
-    let printed = take_line(
-        xs,
-        bs,
-        ys,
-        cs,
-        line,
-        &lent.items,
-        &lent.rows,
-        &lent.bytes,
-        n,
-        out,
-    );
-    let next = Known {
-        reader: takes_lines::start(),
-        lines: n,
-        begun: false,
-    };
-    Step {
-        known: next,
-        printed,
+    // Ends the open line; the answer is how many bytes are printed.
+    pub fn end_line(&mut self, out: &mut [u8]) -> usize
+        requires fit { Fit self.old.runs }
+        requires in_bounds { (44 ≤ length out.old) × (self.old.known.lines + 1 < 2 ^ 64) }
+        ensures stepped { Stepped end_of_line self.old result out.new self.new }
+        ensures lines_bound { self.new.known.lines ≤ self.old.known.lines + 1 }
+    {
+        let n = self.known.lines + 1;
+        let line = takes_lines::finish(self.known.reader, &mut self.lent);
+        let batch = LogBatch {
+            items: &self.lent.items,
+            entries: &self.lent.rows,
+            bytes: &self.lent.bytes,
+        };
+        let printed = self.runs.take_line(line, &batch, n, out);
+        self.known = Known {
+            reader: takes_lines::start(),
+            lines: n,
+            begun: false,
+        };
+        printed
     }
-}
 
-// Takes the next byte of the input.
-pub fn take_byte(
-    xs: &mut [u64],
-    bs: &mut [u8],
-    ys: &mut [u64],
-    cs: &mut [u8],
-    lent: &mut Lent,
-    known: Known,
-    b: u8,
-    out: &mut [u8],
-) -> Step
-    requires fit { Fit xs.old bs.old ys.old cs.old }
-    requires in_bounds { (44 ≤ length out.old) × (known.lines + 1 < 2 ^ 64) }
-    ensures stepped { Stepped (take_byte b) known lent.old.rows lent.old.bytes xs.old bs.old ys.old cs.old result lent.new.rows lent.new.bytes out.new xs.new bs.new ys.new cs.new }
-    ensures lines_bound { result.known.lines ≤ known.lines + 1 }
-{
-    if b == b'\n' {
-        return end_line(xs, bs, ys, cs, lent, known, out);
-    }
-    let next = Known {
-        reader: takes_lines::feed(known.reader, b, lent),
-        lines: known.lines,
-        begun: true,
-    };
-    Step {
-        known: next,
-        printed: 0,
+    // Takes the next byte of the input; the answer is how many bytes are printed.
+    pub fn take_byte(&mut self, b: u8, out: &mut [u8]) -> usize
+        requires fit { Fit self.old.runs }
+        requires in_bounds { (44 ≤ length out.old) × (self.old.known.lines + 1 < 2 ^ 64) }
+        ensures stepped { Stepped (take_byte b) self.old result out.new self.new }
+        ensures lines_bound { self.new.known.lines ≤ self.old.known.lines + 1 }
+    {
+        if b == b'\n' {
+            return self.end_line(out);
+        }
+        self.known.reader = takes_lines::feed(self.known.reader, b, &mut self.lent);
+        self.known.begun = true;
+        0
     }
 }

@@ -10,6 +10,7 @@ ghost use Rattle.takes_runs.specs.Steps.{Says};
 ghost use Rattle.takes_runs.specs.Totals.{group_text};
 
 use crate::blocks::LINE_MOST;
+use contexts::Area;
 use groups::SLOTS;
 use pipe_log::LogQueue;
 use takes_lines::output::{group_line, live_line};
@@ -21,20 +22,20 @@ pub const GROUP_MOST: usize = 86;
 pub const TOTALS_MOST: usize = SLOTS * GROUP_MOST + LINE_MOST;
 
 // The line of a group; of an absent one all numbers are 0.
-pub fn group_text(xs: &[u64], bs: &[u8], group: u64, out: &mut [u8]) -> usize
-    requires wf { Wf xs.now bs.now }
-    requires in_bounds { 86 ≤ length out.old }
-    ensures { Says (group_text group (maps.lookup maps.numbers group (context_of xs.now bs.now).groups)) result out.new }
+pub fn group_text(area: &Area, group: u64, out: &mut [u8]) -> usize
+    requires { 86 ≤ length out.old }
+    ensures { Says (group_text group (maps.lookup maps.numbers group area.now.groups)) result out.new }
 {
-    let first = queries::first_index(xs, bs, group)
+    let first = queries::first_index(area, group)
         .unwrap_or(None)
         .unwrap_or(0);
-    let entries = queries::entry_count(xs, bs, group).unwrap_or(0);
-    let keys = queries::key_count(xs, bs, group).unwrap_or(0);
+    let entries = queries::entry_count(area, group).unwrap_or(0);
+    let keys = queries::key_count(area, group).unwrap_or(0);
     group_line(out, group, first, entries as u64, keys as u64)
 }
 
-// The lines of the groups with these numbers, which are all of them.
+// The lines of the groups with these numbers, which are all of them. It takes the slices, since its proof needs what holds of an area
+// between calls, and of an `Area` that is known only where its fields are read.
 fn groups_text(xs: &[u64], bs: &[u8], numbers: &[u64], out: &mut [u8]) -> usize
     requires wf { Wf xs.now bs.now }
     requires numbers_value { numbers.now ≡ group_numbers (context_of xs.now bs.now) }
@@ -45,31 +46,31 @@ fn groups_text(xs: &[u64], bs: &[u8], numbers: &[u64], out: &mut [u8]) -> usize
     let mut at = 0;
     for &group in numbers {
         let e = at + GROUP_MOST;
-        at += group_text(xs, bs, group, &mut out[at..e]);
+        at += group_text(&Area { xs, bs }, group, &mut out[at..e]);
     }
     at
 }
 
 // The line of the live counts.
-fn live_text(xs: &[u64], bs: &[u8], out: &mut [u8]) -> usize
-    requires wf { Wf xs.now bs.now }
-    requires in_bounds { 44 ≤ length out.old }
-    ensures { Says (live_line (live_entries Append (context_of xs.now bs.now)) (live_entries Rewrite (context_of xs.now bs.now))) result out.new }
+fn live_text(area: &Area, out: &mut [u8]) -> usize
+    requires { 44 ≤ length out.old }
+    ensures { Says (live_line (live_entries Append area.now) (live_entries Rewrite area.now)) result out.new }
 {
-    let append = queries::live_entries(xs, bs, LogQueue::Append);
-    let rewrite = queries::live_entries(xs, bs, LogQueue::Rewrite);
+    let append = queries::live_entries(area, LogQueue::Append);
+    let rewrite = queries::live_entries(area, LogQueue::Rewrite);
     live_line(out, append as u64, rewrite as u64)
 }
 
-// The lines of all groups, ascending, and of the live counts.
+// The lines of all groups, ascending, and of the live counts. It takes the slices as `groups_text` does.
 pub fn totals(xs: &[u64], bs: &[u8], out: &mut [u8]) -> usize
     requires wf { Wf xs.now bs.now }
     requires in_bounds { 732 ≤ length out.old }
     ensures { Says (groups_text (context_of xs.now bs.now).groups ++ live_line (live_entries Append (context_of xs.now bs.now)) (live_entries Rewrite (context_of xs.now bs.now))) result out.new }
 {
+    let area = Area { xs, bs };
     let mut list = [0u64; SLOTS];
-    let count = queries::group_numbers(xs, bs, &mut list).unwrap_or(0);
+    let count = queries::group_numbers(&area, &mut list).unwrap_or(0);
     let at = groups_text(xs, bs, &list[..count], out);
     let e = at + LINE_MOST;
-    at + live_text(xs, bs, &mut out[at..e])
+    at + live_text(&area, &mut out[at..e])
 }

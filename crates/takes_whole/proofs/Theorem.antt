@@ -3,12 +3,11 @@ use mathlib.Core.List.{List, [], ◌∷◌, ◌++◌}
 use mathlib.Core.Path.{◌≡◌, refl, ap, ◌∙◌}
 use Prim.Native.Nat.{ℕ}
 use lib.ListN.{take}
-use Rattle.rules.specs.Items.{Append}
-use Rattle.contexts.specs.Contexts.{FreshArea}
 use Rattle.takes_lines.specs.Reading.{read_bytes}
 use Rattle.takes_lines.specs.Bytes.{Reached, at_start, take_byte, take_bytes, takes_by-byte}
+use Rattle.takes_runs.specs.declared.bytes.Held.{Held}
 use Rattle.takes_runs.specs.Reading.{has_byte, Holds, Starts}
-use Rattle.takes_whole.specs.Whole.{Held, ReadSoFar, Claim}
+use Rattle.takes_whole.specs.Whole.{ReadSoFar, Claim}
 
 takes-append : (l m : List ℕ) (s : Reached) → take_bytes (l ++ m) s ≡ take_bytes m (take_bytes l s)
 unfolding take_bytes
@@ -17,25 +16,25 @@ takes-append (b ∷ l) m s = takes-append l m (take_byte b s)
 
 -- what is held stands for the definition's state behind the input, and what was printed is the same
 record Reaches (input printed : List ℕ) (h : Held) : Type 0 where
-  holds : Holds (take_bytes input at_start) h.known h.rows h.bytes h.xs h.bs h.ys h.cs
+  holds : Holds (take_bytes input at_start) h
   said : (take_bytes input at_start).takes.printed ≡ printed
 
-first : (h : Held) → Starts h.known → FreshArea Append h.xs h.bs → FreshArea Append h.ys h.cs → Reaches [] [] h
+first : (h : Held) → Starts h → Reaches [] [] h
 unfolding take_bytes at_start has_byte read_bytes
-first h s a b =
+first h s =
     record {
       holds = record {
         lines_are = s.no_line;
-        reads = s.reads h.rows h.bytes;
+        reads = s.reads h.lent.rows h.lent.bytes;
         begun-is = s.no_byte;
-        merged-is = a.context-is;
-        run_is = b.context-is;
+        merged-is = s.merged-area.context-is;
+        run_is = s.run-area.context-is;
       };
       said = refl;
     }
 
 reached : {input printed : List ℕ} {h : Held} → ReadSoFar input printed h → Reaches input printed h
-reached (ReadSoFar.started h s a b) = first h s a b
+reached (ReadSoFar.started h s) = first h s
 reached (ReadSoFar.block {input = input} {h = g} b n out z p t) =
     let i = reached p in
     let more = takes-append input b at_start in

@@ -24,16 +24,16 @@ use Rattle.room.specs.HeadLaws.{heads-are}
 use Rattle.room.specs.Batches.{counts_for}
 use Rattle.room.specs.Changes.{Became}
 use Rattle.room.specs.ChangeLaws.{waiting_at_lem, waiting-ascends}
-use Rattle.room.specs.Parts.{part_for}
 use Rattle.room.specs.LimitLaws.{fits-few, room-few}
+use Rattle.waiting.specs.declared.PartHead.{PartHead}
 use Rattle.waiting.specs.declared.Form as form
 use Rattle.waiting.specs.declared.Step as step
-use Rattle.waiting.specs.Steps.{AtCell, NoCell, step_of, stepped}
+use Rattle.waiting.specs.Steps.{AtCell, NoCell, step_of, form_parts, stepped}
 use Rattle.waiting.specs.Accepts.{parts_at, Waited, Finishing, Refusing}
-use Rattle.waiting.specs.Forms.{FormAt, form_parts, with_part, Keeps, used_from, form_groups}
+use Rattle.waiting.specs.Forms.{FormAt, with_part, Keeps, used_from, form_groups, part_with}
 use Rattle.waiting.specs.FormLaws.{others, cell_here, accept_here, form-accepts}
 use Rattle.waiting.specs.JudgeLaws.{judged, all-used}
-use Rattle.waiting.proofs.Forming.{form_in, part-is}
+use Rattle.waiting.proofs.Forming.{form_in}
 
 pub some-parts : (f : form.Form) (ps : List Part) (new : Part) → some_parts (form_parts f ps new) ≡ Some (form_parts f ps new)
 unfolding form_parts some_parts
@@ -61,36 +61,32 @@ module _ (ws vs : List ℕ) (w : ContextRoom ws vs) where
       (omega arith, w.room.wf.stored.total)
 
   -- not every cell is in use
-  pub never-full : (g : ℕ) → NoCell g 16 (part 2 (16 * 10) ws) → ⊥
+  pub never_full : (g : ℕ) → NoCell g 16 (part 2 (16 * 10) ws) → ⊥
   unfolding waiting_of
-  never-full g n =
+  never_full g n =
       let c = cell-count 16 ws vs w.room.numbers-are w.room.bytes-are in
       let u = all-used s r w.room.wf (λ j l. rw (heads-are 16 ws vs) (n.full j (omega (arith, c)))) in
       let f = (fits-few (waiting_of ws vs) w.fits).groups in
       omega arith
 
-  module _ (g k st seq : ℕ) (its : List rules.LogItem) where
+  module _ (g k : ℕ) (hd : PartHead) (its : List rules.LogItem) where
     abbrev new : Part
-    new = part_for st seq its
+    new = part_with hd its
 
     -- ---- the part is put into a cell
 
-    module _ (f : form.Form) (a : FormAt f g 16 (part 2 (16 * 10) ws) k st seq) where
+    module _ (f : form.Form) (a : FormAt f g 16 (part 2 (16 * 10) ws) k hd) where
       abbrev parts : List Part
       parts = form_parts f (parts_at g (waiting_in s r)) new
 
       accepts_form : accept (parts_at g (waiting_in s r)) new ≡ wait parts
-      accepts_form = rw (part-is st seq its) (form-accepts s r w.room.wf g k st seq seq its f (form_in 16 ws vs w.room f g k st seq a))
+      accepts_form = form-accepts s r w.room.wf g k hd its f (form_in 16 ws vs w.room f g k hd a)
 
       stored_form : store numbers g (some_parts parts) (waiting_in s r) ≡ with_part f g new (waiting_in s r)
       unfolding with_part
       stored_form = rw (some-parts f (parts_at g (waiting_in s r)) new)
 
       module _ (n : ℕ) (left more : Store) (x : n ≡ form_groups f (used_from 16 0 (part 2 (16 * 10) ws))) (y : Keeps f (newest_tag (head_at k (part 2 (16 * 10) ws))) (part (2 + 16 * 18) (16 * 72) ws) (part (2 + 16 * 10) (16 * 8) ws) s left) (z : more ≡ counts_for its) where
-        new_items : more ≡ counts_for new.items
-        unfolding part_for
-        new_items = z
-
         kept_in : Keeps f (newest_tag (head_at k r.heads)) r.items r.tags s left
         unfolding room_of
         kept_in = y
@@ -100,7 +96,7 @@ module _ (ws vs : List ℕ) (w : ContextRoom ws vs) where
 
         pub judged_form : waiting_fits (with_part f g new (waiting_in s r)) ≡ (leb n 8 && leb (left.items + more.items) 64 && leb (left.entries + more.entries) 128)
         judged_form =
-            judged s r w.room.wf g new k st seq f left more (form_in 16 ws vs w.room f g k st seq a) kept_in new_items
+            judged s r w.room.wf g new k hd f left more (form_in 16 ws vs w.room f g k hd a) kept_in z
             ∙ rw (← groups-in)
 
       pub form-passes : waiting_fits (with_part f g new (waiting_in s r)) ≡ false → Refusing g new ws vs LimitPassed
@@ -144,14 +140,13 @@ module _ (ws vs : List ℕ) (w : ContextRoom ws vs) where
       abbrev rest : List Part
       rest = others s r w.room.wf g k inside
 
-      stepped_here : accept (parts_at g (waiting_in s r)) new ≡ stepped (step_of st seq (head_at k r.heads)) old rest new
-      unfolding part_for
-      stepped_here = accept_here s r w.room.wf g k inside at-cell.here new st refl
+      stepped_here : accept (parts_at g (waiting_in s r)) new ≡ stepped (step_of hd (head_at k r.heads)) old rest new
+      stepped_here = accept_here s r w.room.wf g k inside at-cell.here hd its
 
-      module _ (x : step.Step) (e : x ≡ step_of st seq (head_at k (part 2 (16 * 10) ws))) where
+      module _ (x : step.Step) (e : x ≡ step_of hd (head_at k (part 2 (16 * 10) ws))) where
         accepted_by : (y : step.Step) → x ≡ y → accept (parts_at g (waiting_in s r)) new ≡ stepped y old rest new
         accepted_by y d =
-            let e' : x ≡ step_of st seq (head_at k r.heads) = rw (heads-are 16 ws vs) e in
+            let e' : x ≡ step_of hd (head_at k r.heads) = rw (heads-are 16 ws vs) e in
             stepped_here ∙ ap (λ (z : step.Step). stepped z old rest new) (sym e' ∙ d)
 
         pub dropped : x ≡ step.TheVariants.Drop → Waited g new ws vs ws vs

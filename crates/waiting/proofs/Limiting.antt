@@ -28,11 +28,11 @@ module _ (n : ℕ) (ws : List ℕ) (k : ℕ) (l : k < n) where
   unfolding count_in
   count_of = head_number n ws k 0 l (omega arith) ∙ rw (add-zero (2 + k * 10))
 
-  pub used-none : get_or ws (2 + k * 10) 0 ≡ 0 → (0 ≡ used_at k (part 2 (n * 10) ws)) × (0 ≤ 1)
-  used-none e = (rw (count_of, e), omega arith)
+  pub used_none : get_or ws (2 + k * 10) 0 ≡ 0 → 0 ≡ used_at k (part 2 (n * 10) ws)
+  used_none e = rw (count_of, e)
 
-  pub used-some : (get_or ws (2 + k * 10) 0 ≡ 0 → ⊥) → (1 ≡ used_at k (part 2 (n * 10) ws)) × (1 ≤ 1)
-  used-some d = (rw (count_of, ne_eqb (get_or ws (2 + k * 10) 0) 0 d), omega arith)
+  pub used_some : (get_or ws (2 + k * 10) 0 ≡ 0 → ⊥) → 1 ≡ used_at k (part 2 (n * 10) ws)
+  used_some d = rw (count_of, ne_eqb (get_or ws (2 + k * 10) 0) 0 d)
 
 -- the first k of n cells are counted
 pub record Using (n : ℕ) (hs : List ℕ) (used k : ℕ) : Type 0 where
@@ -44,12 +44,8 @@ from_here : (m k : ℕ) (hs : List ℕ) → used_from (suc m) k hs ≡ used_at k
 unfolding used_from
 from_here m k hs = refl
 
-from_end : (k : ℕ) (hs : List ℕ) → used_from 0 k hs ≡ 0
-unfolding used_from
-from_end k hs = refl
-
-pub using-more : (n : ℕ) (hs : List ℕ) (used k c : ℕ) → k < n → c ≡ used_at k hs → c ≤ 1 → Using n hs used k → Using n hs (used + c) (k + 1)
-using-more n hs used k c l e b u =
+pub using_more : (n : ℕ) (hs : List ℕ) (used k c : ℕ) → k < n → c ≡ used_at k hs → c ≤ 1 → Using n hs used k → Using n hs (used + c) (k + 1)
+using_more n hs used k c l e b u =
     let m : n - k ≡ suc (n - (k + 1)) = omega arith in
     let f = rw m at u.rest in
     let h = from_here (n - (k + 1)) k hs in

@@ -1,7 +1,7 @@
 -- A part of another room that comes to the room of a context. Assumes nothing.
 use mathlib.Core.List.{List, ◌∷◌}
 use Rattle.std.specs.Prelude.{Some}
-use mathlib.Core.Path.{◌≡◌, refl, sym, ap, ◌∙◌}
+use mathlib.Core.Path.{◌≡◌, sym, ap, ◌∙◌}
 use Prim.Native.Nat.{ℕ, ◌+◌, ◌*◌, ◌≤◌, ◌<◌}
 use native.Mathlib.Omega.{arith}
 use lib.ListN.{length, get_or}
@@ -20,11 +20,12 @@ use Rattle.room.specs.HeadLaws.{heads-are}
 use Rattle.room.specs.Changes.{Became}
 use Rattle.room.specs.ChangeLaws.{waiting_at_lem, waiting-ascends}
 use Rattle.room.specs.Parts.{TookPart}
+use Rattle.waiting.specs.declared.PartHead.{PartHead}
 use Rattle.waiting.specs.declared.Form as form
 use Rattle.waiting.specs.declared.Step as step
-use Rattle.waiting.specs.Steps.{AtCell, NoCell, step_of, stepped}
+use Rattle.waiting.specs.Steps.{AtCell, NoCell, step_of, form_parts, stepped}
 use Rattle.waiting.specs.Accepts.{parts_at}
-use Rattle.waiting.specs.Forms.{FormAt, form_parts, with_part, part_with}
+use Rattle.waiting.specs.Forms.{FormAt, with_part, part_with}
 use Rattle.waiting.specs.FormLaws.{others, used-count, cell_here, accept_here, form-accepts, waits-not}
 use Rattle.waiting.specs.JudgeLaws.{counts-after, all-used}
 use Rattle.waiting.specs.Merges.{Joined, Finished, RoomFor}
@@ -39,21 +40,21 @@ module _ (ws vs : List ℕ) (w : RoomWf 16 ws vs) where
   r = room_of 16 ws vs
 
   -- if the group has no cell, not every cell is in use
-  pub cell-left : (g : ℕ) (its : List rules.LogItem) → RoomFor g its ws vs → NoCell g 16 (part 2 (16 * 10) ws) → ⊥
+  pub cell_left : (g : ℕ) (its : List rules.LogItem) → RoomFor g its ws vs → NoCell g 16 (part 2 (16 * 10) ws) → ⊥
   unfolding waiting_of
-  cell-left g its b n =
+  cell_left g its b n =
       let c = cell-count 16 ws vs w.numbers-are w.bytes-are in
       let u = all-used s r w.wf (λ j l. rw (heads-are 16 ws vs) (n.full j (omega (arith, c)))) in
       let f = b.groups (waits-not s r g (λ j l. rw (heads-are 16 ws vs) (n.absent j (omega (arith, c))))) in
       omega arith
 
-  module _ (g k st start last : ℕ) (its : List rules.LogItem) where
+  module _ (g k : ℕ) (hd : PartHead) (its : List rules.LogItem) where
     abbrev new : Part
-    new = part_with st its start last
+    new = part_with hd its
 
     -- ---- the part is put into a cell
 
-    module _ (f : form.Form) (a : FormAt f g 16 (part 2 (16 * 10) ws) k st start) where
+    module _ (f : form.Form) (a : FormAt f g 16 (part 2 (16 * 10) ws) k hd) where
       abbrev parts : List Part
       parts = form_parts f (parts_at g (waiting_in s r)) new
 
@@ -74,7 +75,7 @@ module _ (ws vs : List ℕ) (w : RoomWf 16 ws vs) where
       joined_form ws' vs' i j b =
           record {
             parts = parts;
-            accepts = form-accepts s r w.wf g k st start last its f (form_in 16 ws vs w f g k st start a);
+            accepts = form-accepts s r w.wf g k hd its f (form_in 16 ws vs w f g k hd a);
             waiting = rw (some-parts f (parts_at g (waiting_in s r)) new) b.waiting;
             room = record { numbers-are = i ∙ w.numbers-are; bytes-are = j ∙ w.bytes-are; wf = b.wf };
           }
@@ -97,15 +98,15 @@ module _ (ws vs : List ℕ) (w : RoomWf 16 ws vs) where
       pub has_parts : 0 < get_or ws (2 + k * 10) 0
       has_parts = rw (← count-in 16 ws vs w.numbers-are w.bytes-are k a.inside) (used-count s r w.wf g k inside at-cell.here)
 
-      module _ (x : step.Step) (e : x ≡ step_of st start (head_at k (part 2 (16 * 10) ws))) where
+      module _ (x : step.Step) (e : x ≡ step_of hd (head_at k (part 2 (16 * 10) ws))) where
         accepted_by : (y : step.Step) → x ≡ y → accept (parts_at g (waiting_in s r)) new ≡ stepped y old rest new
         accepted_by y d =
-            let e' : x ≡ step_of st start (head_at k r.heads) = rw (heads-are 16 ws vs) e in
-            accept_here s r w.wf g k inside at-cell.here new st refl ∙ ap (λ (z : step.Step). stepped z old rest new) (sym e' ∙ d)
+            let e' : x ≡ step_of hd (head_at k r.heads) = rw (heads-are 16 ws vs) e in
+            accept_here s r w.wf g k inside at-cell.here hd its ∙ ap (λ (z : step.Step). stepped z old rest new) (sym e' ∙ d)
 
-        pub joined-drop : x ≡ step.TheVariants.Drop → Joined g new ws vs ws vs
+        pub joined_drop : x ≡ step.TheVariants.Drop → Joined g new ws vs ws vs
         unfolding waiting_of stepped some_parts
-        joined-drop d =
+        joined_drop d =
             record {
               parts = old ∷ rest;
               accepts = accepted_by step.TheVariants.Drop d;
@@ -117,9 +118,9 @@ module _ (ws vs : List ℕ) (w : RoomWf 16 ws vs) where
         unfolding waiting_of stepped
         joined_back d = accepted_by step.TheVariants.Back d
 
-        pub joined-finish : x ≡ step.TheVariants.Finish → (ws' vs' : List ℕ) → length ws' ≡ length ws → length vs' ≡ length vs → TookPart 16 k ws vs ws' vs' → Finished g new ws vs ws' vs'
+        pub joined_finish : x ≡ step.TheVariants.Finish → (ws' vs' : List ℕ) → length ws' ≡ length ws → length vs' ≡ length vs → TookPart 16 k ws vs ws' vs' → Finished g new ws vs ws' vs'
         unfolding waiting_of stepped
-        joined-finish d ws' vs' i j t =
+        joined_finish d ws' vs' i j t =
             let b = t.became g old rest (cell_here s r w.wf g k inside at-cell.here) in
             record {
               old = old;

@@ -30,8 +30,8 @@ use Rattle.waiting.specs.Merges.{HasRoom}
 
 -- ---- an item that is added
 
-pub added-from : (us ds : List ℕ) → length us ≡ 2 + 16 * 218 → length ds ≡ 16 * 512 → (s : Store) (r : Room) (tag : ℕ) (it : LogItem) (t : Store) (q : Room) → AddedIn s r tag (item_of it (take (2 + 16 * 90 + 16 * 128 - (2 + 16 * 90)) (drop (2 + 16 * 90) us)) ds) t q → AddedIn s r tag (item_of it (room_of 16 us ds).entries (room_of 16 us ds).bytes) t q
-added-from us ds e f s r tag it t q a = rw (bytes-are 16 us ds f) (rw (lent-entries 16 us ds e f) at a)
+pub added_from : (us ds : List ℕ) → length us ≡ 2 + 16 * 218 → length ds ≡ 16 * 512 → (s : Store) (r : Room) (tag : ℕ) (it : LogItem) (t : Store) (q : Room) → AddedIn s r tag (item_of it (take (2 + 16 * 90 + 16 * 128 - (2 + 16 * 90)) (drop (2 + 16 * 90) us)) ds) t q → AddedIn s r tag (item_of it (room_of 16 us ds).entries (room_of 16 us ds).bytes) t q
+added_from us ds e f s r tag it t q a = rw (bytes-are 16 us ds f) (rw (lent-entries 16 us ds e f) at a)
 
 one_with : (t : ℕ) (x : Tagged) → x.tag ≡ t → items_with t (x ∷ []) ≡ x.item ∷ []
 unfolding items_with select has_tag
@@ -55,14 +55,14 @@ module _ (us ds : List ℕ) (w : RoomWf 16 us ds) where
       let y = w.wf.stored.rows in
       ap (λ (c : Store). c.items) (stored-counts (store_of us) (area_in from) w.wf.stored from.tags (omega arith))
 
-  pub row-there : (j : ℕ) → j < (store_of us).items → j < 128
-  row-there j h =
+  pub row_there : (j : ℕ) → j < (store_of us).items → j < 128
+  row_there j h =
       let l = length-items 16 us ds w.numbers-are w.bytes-are in
       let r = w.wf.stored.rows in
       omega arith
 
-  pub lent-there : (j : ℕ) (it : LogItem) → ItemAt (store_of us) (area_in from) j it → Lent it (16 * 128) (16 * 512)
-  lent-there j it i = rw (length-entries 16 us ds w.numbers-are w.bytes-are, length-bytes 16 us ds w.numbers-are w.bytes-are) at i.lent
+  pub lent_there : (j : ℕ) (it : LogItem) → ItemAt (store_of us) (area_in from) j it → Lent it (16 * 128) (16 * 512)
+  lent_there j it i = rw (length-entries 16 us ds w.numbers-are w.bytes-are, length-bytes 16 us ds w.numbers-are w.bytes-are) at i.lent
 
   module _ (j : ℕ) (h : j < (store_of us).items) (t : ℕ) where
     module _ (it : LogItem) (i : ItemAt (store_of us) (area_in from) j it) (e : (z : Tagged) → (get_or xs j z).tag ≡ t) where
@@ -76,8 +76,8 @@ module _ (us ds : List ℕ) (w : RoomWf 16 us ds) where
       here-is : (z : Tagged) → items_with t (get_or xs j z ∷ []) ≡ item_of it from.entries from.bytes ∷ []
       here-is z = one_with t (get_or xs j z) (e z) ∙ ap (λ (v : rules.LogItem). v ∷ []) (item-there z)
 
-      pub room-there : (s : Store) → HasRoom 16 s t xs j → (s.items < 16 * 8) × (s.entries + count_of it.content ≤ 16 * 16)
-      room-there s b =
+      pub room_there : (s : Store) → HasRoom 16 s t xs j → (s.items < 16 * 8) × (s.entries + count_of it.content ≤ 16 * 16)
+      room_there s b =
           let z : Tagged = record { tag = 0; item = item_of it from.entries from.bytes } in
           let c = counts-one (item_of it from.entries from.bytes) in
           let c0 = c.0 in
@@ -87,14 +87,14 @@ module _ (us ds : List ℕ) (w : RoomWf 16 us ds) where
           let b1 = rw (here-is z) at (b.entries z) in
           (omega arith, omega arith)
 
-      pub pushed-there : (ws vs : List ℕ) → length ws ≡ 2 + 16 * 218 → length vs ≡ 16 * 512 → (s : Store) (tag : ℕ) (u : Store) (ws' vs' : List ℕ) → length ws' ≡ length ws → length vs' ≡ length vs → AddedIn s (room_of 16 ws vs) tag (item_of it from.entries from.bytes) u (room_of 16 ws' vs') → (z : Tagged) → PushedAll s (room_of 16 ws vs) tag (items_with t (get_or xs j z ∷ [])) u (room_of 16 ws' vs')
-      pushed-there ws vs p q s tag u ws' vs' p' q' a z =
+      pub pushed_there : (ws vs : List ℕ) → length ws ≡ 2 + 16 * 218 → length vs ≡ 16 * 512 → (s : Store) (tag : ℕ) (u : Store) (ws' vs' : List ℕ) → length ws' ≡ length ws → length vs' ≡ length vs → AddedIn s (room_of 16 ws vs) tag (item_of it from.entries from.bytes) u (room_of 16 ws' vs') → (z : Tagged) → PushedAll s (room_of 16 ws vs) tag (items_with t (get_or xs j z ∷ [])) u (room_of 16 ws' vs')
+      pushed_there ws vs p q s tag u ws' vs' p' q' a z =
           rw (here-is z)
           (pushed-one s (room_of 16 ws vs) tag (item_of it from.entries from.bytes) u (room_of 16 ws' vs') a
           (length-tags 16 ws' vs' (p' ∙ p) (q' ∙ q) ∙ sym (length-tags 16 ws vs p q)))
 
-    pub pushed-not : ((z : Tagged) → (get_or xs j z).tag ≡ t → ⊥) → (s : Store) (r : Room) (tag : ℕ) → Stored s (area_in r) → (z : Tagged) → PushedAll s r tag (items_with t (get_or xs j z ∷ [])) s r
-    pushed-not d s r tag b z = rw (none_with t (get_or xs j z) (d z)) (pushed_none s r tag b)
+    pub pushed_not : ((z : Tagged) → (get_or xs j z).tag ≡ t → ⊥) → (s : Store) (r : Room) (tag : ℕ) → Stored s (area_in r) → (z : Tagged) → PushedAll s r tag (items_with t (get_or xs j z ∷ [])) s r
+    pushed_not d s r tag b z = rw (none_with t (get_or xs j z) (d z)) (pushed_none s r tag b)
 
 -- ---- one by one
 
@@ -112,8 +112,8 @@ unfolding items_with select
 none-taken t l = refl
 
 module _ (xs : List Tagged) (n t tag : ℕ) (m : length xs ≡ n) (s : Store) (ws₀ vs₀ : List ℕ) where
-  pub moving-none : length ws₀ ≡ 2 + 16 * 218 → length vs₀ ≡ 16 * 512 → Stored s (area_in (room_of 16 ws₀ vs₀)) → MovingIn xs n t tag s ws₀ vs₀ s ws₀ vs₀ 0
-  moving-none e f w =
+  pub moving_none : length ws₀ ≡ 2 + 16 * 218 → length vs₀ ≡ 16 * 512 → Stored s (area_in (room_of 16 ws₀ vs₀)) → MovingIn xs n t tag s ws₀ vs₀ s ws₀ vs₀ 0
+  moving_none e f w =
       record { most = omega arith; numbers-are = e; bytes-are = f; pushed = rw (none-taken t xs) (pushed_none s (room_of 16 ws₀ vs₀) tag w) }
 
   module _ (u : Store) (ws vs : List ℕ) (j : ℕ) (h : j < n) (p : MovingIn xs n t tag s ws₀ vs₀ u ws vs j) where
@@ -138,11 +138,11 @@ module _ (xs : List Tagged) (n t tag : ℕ) (m : length xs ≡ n) (s : Store) (w
         let y = p.pushed.total in
         (omega arith, omega arith)
 
-    pub moving-room : (s.items + (counts_for (items_with t xs)).items ≤ 16 * 8) × (s.entries + (counts_for (items_with t xs)).entries ≤ 16 * 16) → HasRoom 16 u t xs j
-    moving-room b = record { items = λ z. (fits_here z b).0; entries = λ z. (fits_here z b).1 }
+    pub moving_room : (s.items + (counts_for (items_with t xs)).items ≤ 16 * 8) × (s.entries + (counts_for (items_with t xs)).entries ≤ 16 * 16) → HasRoom 16 u t xs j
+    moving_room b = record { items = λ z. (fits_here z b).0; entries = λ z. (fits_here z b).1 }
 
-    pub moving-more : (v : Store) (ws' vs' : List ℕ) → length ws' ≡ length ws → length vs' ≡ length vs → ((z : Tagged) → PushedAll u (room_of 16 ws vs) tag (items_with t (get_or xs j z ∷ [])) v (room_of 16 ws' vs')) → MovingIn xs n t tag s ws₀ vs₀ v ws' vs' (j + 1)
-    moving-more v ws' vs' e f o =
+    pub moving_more : (v : Store) (ws' vs' : List ℕ) → length ws' ≡ length ws → length vs' ≡ length vs → ((z : Tagged) → PushedAll u (room_of 16 ws vs) tag (items_with t (get_or xs j z ∷ [])) v (room_of 16 ws' vs')) → MovingIn xs n t tag s ws₀ vs₀ v ws' vs' (j + 1)
+    moving_more v ws' vs' e f o =
         record {
           most = omega arith;
           numbers-are = e ∙ p.numbers-are;

@@ -72,9 +72,9 @@ own-group : (h : List ℕ) → 0 < count_in h → is_of (group_in h) h ≡ true
 unfolding is_of
 own-group h b = rw (ne_eqb (count_in h) 0 (λ z. omega arith), eq-eqb (group_in h) (group_in h) refl)
 
-pub took-finished : (k : ℕ) (ws vs : List ℕ) → ContextRoom ws vs → k < 16 → 0 < get_or ws (2 + k * 10) 0 → (ws' vs' : List ℕ) → length ws' ≡ length ws → length vs' ≡ length vs → TookPart 16 k ws vs ws' vs' → TookFinished k ws vs ws' vs'
+pub took_finished : (k : ℕ) (ws vs : List ℕ) → ContextRoom ws vs → k < 16 → 0 < get_or ws (2 + k * 10) 0 → (ws' vs' : List ℕ) → length ws' ≡ length ws → length vs' ≡ length vs → TookPart 16 k ws vs ws' vs' → TookFinished k ws vs ws' vs'
 unfolding waiting_of
-took-finished k ws vs w l b ws' vs' i j t =
+took_finished k ws vs w l b ws' vs' i j t =
     let e = w.room.numbers-are in
     let f = w.room.bytes-are in
     let r = room_of 16 ws vs in

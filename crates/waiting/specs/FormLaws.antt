@@ -1,8 +1,8 @@
 -- What waits after a part is put into a cell, and its counts. Assumes nothing.
-use Rattle.std.specs.Prelude.{Bool, true, false, cond, not, List, [], ◌∷◌, ◌++◌, ◌≡◌, ℕ, zero, suc, ◌*◌, ◌≤◌, ◌<◌, eqb, ltb, leb, get_or, None, Some}
+use Rattle.std.specs.Prelude.{Bool, true, false, cond, not, List, [], ◌∷◌, ◌++◌, ◌≡◌, ℕ, zero, suc, ◌*◌, ◌≤◌, ◌<◌, eqb, ltb, get_or, None, Some}
 use Rattle.std.proofs.Math.Path.{refl}
 use Rattle.std.proofs.Common.{sym, ap, ◌∙◌, arith}
-use borrow.Author.Tests.{ne_eqb, eqb-true, eqb-false, ltb-false, not-true}
+use borrow.Author.Tests.{ne_eqb, eqb-true, eqb-false, not-true}
 use Rattle.maps.specs.BoolLaws.{both_left, both_right}
 use Rattle.maps.specs.Lists.{or_else}
 use Rattle.maps.specs.OrderLaws.{split}
@@ -11,7 +11,7 @@ use Rattle.maps.specs.MapLaws.{pair}
 use Rattle.maps.specs.Cells.{holds}
 use Rattle.maps.proofs.CellLaws.{lookup_absent}
 use Rattle.rules.specs.Items as rules
-use Rattle.rules.specs.Items.{status_of}
+use Rattle.rules.specs.Items.{Status, begin, middle, end, status_of}
 use Rattle.rules.specs.Context.{Part}
 use Rattle.rules.specs.Waiting.{wait, accept}
 use Rattle.stores.specs.declared.Store.{Store}
@@ -23,75 +23,78 @@ use Rattle.room.specs.ChangeLaws.{waiting_at_lem, waiting-map_of}
 use Rattle.room.specs.Parts.{first_head, renewed_head, WroteIn}
 use Rattle.room.specs.PartLaws.{two-parts, first-waits, front-waits, Retagged, renewed-one, renewed_two}
 use Rattle.room.specs.RetagLaws.{retagged-other, retagged-more}
+use Rattle.log_batch.specs.Judged.{status_as, status_number}
+use Rattle.waiting.specs.declared.PartHead.{PartHead}
 use Rattle.waiting.specs.declared.Form as form
 use Rattle.waiting.specs.declared.Step as step
-use Rattle.waiting.specs.Steps.{is_of, is_free_cell, step_by, step_of, joined_status, joined_part, stepped}
+use Rattle.waiting.specs.Steps.{is_of, is_free_cell, AtCell, step_by, step_of, joined_status, joined_part, form_parts, stepped}
 use Rattle.waiting.specs.StepLaws.{accept_step}
 use Rattle.waiting.specs.Accepts.{parts_at}
-use Rattle.waiting.specs.Forms.{FormAt, form_parts, form_tag, joined_number, form_head, part_with, Freed}
+use Rattle.waiting.specs.Forms.{FormAt, form_tag, number_in, joined_number, form_head, part_with, Freed}
 
--- ---- what a step says of the numbers
+-- ---- the number of a status
 
-abbrev code : step.Step → ℕ
-code step.TheVariants.Replace = 0
-code step.TheVariants.Front = 1
-code step.TheVariants.Join = 2
-code step.TheVariants.Drop = 3
-code step.TheVariants.Finish = 4
-code step.TheVariants.Back = 5
+number-back : (st : Status) → status_of (status_number st) ≡ st
+unfolding status_of status_number
+number-back begin = refl
+number-back middle = refl
+number-back end = refl
 
-apart : {P : Type 0} (x y : step.Step) → x ≡ y → (code x ≡ code y → ⊥) → P
-apart x y e d = absurd (d (ap code e))
+-- ---- what a step says of the statuses: that of the part that comes, and the number of the newest one's
 
-abbrev steps : Bool → Bool → Bool → Bool → Bool → Bool → step.Step
-steps a b c d e f =
-    cond a (cond b step.TheVariants.Replace step.TheVariants.Front)
-    (cond c step.TheVariants.Drop (cond d step.TheVariants.Back (cond e step.TheVariants.Join (cond f step.TheVariants.Join step.TheVariants.Finish))))
+unfoldable Tells : step.Step → Status → ℕ → Type 0
+Tells (step.TheVariants.Wait form.TheVariants.First) st old = ⊥
+Tells (step.TheVariants.Wait form.TheVariants.Front) st old = (st ≡ begin) × (2 ≤ old)
+Tells (step.TheVariants.Wait form.TheVariants.Replace) st old = st ≡ begin
+Tells (step.TheVariants.Wait form.TheVariants.Join) st old = (st ≡ begin → ⊥) × (old ≡ 0 → st ≡ middle)
+Tells step.TheVariants.Drop st old = Unit
+Tells step.TheVariants.Finish st old = Unit
+Tells step.TheVariants.Back st old = Unit
 
-front-tests : (a b c d e f : Bool) → steps a b c d e f ≡ step.TheVariants.Front → (a ≡ true) × (b ≡ false)
-front-tests true true c d e f x = apart _ _ x (λ z. omega arith)
-front-tests true false c d e f x = (refl, refl)
-front-tests false b true d e f x = apart _ _ x (λ z. omega arith)
-front-tests false b false true e f x = apart _ _ x (λ z. omega arith)
-front-tests false b false false true f x = apart _ _ x (λ z. omega arith)
-front-tests false b false false false true x = apart _ _ x (λ z. omega arith)
-front-tests false b false false false false x = apart _ _ x (λ z. omega arith)
+back-tells : (b : Bool) (s : step.Step) (st : Status) (old : ℕ) → Tells s st old → Tells (cond b step.TheVariants.Back s) st old
+unfolding Tells
+back-tells true s st old t = tt
+back-tells false s st old t = t
 
-replace-tests : (a b c d e f : Bool) → steps a b c d e f ≡ step.TheVariants.Replace → a ≡ true
-replace-tests true b c d e f x = refl
-replace-tests false b true d e f x = apart _ _ x (λ z. omega arith)
-replace-tests false b false true e f x = apart _ _ x (λ z. omega arith)
-replace-tests false b false false true f x = apart _ _ x (λ z. omega arith)
-replace-tests false b false false false true x = apart _ _ x (λ z. omega arith)
-replace-tests false b false false false false x = apart _ _ x (λ z. omega arith)
+by-tells : (st : Status) (start old last : ℕ) → Tells (step_by st start (status_of old) last) st old
+unfolding Tells step_by status_of
+by-tells begin start zero last = refl
+by-tells begin start (suc zero) last = refl
+by-tells begin start (suc (suc n)) last = (refl, omega arith)
+by-tells middle start zero last = back-tells (ltb start last) (step.TheVariants.Wait form.TheVariants.Join) middle 0 (λ e. cc, λ z. refl)
+by-tells middle start (suc zero) last = back-tells (ltb start last) (step.TheVariants.Wait form.TheVariants.Join) middle 1 (λ e. cc, λ z. refl)
+by-tells middle start (suc (suc n)) last = tt
+by-tells end start zero last = back-tells (ltb start last) step.TheVariants.Finish end 0 tt
+by-tells end start (suc zero) last = back-tells (ltb start last) (step.TheVariants.Wait form.TheVariants.Join) end 1 (λ e. cc, λ z. absurd (omega arith))
+by-tells end start (suc (suc n)) last = tt
 
-join-tests : (a b c d e f : Bool) → steps a b c d e f ≡ step.TheVariants.Join → (a ≡ false) × (f ≡ false → e ≡ true)
-join-tests true true c d e f x = apart _ _ x (λ z. omega arith)
-join-tests true false c d e f x = apart _ _ x (λ z. omega arith)
-join-tests false b true d e f x = apart _ _ x (λ z. omega arith)
-join-tests false b false true e f x = apart _ _ x (λ z. omega arith)
-join-tests false b false false true f x = (refl, λ z. refl)
-join-tests false b false false false true x = (refl, λ z. sym z)
-join-tests false b false false false false x = apart _ _ x (λ z. omega arith)
+module _ (new : PartHead) (h : List ℕ) where
+  step-tells : (s : step.Step) → step_of new h ≡ s → Tells s (status_as new.status) (get_or h 3 0)
+  unfolding step_of
+  step-tells s e = rw e at (by-tells (status_as new.status) new.start (get_or h 3 0) (get_or h 5 0))
 
-module _ (st start : ℕ) (h : List ℕ) where
-  pub front-means : step_of st start h ≡ step.TheVariants.Front → (st ≡ 0) × (2 ≤ get_or h 3 0)
-  unfolding step_of step_by
-  front-means e =
-      let t = front-tests (eqb st 0) (ltb (get_or h 3 0) 2) (leb 2 (get_or h 3 0)) (ltb start (get_or h 5 0)) (eqb st 1) (eqb (get_or h 3 0) 1) e in
-      (eqb-true st 0 t.0, ltb-false (get_or h 3 0) 2 t.1)
+  never-first : step_of new h ≡ step.TheVariants.Wait form.TheVariants.First → ⊥
+  unfolding Tells
+  never-first e = step-tells _ e
 
-  pub replace-means : step_of st start h ≡ step.TheVariants.Replace → st ≡ 0
-  unfolding step_of step_by
-  replace-means e =
-      eqb-true st 0 (replace-tests (eqb st 0) (ltb (get_or h 3 0) 2) (leb 2 (get_or h 3 0)) (ltb start (get_or h 5 0)) (eqb st 1) (eqb (get_or h 3 0) 1) e)
+  pub front-means : step_of new h ≡ step.TheVariants.Wait form.TheVariants.Front → (status_as new.status ≡ begin) × (2 ≤ get_or h 3 0)
+  unfolding Tells
+  front-means e = step-tells _ e
 
-  pub join-means : step_of st start h ≡ step.TheVariants.Join → (1 ≤ st) × (get_or h 3 0 ≡ 0 → st ≡ 1)
-  unfolding step_of step_by
-  join-means e =
-      let t = join-tests (eqb st 0) (ltb (get_or h 3 0) 2) (leb 2 (get_or h 3 0)) (ltb start (get_or h 5 0)) (eqb st 1) (eqb (get_or h 3 0) 1) e in
-      let d = eqb-false st 0 t.0 in
-      (omega (arith, d), λ z. eqb-true st 1 (t.1 (ne_eqb (get_or h 3 0) 1 (λ y. omega arith))))
+  pub replace-means : step_of new h ≡ step.TheVariants.Wait form.TheVariants.Replace → status_as new.status ≡ begin
+  unfolding Tells
+  replace-means e = step-tells _ e
+
+  pub join-means : step_of new h ≡ step.TheVariants.Wait form.TheVariants.Join → (status_as new.status ≡ begin → ⊥) × (get_or h 3 0 ≡ 0 → status_as new.status ≡ middle)
+  unfolding Tells
+  join-means e = step-tells _ e
+
+-- a step that puts the part into the cell of its group says in which form
+pub form_here : (f : form.Form) (g n : ℕ) (hs : List ℕ) (k : ℕ) (new : PartHead) → AtCell g n hs k → step_of new (head_at k hs) ≡ step.TheVariants.Wait f → FormAt f g n hs k new
+form_here form.TheVariants.First g n hs k new a e = absurd (never-first new (head_at k hs) e)
+form_here form.TheVariants.Front g n hs k new a e = (a, e)
+form_here form.TheVariants.Replace g n hs k new a e = (a, e)
+form_here form.TheVariants.Join g n hs k new a e = (a, e)
 
 -- ---- a cell of the group
 
@@ -138,12 +141,12 @@ module _ (s : Store) (r : Room) (w : Wf s r) (g k : ℕ) (l : k < cell_count r.h
     unfolding parts_at or_else
     parts_here = rw (waiting_at_lem s r w k g (newest h xs ∷ others) l cell_here)
 
-    accept-newest : (new : Part) (st : ℕ) → new.status ≡ status_of st → accept (newest h xs ∷ others) new ≡ stepped (step_of st new.start h) (newest h xs) others new
+    accept-newest : (new : PartHead) (its : List rules.LogItem) → accept (newest h xs ∷ others) (part_with new its) ≡ stepped (step_of new h) (newest h xs) others (part_with new its)
     unfolding step_of newest
-    accept-newest new st e = accept_step (newest h xs) new others st (get_or h 3 0) refl e
+    accept-newest new its = accept_step (newest h xs) (part_with new its) others
 
-    pub accept_here : (new : Part) (st : ℕ) → new.status ≡ status_of st → accept (parts_at g (waiting_in s r)) new ≡ stepped (step_of st new.start h) (newest h xs) others new
-    accept_here new st e = ap (λ (ps : List Part). accept ps new) parts_here ∙ accept-newest new st e
+    pub accept_here : (new : PartHead) (its : List rules.LogItem) → accept (parts_at g (waiting_in s r)) (part_with new its) ≡ stepped (step_of new h) (newest h xs) others (part_with new its)
+    accept_here new its = ap (λ (ps : List Part). accept ps (part_with new its)) parts_here ∙ accept-newest new its
 
     -- there are one part or two
     pub by_parts : {P : Type 0} → (count_in h ≡ 1 → P) → (count_in h ≡ 2 → P) → P
@@ -156,28 +159,25 @@ module _ (s : Store) (r : Room) (w : Wf s r) (g k : ℕ) (l : k < cell_count r.h
     others_two z = rw z
 
     -- the newest part is renewed
-    module _ (st start last : ℕ) (its : List rules.LogItem) (t : Store) (q : Room) (o : Retagged k (renewed_head st start last h) (newest_tag h) its s r t q) where
-      renewed_here : (count_in h ≡ 2 → st ≡ 0) → Became g (Some (part_with st its start last ∷ others)) s r t q
+    module _ (st : Status) (start last : ℕ) (its : List rules.LogItem) (t : Store) (q : Room) (o : Retagged k (renewed_head (status_number st) start last h) (newest_tag h) its s r t q) where
+      renewed_here : (count_in h ≡ 2 → st ≡ begin) → Became g (Some (record { status = st; items = its; start = start; end = last } ∷ others)) s r t q
+      unfolding status_number
       renewed_here b =
+          let n = status_number st in
           by_parts
-          (λ z. rw (others-one z) (rw group_here at (renewed-one k st start last its s r t q w l o z)))
-          (λ z. rw (others_two z) (rw group_here at (renewed_two k st start last its s r t q w l o z (b z))))
+          (λ z. rw (others-one z) (rw (group_here, number-back st) at (renewed-one k n start last its s r t q w l o z)))
+          (λ z. rw (others_two z) (rw (group_here, number-back st) at (renewed_two k n start last its s r t q w l o z (ap status_number (b z)))))
 
 -- ---- joined parts
 
-joined-status : (old st : ℕ) → 1 ≤ st → joined_status (status_of old) (status_of st) ≡ status_of (joined_number old st)
-unfolding joined_status status_of joined_number
-joined-status old zero h = absurd (omega arith)
-joined-status old (suc zero) h = refl
-joined-status old (suc (suc m)) h = rw (ne_eqb (suc (suc m)) 1 (λ z. omega arith))
-
-joined_is : (h : List ℕ) (xs : List Tagged) (st start last : ℕ) (its : List rules.LogItem) → 1 ≤ st → joined_part (newest h xs) (part_with st its start last) ≡ part_with (joined_number (get_or h 3 0) st) (items_with (newest_tag h) xs ++ its) (get_or h 4 0) last
+-- the newest part of head h among ts with the part joined to it
+joined_is : (h : List ℕ) (ts : List Tagged) (new : PartHead) (its : List rules.LogItem) → joined_part (newest h ts) (part_with new its) ≡ record { status = joined_status (status_of (get_or h 3 0)) (status_as new.status); items = items_with (newest_tag h) ts ++ its; start = get_or h 4 0; end = new.end }
 unfolding joined_part newest
-joined_is h xs st start last its e i = record { status = joined-status (get_or h 3 0) st e i; items = items_with (newest_tag h) xs ++ its; start = get_or h 4 0; end = last }
+joined_is h ts new its = refl
 
-joined-begins : (old st : ℕ) → old ≡ 0 → (old ≡ 0 → st ≡ 1) → joined_number old st ≡ 0
-unfolding joined_number
-joined-begins old st e f = rw (f e, e)
+joined-begins : (old : ℕ) (st : Status) → old ≡ 0 → st ≡ middle → joined_status (status_of old) st ≡ begin
+unfolding joined_status status_of
+joined-begins old st e f = rw (f, e)
 
 -- ---- a group that does not wait
 
@@ -205,42 +205,42 @@ module _ (s : Store) (r : Room) (g : ℕ) (absent : (j : ℕ) → j < cell_count
 
 -- ---- a part is put into a cell
 
-module _ (s : Store) (r : Room) (w : Wf s r) (g k st start last : ℕ) (its : List rules.LogItem) where
+module _ (s : Store) (r : Room) (w : Wf s r) (g k : ℕ) (hd : PartHead) (its : List rules.LogItem) where
   abbrev head : List ℕ
   head = head_at k r.heads
 
   abbrev new : Part
-  new = part_with st its start last
+  new = part_with hd its
 
   abbrev parts : form.Form → List Part
   parts f = form_parts f (parts_at g (waiting_in s r)) new
 
   -- the rules make the same of it
-  pub form-accepts : (f : form.Form) → FormAt f g (cell_count r.heads) r.heads k st start → accept (parts_at g (waiting_in s r)) new ≡ wait (parts f)
+  pub form-accepts : (f : form.Form) → FormAt f g (cell_count r.heads) r.heads k hd → accept (parts_at g (waiting_in s r)) new ≡ wait (parts f)
   unfolding form_parts accept stepped
   form-accepts form.TheVariants.First a = rw (parts_none s r g a.absent)
   form-accepts form.TheVariants.Front a =
-      accept_here s r w g k a.0.inside a.0.here new st refl ∙ rw (a.1, parts_here s r w g k a.0.inside a.0.here)
+      accept_here s r w g k a.0.inside a.0.here hd its ∙ rw (a.1, parts_here s r w g k a.0.inside a.0.here)
   form-accepts form.TheVariants.Replace a =
-      accept_here s r w g k a.0.inside a.0.here new st refl ∙ rw (a.1, parts_here s r w g k a.0.inside a.0.here)
+      accept_here s r w g k a.0.inside a.0.here hd its ∙ rw (a.1, parts_here s r w g k a.0.inside a.0.here)
   form-accepts form.TheVariants.Join a =
-      accept_here s r w g k a.0.inside a.0.here new st refl ∙ rw (a.1, parts_here s r w g k a.0.inside a.0.here)
+      accept_here s r w g k a.0.inside a.0.here hd its ∙ rw (a.1, parts_here s r w g k a.0.inside a.0.here)
 
   module _ (t : Store) (q : Room) (u : Store) (p : Room) where
     abbrev Wrote : form.Form → Type 0
-    Wrote f = WroteIn k (form_head f k g st start last head) (form_tag f k head) its t q u p
+    Wrote f = WroteIn k (form_head f k g hd head) (form_tag f k head) its t q u p
 
-    first_form : FormAt form.TheVariants.First g (cell_count r.heads) r.heads k st start → Freed form.TheVariants.First s r (form_tag form.TheVariants.First k head) t q → Wrote form.TheVariants.First → Became g (Some (parts form.TheVariants.First)) s r u p
+    first_form : FormAt form.TheVariants.First g (cell_count r.heads) r.heads k hd → Freed form.TheVariants.First s r (form_tag form.TheVariants.First k head) t q → Wrote form.TheVariants.First → Became g (Some (parts form.TheVariants.First)) s r u p
     unfolding form_parts form_head form_tag is_free_cell
     first_form a e o =
-        let o' : WroteIn k (first_head k g st start last) (k * 2) its s r u p = rw (← e.0, ← e.1) o in
+        let o' : WroteIn k (first_head k g (number_in hd) hd.start hd.end) (k * 2) its s r u p = rw (← e.0, ← e.1) o in
         rw (parts_none s r g a.absent)
-        (first-waits k g st start last its s r u p w a.inside (eqb-true (count_in head) 0 a.free) o' (waits-not s r g a.absent))
+        (rw (number-back (status_as hd.status)) at (first-waits k g (number_in hd) hd.start hd.end its s r u p w a.inside (eqb-true (count_in head) 0 a.free) o' (waits-not s r g a.absent)))
 
-    front_form : FormAt form.TheVariants.Front g (cell_count r.heads) r.heads k st start → Freed form.TheVariants.Front s r (form_tag form.TheVariants.Front k head) t q → Wrote form.TheVariants.Front → Became g (Some (parts form.TheVariants.Front)) s r u p
-    unfolding form_parts form_head form_tag
+    front_form : FormAt form.TheVariants.Front g (cell_count r.heads) r.heads k hd → Freed form.TheVariants.Front s r (form_tag form.TheVariants.Front k head) t q → Wrote form.TheVariants.Front → Became g (Some (parts form.TheVariants.Front)) s r u p
+    unfolding form_parts form_head form_tag status_of status_number
     front_form a e o =
-        let m = front-means st start head a.1 in
+        let m = front-means hd head a.1 in
         let z = m.0 in
         let ends = m.1 in
         let in_Cell = a.0.inside in
@@ -248,31 +248,31 @@ module _ (s : Store) (r : Room) (w : Wf s r) (g k st start last : ℕ) (its : Li
         let o' = rw (e.0, e.1, z) at o in
         rw (parts_here s r w g k in_Cell here, z)
         (by_parts s r w g k in_Cell here
-        (λ one. rw (others-one s r w g k in_Cell here one) (rw (group_here s r w g k in_Cell here) at (front-waits k start last its s r u p w in_Cell one ends o')))
+        (λ one. rw (others-one s r w g k in_Cell here one) (rw (group_here s r w g k in_Cell here) at (front-waits k hd.start hd.end its s r u p w in_Cell one ends o')))
         (λ two. let b = (two-parts k head (items_in s r) two (w.cells k in_Cell)).begins in absurd (omega arith)))
 
-    replace_form : FormAt form.TheVariants.Replace g (cell_count r.heads) r.heads k st start → Freed form.TheVariants.Replace s r (form_tag form.TheVariants.Replace k head) t q → Wrote form.TheVariants.Replace → Became g (Some (parts form.TheVariants.Replace)) s r u p
+    replace_form : FormAt form.TheVariants.Replace g (cell_count r.heads) r.heads k hd → Freed form.TheVariants.Replace s r (form_tag form.TheVariants.Replace k head) t q → Wrote form.TheVariants.Replace → Became g (Some (parts form.TheVariants.Replace)) s r u p
     unfolding form_parts form_head form_tag
     replace_form a e o =
-        let z = replace-means st start head a.1 in
+        let z = replace-means hd head a.1 in
         rw (parts_here s r w g k a.0.inside a.0.here)
-        (renewed_here s r w g k a.0.inside a.0.here st start last its u p
-        (retagged-other s r (newest_tag head) t q w e k (renewed_head st start last head) its u p o) (λ two. z))
+        (renewed_here s r w g k a.0.inside a.0.here (status_as hd.status) hd.start hd.end its u p
+        (retagged-other s r (newest_tag head) t q w e k (renewed_head (number_in hd) hd.start hd.end head) its u p o) (λ two. z))
 
-    join_form : FormAt form.TheVariants.Join g (cell_count r.heads) r.heads k st start → Freed form.TheVariants.Join s r (form_tag form.TheVariants.Join k head) t q → Wrote form.TheVariants.Join → Became g (Some (parts form.TheVariants.Join)) s r u p
+    join_form : FormAt form.TheVariants.Join g (cell_count r.heads) r.heads k hd → Freed form.TheVariants.Join s r (form_tag form.TheVariants.Join k head) t q → Wrote form.TheVariants.Join → Became g (Some (parts form.TheVariants.Join)) s r u p
     unfolding form_parts form_head form_tag
     join_form a e o =
-        let m = join-means st start head a.1 in
+        let m = join-means hd head a.1 in
         let in_Cell = a.0.inside in
         let here = a.0.here in
-        let again = renewed_head (joined_number (get_or head 3 0) st) (get_or head 4 0) last head in
+        let again = renewed_head (joined_number hd head) (get_or head 4 0) hd.end head in
         let o' = rw (e.0, e.1) at o in
-        rw (parts_here s r w g k in_Cell here, joined_is head (items_in s r) st start last its m.0)
-        (renewed_here s r w g k in_Cell here (joined_number (get_or head 3 0) st) (get_or head 4 0) last (items_with (newest_tag head) (items_in s r) ++ its) u p
+        rw (parts_here s r w g k in_Cell here, joined_is head (items_in s r) hd its)
+        (renewed_here s r w g k in_Cell here (joined_status (status_of (get_or head 3 0)) (status_as hd.status)) (get_or head 4 0) hd.end (items_with (newest_tag head) (items_in s r) ++ its) u p
         (retagged-more k again (newest_tag head) its s r u p w o')
-        (λ two. joined-begins (get_or head 3 0) st (two-parts k head (items_in s r) two (w.cells k in_Cell)).begins m.1))
+        (λ two. let z = (two-parts k head (items_in s r) two (w.cells k in_Cell)).begins in joined-begins (get_or head 3 0) (status_as hd.status) z (m.1 z)))
 
-    pub form-waits : (f : form.Form) → FormAt f g (cell_count r.heads) r.heads k st start → Freed f s r (form_tag f k head) t q → Wrote f → Became g (Some (parts f)) s r u p
+    pub form-waits : (f : form.Form) → FormAt f g (cell_count r.heads) r.heads k hd → Freed f s r (form_tag f k head) t q → Wrote f → Became g (Some (parts f)) s r u p
     form-waits form.TheVariants.First = first_form
     form-waits form.TheVariants.Front = front_form
     form-waits form.TheVariants.Replace = replace_form

@@ -9,26 +9,19 @@ use Rattle.stores.specs.Tags.{count_tag}
 use Rattle.room.specs.Rooms.{Room, head_at, count_in, newest_tag, first_tag, other_tag}
 use Rattle.room.specs.Items.{TakenIn}
 use Rattle.room.specs.Parts.{first_head, front_head, renewed_head}
+use Rattle.log_batch.specs.Judged.{status_as, status_number}
+use Rattle.waiting.specs.declared.PartHead.{PartHead}
 use Rattle.waiting.specs.declared.Form as form
 use Rattle.waiting.specs.declared.Step as step
-use Rattle.waiting.specs.Steps.{FreeCell, AtCell, step_of, joined_part}
+use Rattle.waiting.specs.Steps.{FreeCell, AtCell, step_of, joined_status, form_parts}
 use Rattle.waiting.specs.Accepts.{parts_at}
 
--- where the form serves: a part with this status and first file comes to cell k
-abbrev pub FormAt : form.Form → ℕ → ℕ → List ℕ → ℕ → ℕ → ℕ → Type 0
-FormAt form.TheVariants.First g n hs k status start = FreeCell g n hs k
-FormAt form.TheVariants.Front g n hs k status start = AtCell g n hs k × (step_of status start (head_at k hs) ≡ step.TheVariants.Front)
-FormAt form.TheVariants.Replace g n hs k status start = AtCell g n hs k × (step_of status start (head_at k hs) ≡ step.TheVariants.Replace)
-FormAt form.TheVariants.Join g n hs k status start = AtCell g n hs k × (step_of status start (head_at k hs) ≡ step.TheVariants.Join)
-
--- a group's parts with the new one
-unfoldable pub form_parts : form.Form → List Part → Part → List Part
-form_parts form.TheVariants.First ps new = new ∷ ps
-form_parts form.TheVariants.Front ps new = new ∷ ps
-form_parts form.TheVariants.Replace [] new = new ∷ []
-form_parts form.TheVariants.Replace (p ∷ ps) new = new ∷ ps
-form_parts form.TheVariants.Join [] new = new ∷ []
-form_parts form.TheVariants.Join (p ∷ ps) new = joined_part p new ∷ ps
+-- where the form serves: a part with this head comes to cell k
+abbrev pub FormAt : form.Form → ℕ → ℕ → List ℕ → ℕ → PartHead → Type 0
+FormAt form.TheVariants.First g n hs k new = FreeCell g n hs k
+FormAt form.TheVariants.Front g n hs k new = AtCell g n hs k × (step_of new (head_at k hs) ≡ step.TheVariants.Wait form.TheVariants.Front)
+FormAt form.TheVariants.Replace g n hs k new = AtCell g n hs k × (step_of new (head_at k hs) ≡ step.TheVariants.Wait form.TheVariants.Replace)
+FormAt form.TheVariants.Join g n hs k new = AtCell g n hs k × (step_of new (head_at k hs) ≡ step.TheVariants.Wait form.TheVariants.Join)
 
 -- what waits with it
 unfoldable pub with_part : form.Form → ℕ → Part → Map ℕ (List Part) → Map ℕ (List Part)
@@ -49,18 +42,23 @@ Tagging form.TheVariants.Front k h = newest_tag h ≤ k * 4 + 1
 Tagging form.TheVariants.Replace k h = Unit
 Tagging form.TheVariants.Join k h = Unit
 
--- the status of a joined part, as a number
-unfoldable pub joined_number : ℕ → ℕ → ℕ
-joined_number old status = cond (eqb status 1) old status
+-- the number of a part's status in a head
+abbrev pub number_in : PartHead → ℕ
+number_in new = status_number (status_as new.status)
 
-unfoldable pub form_head : form.Form → ℕ → ℕ → ℕ → ℕ → ℕ → List ℕ → List ℕ
-form_head form.TheVariants.First k g status start last h = first_head k g status start last
-form_head form.TheVariants.Front k g status start last h = front_head k status start last h
-form_head form.TheVariants.Replace k g status start last h = renewed_head status start last h
-form_head form.TheVariants.Join k g status start last h = renewed_head (joined_number (get_or h 3 0) status) (get_or h 4 0) last h
+-- the number of the status of the newest part of head h with the part joined to it
+abbrev pub joined_number : PartHead → List ℕ → ℕ
+joined_number new h = status_number (joined_status (status_of (get_or h 3 0)) (status_as new.status))
 
-abbrev pub part_with : ℕ → List rules.LogItem → ℕ → ℕ → Part
-part_with status its start last = record { status = status_of status; items = its; start = start; end = last }
+unfoldable pub form_head : form.Form → ℕ → ℕ → PartHead → List ℕ → List ℕ
+form_head form.TheVariants.First k g new h = first_head k g (number_in new) new.start new.end
+form_head form.TheVariants.Front k g new h = front_head k (number_in new) new.start new.end h
+form_head form.TheVariants.Replace k g new h = renewed_head (number_in new) new.start new.end h
+form_head form.TheVariants.Join k g new h = renewed_head (joined_number new h) (get_or h 4 0) new.end h
+
+-- the part with this head and these items
+abbrev pub part_with : PartHead → List rules.LogItem → Part
+part_with new its = record { status = status_as new.status; items = its; start = new.start; end = new.end }
 
 -- ---- the items that leave for it
 

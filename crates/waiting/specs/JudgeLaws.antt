@@ -24,10 +24,11 @@ use Rattle.room.specs.ChangeLaws.{would-wait, waiting_at_lem, waiting-ascends, w
 use Rattle.room.specs.PartLaws.{counts-cons, counts-nil}
 use Rattle.room.specs.RetagLaws.{counts_with, taken-both}
 use Rattle.room.specs.LimitLaws.{fits_by}
+use Rattle.waiting.specs.declared.PartHead.{PartHead}
 use Rattle.waiting.specs.declared.Form as form
-use Rattle.waiting.specs.Steps.{is_free_cell, joined_part}
+use Rattle.waiting.specs.Steps.{is_free_cell, joined_part, form_parts}
 use Rattle.waiting.specs.Accepts.{parts_at}
-use Rattle.waiting.specs.Forms.{FormAt, form_parts, with_part, form_tag, lost_by, Freed, Keeps, used_from, form_groups}
+use Rattle.waiting.specs.Forms.{FormAt, with_part, form_tag, lost_by, Freed, Keeps, used_from, form_groups}
 use Rattle.waiting.specs.FormLaws.{cell_here, parts_here, waits-not}
 
 -- ---- the counts of a group's parts
@@ -147,7 +148,7 @@ same_left s t e =
     let n1 = n.1 in
     rw e (omega arith, omega arith)
 
-module _ (s : Store) (r : Room) (w : Wf s r) (g k st start : ℕ) where
+module _ (s : Store) (r : Room) (w : Wf s r) (g k : ℕ) (hd : PartHead) where
   abbrev head : List ℕ
   head = head_at k r.heads
 
@@ -155,12 +156,12 @@ module _ (s : Store) (r : Room) (w : Wf s r) (g k st start : ℕ) where
   Left f t =
       (t.items + (counts_for (lost_by f (parts_at g (waiting_in s r)))).items ≡ s.items) × (t.entries + (counts_for (lost_by f (parts_at g (waiting_in s r)))).entries ≡ s.entries)
 
-  lost-newest : FormAt form.TheVariants.Replace g (cell_count r.heads) r.heads k st start → lost_by form.TheVariants.Replace (parts_at g (waiting_in s r)) ≡ items_with (newest_tag head) (items_in s r)
+  lost-newest : FormAt form.TheVariants.Replace g (cell_count r.heads) r.heads k hd → lost_by form.TheVariants.Replace (parts_at g (waiting_in s r)) ≡ items_with (newest_tag head) (items_in s r)
   unfolding lost_by
   lost-newest a = rw (parts_here s r w g k a.0.inside a.0.here) (newest-items head (items_in s r))
 
   -- as the items are taken out
-  pub freed-left : (f : form.Form) (t : Store) (q : Room) → FormAt f g (cell_count r.heads) r.heads k st start → Freed f s r (form_tag f k head) t q → Left f t
+  pub freed-left : (f : form.Form) (t : Store) (q : Room) → FormAt f g (cell_count r.heads) r.heads k hd → Freed f s r (form_tag f k head) t q → Left f t
   unfolding lost_by form_tag
   freed-left form.TheVariants.First t q a o = same_left s t o.0
   freed-left form.TheVariants.Front t q a o = same_left s t o.0
@@ -176,7 +177,7 @@ module _ (s : Store) (r : Room) (w : Wf s r) (g k st start : ℕ) where
       count-is s (area_in r) w.stored r.tags (omega arith) (newest_tag head) ∙ sym (λ i. record { items = c.0 i; entries = c.1 i })
 
   -- as they are counted
-  pub kept-left : (f : form.Form) (t : Store) → FormAt f g (cell_count r.heads) r.heads k st start → Keeps f (newest_tag head) r.items r.tags s t → Left f t
+  pub kept-left : (f : form.Form) (t : Store) → FormAt f g (cell_count r.heads) r.heads k hd → Keeps f (newest_tag head) r.items r.tags s t → Left f t
   unfolding lost_by
   kept-left form.TheVariants.First t a o = same_left s t o
   kept-left form.TheVariants.Front t a o = same_left s t o
@@ -223,8 +224,8 @@ module _ (s : Store) (r : Room) (w : Wf s r) (g : ℕ) (new : Part) where
   groups_same f old e =
       length-insert-some numbers numbers_lawful g (form_parts f (parts_at g (waiting_in s r)) new) old (waiting_in s r) e (waiting-ascends s r)
 
-  module _ (k st start : ℕ) where
-    pub groups-after : (f : form.Form) → FormAt f g (cell_count r.heads) r.heads k st start → length (with_part f g new (waiting_in s r)) ≡ form_groups f (used_from (cell_count r.heads) 0 r.heads)
+  module _ (k : ℕ) (hd : PartHead) where
+    pub groups-after : (f : form.Form) → FormAt f g (cell_count r.heads) r.heads k hd → length (with_part f g new (waiting_in s r)) ≡ form_groups f (used_from (cell_count r.heads) 0 r.heads)
     unfolding form_groups
     groups-after form.TheVariants.First a = groups-more form.TheVariants.First (waits-not s r g a.absent) ∙ ap suc (groups-waiting s r w)
     groups-after form.TheVariants.Front a =
@@ -235,9 +236,9 @@ module _ (s : Store) (r : Room) (w : Wf s r) (g : ℕ) (new : Part) where
         groups_same form.TheVariants.Join _ (waiting_at_lem s r w k g _ a.0.inside (cell_here s r w g k a.0.inside a.0.here)) ∙ groups-waiting s r w
 
     -- the limits by the counts of what is left and of what comes
-    pub judged : (f : form.Form) (t c : Store) → FormAt f g (cell_count r.heads) r.heads k st start → Keeps f (newest_tag (head_at k r.heads)) r.items r.tags s t → c ≡ counts_for new.items → waiting_fits (with_part f g new (waiting_in s r)) ≡ (leb (form_groups f (used_from (cell_count r.heads) 0 r.heads)) 8 && leb (t.items + c.items) 64 && leb (t.entries + c.entries) 128)
+    pub judged : (f : form.Form) (t c : Store) → FormAt f g (cell_count r.heads) r.heads k hd → Keeps f (newest_tag (head_at k r.heads)) r.items r.tags s t → c ≡ counts_for new.items → waiting_fits (with_part f g new (waiting_in s r)) ≡ (leb (form_groups f (used_from (cell_count r.heads) 0 r.heads)) 8 && leb (t.items + c.items) 64 && leb (t.entries + c.entries) 128)
     judged f t c a o e =
-        let m = counts_with-part s r w f g new t (kept-left s r w g k st start f t a o) in
+        let m = counts_with-part s r w f g new t (kept-left s r w g k hd f t a o) in
         fits_by (with_part f g new (waiting_in s r)) ∙ rw (groups-after f a, m.0, m.1, e)
 
 -- ---- every cell is in use

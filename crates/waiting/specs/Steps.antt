@@ -1,11 +1,14 @@
 -- Where the parts of a group wait, and what becomes of a part that comes to them.
-use Rattle.std.specs.Prelude.{Option, Some, None, Bool, true, false, cond, ◌&&◌, not, List, ◌∷◌, ◌++◌, ◌≡◌, ℕ, ◌<◌, eqb, ltb, leb, get_or}
-use Rattle.rules.specs.Items.{Status, begin, middle, end}
+use Rattle.std.specs.Prelude.{Option, Some, None, Bool, true, false, cond, ◌&&◌, not, List, [], ◌∷◌, ◌++◌, ◌≡◌, ℕ, ◌<◌, eqb, ltb, get_or}
+use Rattle.cells.specs.declared.Slot.{Slot}
+use Rattle.cells.specs.declared.Slot.TheVariants.{At, Free, Full}
+use Rattle.rules.specs.Items.{Status, begin, middle, end, status_of}
 use Rattle.rules.specs.Context.{Part}
 use Rattle.rules.specs.Waiting.{Accepted, wait, finish, back}
 use Rattle.room.specs.Rooms.{head_at, count_in, group_in}
-use Rattle.waiting.specs.declared.Place.{Place}
-use Rattle.waiting.specs.declared.Place.TheVariants.{At, Free, Full}
+use Rattle.log_batch.specs.Judged.{status_as}
+use Rattle.waiting.specs.declared.PartHead.{PartHead}
+use Rattle.waiting.specs.declared.Form as form
 use Rattle.waiting.specs.declared.Step as step
 
 -- a cell has parts of group g; a cell has none
@@ -38,25 +41,27 @@ pub record NoCell (g n : ℕ) (hs : List ℕ) : Type 0 where
   pub full : (j : ℕ) → j < n → is_free_cell (head_at j hs) ≡ false
   pub absent : (j : ℕ) → j < n → is_of g (head_at j hs) ≡ false
 
-unfoldable pub Found : ℕ → ℕ → List ℕ → Place → Type 0
+unfoldable pub Found : ℕ → ℕ → List ℕ → Slot → Type 0
 Found g n hs (At k) = AtCell g n hs k
 Found g n hs (Free k) = FreeCell g n hs k
 Found g n hs Full = NoCell g n hs
 
 -- ---- the step, by the status and the first file of the part that comes, and the status and the last file of the newest one
 
-unfoldable pub step_by : ℕ → ℕ → ℕ → ℕ → step.Step
-step_by status start old last =
-    cond (eqb status 0)
-    (cond (ltb old 2) step.TheVariants.Replace step.TheVariants.Front)
-    (cond (leb 2 old)
-    step.TheVariants.Drop
-    (cond (ltb start last)
-    step.TheVariants.Back
-    (cond (eqb status 1) step.TheVariants.Join (cond (eqb old 1) step.TheVariants.Join step.TheVariants.Finish))))
+unfoldable pub step_by : Status → ℕ → Status → ℕ → step.Step
+step_by begin start begin last = step.TheVariants.Wait form.TheVariants.Replace
+step_by begin start middle last = step.TheVariants.Wait form.TheVariants.Replace
+step_by begin start end last = step.TheVariants.Wait form.TheVariants.Front
+step_by middle start begin last = cond (ltb start last) step.TheVariants.Back (step.TheVariants.Wait form.TheVariants.Join)
+step_by middle start middle last = cond (ltb start last) step.TheVariants.Back (step.TheVariants.Wait form.TheVariants.Join)
+step_by middle start end last = step.TheVariants.Drop
+step_by end start begin last = cond (ltb start last) step.TheVariants.Back step.TheVariants.Finish
+step_by end start middle last = cond (ltb start last) step.TheVariants.Back (step.TheVariants.Wait form.TheVariants.Join)
+step_by end start end last = step.TheVariants.Drop
 
-unfoldable pub step_of : ℕ → ℕ → List ℕ → step.Step
-step_of status start h = step_by status start (get_or h 3 0) (get_or h 5 0)
+-- the step of a part at a cell with head h
+unfoldable pub step_of : PartHead → List ℕ → step.Step
+step_of new h = step_by (status_as new.status) new.start (status_of (get_or h 3 0)) (get_or h 5 0)
 
 -- an End that joins makes an End
 unfoldable pub joined_status : Status → Status → Status
@@ -67,11 +72,18 @@ joined_status old end = end
 unfoldable pub joined_part : Part → Part → Part
 joined_part old new = record { status = joined_status old.status new.status; items = old.items ++ new.items; start = old.start; end = new.end }
 
+-- a group's parts with the new one
+unfoldable pub form_parts : form.Form → List Part → Part → List Part
+form_parts form.TheVariants.First ps new = new ∷ ps
+form_parts form.TheVariants.Front ps new = new ∷ ps
+form_parts form.TheVariants.Replace [] new = new ∷ []
+form_parts form.TheVariants.Replace (p ∷ ps) new = new ∷ ps
+form_parts form.TheVariants.Join [] new = new ∷ []
+form_parts form.TheVariants.Join (p ∷ ps) new = joined_part p new ∷ ps
+
 -- what a step makes of a group's parts: the newest, the older ones and the one that comes
 unfoldable pub stepped : step.Step → Part → List Part → Part → Accepted
-stepped step.TheVariants.Replace p ps new = wait (new ∷ ps)
-stepped step.TheVariants.Front p ps new = wait (new ∷ p ∷ ps)
-stepped step.TheVariants.Join p ps new = wait (joined_part p new ∷ ps)
+stepped (step.TheVariants.Wait f) p ps new = wait (form_parts f (p ∷ ps) new)
 stepped step.TheVariants.Drop p ps new = wait (p ∷ ps)
 stepped step.TheVariants.Finish p ps new = finish p ps
 stepped step.TheVariants.Back p ps new = back

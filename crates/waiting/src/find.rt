@@ -1,15 +1,19 @@
 // Where the parts of a group wait, and what becomes of a part that comes to them.
-#![tactic(auto, unfolding(crate::specs::Steps::is_of, crate::specs::Steps::is_free_cell, crate::specs::Steps::step_by, crate::specs::Steps::step_of, crate::specs::Steps::Found))]
+#![tactic(auto, unfolding(crate::specs::Steps::is_of, crate::specs::Steps::is_free_cell, crate::specs::Steps::step_by, crate::specs::Steps::step_of, crate::specs::Steps::Found, log_batch::specs::Judged::status_as))]
 
 ghost use Rattle.std.specs.Prelude.{◌≡◌, ◌+◌, ◌*◌, ◌<◌, length};
 ghost use Rattle.cells.specs.Part.{part};
+ghost use Rattle.log_batch.specs.Judged.{status_as};
 ghost use Rattle.room.specs.Rooms.{head_at};
 ghost use Rattle.waiting.specs.Steps.{is_of, is_free_cell, step_by, step_of, FirstOf, Found};
 
-use crate::{BEGIN, END, MIDDLE, Place, Step};
+use crate::{Form, PartHead, Step};
+use cells::Slot;
+use log_batch::mark::AtomicGroupStatus;
 use room::{HEAD_WIDTH, HEADS_AT};
 
 // Whether cell `k` has parts of a group.
+#[tactic(auto, using(crate::proofs::Finding::is_of_used, crate::proofs::Finding::is_of_free))]
 fn is_of(ws: &[u64], cells: usize, group: u64, k: usize) -> bool
     requires { (length ws.now ≡ 2 + cells * 218) × (k < cells) }
     ensures { result ≡ is_of group (head_at k (part 2 (cells * 10) ws.now)) }
@@ -27,6 +31,7 @@ fn cell_of(ws: &[u64], cells: usize, group: u64) -> Option<usize>
 }
 
 // Whether cell `k` is free.
+#[tactic(auto, using(crate::proofs::Finding::free_is))]
 fn is_free(ws: &[u64], cells: usize, k: usize) -> bool
     requires { (length ws.now ≡ 2 + cells * 218) × (k < cells) }
     ensures { result ≡ is_free_cell (head_at k (part 2 (cells * 10) ws.now)) }
@@ -43,45 +48,40 @@ fn free_cell(ws: &[u64], cells: usize) -> Option<usize>
 }
 
 // Where a group waits.
-pub fn find(ws: &[u64], cells: usize, group: u64) -> Place
+pub fn find(ws: &[u64], cells: usize, group: u64) -> Slot
     requires { length ws.now ≡ 2 + cells * 218 }
     ensures { Found group cells (part 2 (cells * 10) ws.now) result }
 {
     if let Some(k) = cell_of(ws, cells, group) {
-        return Place::At(k);
+        return Slot::At(k);
     }
     match free_cell(ws, cells) {
-        Some(k) => Place::Free(k),
-        None => Place::Full,
+        Some(k) => Slot::Free(k),
+        None => Slot::Full,
     }
 }
 
-// What becomes of a part with a status and a first file, by the status and the last file of the newest part.
-fn step_of(status: u64, start: u64, old: u64, end: u64) -> Step
-    ensures { result ≡ step_by status start old end }
+// What becomes of a part, by the status and the last file of the newest part.
+fn step_of(new: PartHead, old: AtomicGroupStatus, last: u64) -> Step
+    ensures { result ≡ step_by (status_as new.status) new.start (status_as old) last }
 {
-    if status == BEGIN {
-        if old < END {
-            Step::Replace
-        } else {
-            Step::Front
-        }
-    } else if old >= END {
-        Step::Drop
-    } else if start < end {
-        Step::Back
-    } else if status == MIDDLE || old == MIDDLE {
-        Step::Join
-    } else {
-        Step::Finish
+    match (new.status, old) {
+        (AtomicGroupStatus::Begin, AtomicGroupStatus::End) => Step::Wait(Form::Front),
+        (AtomicGroupStatus::Begin, _) => Step::Wait(Form::Replace),
+        (_, AtomicGroupStatus::End) => Step::Drop,
+        _ if new.start < last => Step::Back,
+        (AtomicGroupStatus::End, AtomicGroupStatus::Begin) => Step::Finish,
+        _ => Step::Wait(Form::Join),
     }
 }
 
 // The same for the newest part of cell `k`.
-pub fn step_at(ws: &[u64], cells: usize, k: usize, status: u64, start: u64) -> Step
+#[tactic(auto, using(crate::proofs::Finding::step_is))]
+pub fn step_at(ws: &[u64], cells: usize, k: usize, new: PartHead) -> Step
     requires { (length ws.now ≡ 2 + cells * 218) × (k < cells) }
-    ensures { result ≡ step_of status start (head_at k (part 2 (cells * 10) ws.now)) }
+    ensures { result ≡ step_of new (head_at k (part 2 (cells * 10) ws.now)) }
 {
     let at = HEADS_AT + k * HEAD_WIDTH;
-    step_of(status, start, ws[at + 3], ws[at + 5])
+    let old = AtomicGroupStatus::from(ws[at + 3]);
+    step_of(new, old, ws[at + 5])
 }

@@ -11,33 +11,23 @@ mod moves;
 
 pub use accept::{accept_batch, take_finished};
 pub use limits::count_used;
-use log_batch::mark;
+use log_batch::mark::AtomicGroupStatus;
 pub use merge::accept_part;
+pub use moves::PartItems;
 
-// The numbers of the statuses, as a mark's byte has them.
-pub const BEGIN: u64 = mark::BEGIN as u64;
-
-pub const MIDDLE: u64 = mark::MIDDLE as u64;
-
-pub const END: u64 = mark::END as u64;
-
-// Where the parts of a group wait: in a cell, or nowhere with a free cell for them, or nowhere and all are used.
+// What a part has beside its items: its status, and its first and its last file.
 #[derive(Clone, Copy)]
-pub enum Place {
-    At(usize),
-    Free(usize),
-    Full,
+pub struct PartHead {
+    pub status: AtomicGroupStatus,
+    pub start: u64,
+    pub end: u64,
 }
 
-// What becomes of a part that comes to the newest part of its group.
+// What becomes of a part that comes to the newest part of its group. It is what the rules answer (`step_of`), and no step to run.
 #[derive(Clone, Copy)]
 pub enum Step {
-    // it waits in place of the newest part
-    Replace,
-    // it waits in front of the newest part
-    Front,
-    // it joins the newest part
-    Join,
+    // it waits, put into the cell in a form other than `First`
+    Wait(Form),
     // it is dropped
     Drop,
     // it finishes the newest part
@@ -46,7 +36,7 @@ pub enum Step {
     Back,
 }
 
-// How a part that waits is put into a cell.
+// How a part that waits is put into a cell. Contracts say by it what the cell has afterwards (`form_head`), so it is data.
 #[derive(Clone, Copy)]
 pub enum Form {
     // as the first of its group

@@ -18,6 +18,7 @@ use stores::Store;
 use stores::count::count_tag;
 
 // 1 for a cell that is in use, 0 for a free one.
+#[tactic(auto, using(crate::proofs::Limiting::used_none, crate::proofs::Limiting::used_some))]
 fn used_at(ws: &[u64], cells: usize, k: usize) -> usize
     requires { (length ws.now ≡ 2 + cells * 218) × (k < cells) }
     ensures value { result ≡ cond (eqb (count_in (head_at k (part 2 (cells * 10) ws.now))) 0) 0 1 }

@@ -1,5 +1,6 @@
 // The items of a part of another room, added to a room with one tag.
-ghost use Rattle.std.specs.Prelude.{[], ◌∷◌, ◌≡◌, ◌+◌, ◌*◌, ◌≤◌, ◌<◌, length, get_or};
+ghost use Rattle.std.specs.Prelude.{List, [], ◌∷◌, ◌≡◌, ◌+◌, ◌*◌, ◌≤◌, ◌<◌, length, get_or};
+ghost use Rattle.rules.specs.Items as rules;
 ghost use Rattle.log_batch.specs.Lent.{item_of};
 ghost use Rattle.stores.specs.Written.{count_of, Lent};
 ghost use Rattle.stores.specs.Stores.{Stored};
@@ -13,7 +14,24 @@ ghost use Rattle.waiting.specs.Merges.{HasRoom, items_from};
 
 use log_batch::item::LogItem;
 use room::{CELLS, ENTRIES, ENTRIES_FROM, HEADS_AT, add, item_in, settle, tag_at};
+use std::marker::Model;
 use stores::Store;
+
+// The items of a part of another room: those that have its tag. The value is the list of them.
+#[derive(Drop)]
+pub struct PartItems<'a> {
+    pub numbers: &'a [u64],
+    pub bytes: &'a [u8],
+    pub tag: u64,
+}
+
+impl<'a> Model for PartItems<'a> {
+    ghost Value = { List rules.LogItem };
+
+    ghost view = { λ p. items_from p.numbers.now p.bytes.now p.tag };
+
+    ghost invariant = { λ p. RoomWf context_cells p.numbers.now p.bytes.now };
+}
 
 // Adds an item of another room with a tag, for which there is room.
 fn add_from(
@@ -85,7 +103,7 @@ pub fn push_part(
     all
 }
 
-// The same, and writes the head of their part.
+// Adds the items of a part of another room, for which there is room, with a tag, and writes the head of their part.
 pub fn move_part(
     ws: &mut [u64],
     vs: &mut [u8],
@@ -93,16 +111,13 @@ pub fn move_part(
     head: &[u64],
     store: Store,
     tag: u64,
-    us: &[u64],
-    ds: &[u8],
-    its: u64,
+    its: &PartItems,
 )
     requires ws_len { (length ws.old ≡ 2 + context_cells * 218) × (length vs.old ≡ context_cells * 512) × (k < context_cells) × (length head.now ≡ 10) }
     requires stored { Stored store (area_in (room_of context_cells ws.old vs.old)) }
-    requires room_wf { RoomWf context_cells us.now ds.now }
-    requires its_bound { (store.items + (counts_for (items_from us.now ds.now its)).items ≤ context_cells * 8) × (store.entries + (counts_for (items_from us.now ds.now its)).entries ≤ context_cells * 16) }
-    ensures { WroteIn k head.now tag (items_from us.now ds.now its) store (room_of context_cells ws.old vs.old) (store_of ws.new) (room_of context_cells ws.new vs.new) }
+    requires its_bound { (store.items + (counts_for its.now).items ≤ context_cells * 8) × (store.entries + (counts_for its.now).entries ≤ context_cells * 16) }
+    ensures { WroteIn k head.now tag its.now store (room_of context_cells ws.old vs.old) (store_of ws.new) (room_of context_cells ws.new vs.new) }
 {
-    let all = push_part(ws, vs, store, tag, us, ds, its);
+    let all = push_part(ws, vs, store, tag, its.numbers, its.bytes, its.tag);
     settle(ws, CELLS, k, head, all);
 }

@@ -28,8 +28,8 @@ use Rattle.worktable.specs.WorkLaws.{few_of, step-rule, step-stands, step_to, be
 use Rattle.worktable.specs.LayLaws.{entries-grown, span-beside, room-entries, room-keys, room-beside}
 
 -- a group's table is within the limits
-pub newer-few : (q d : List ℕ) → stretch.Wf q d → (length (table_in q d).entries ≤ 64) × (length (table_in q d).keys ≤ 16)
-newer-few q d w = few_of 64 16 (table_in q d) (table-room (table_in q d) (wf-fits q d w))
+pub newer_few : (q d : List ℕ) → stretch.Wf q d → (length (table_in q d).entries ≤ 64) × (length (table_in q d).keys ≤ 16)
+newer_few q d w = few_of 64 16 (table_in q d) (table-room (table_in q d) (wf-fits q d w))
 
 module _ (m : Mode) (newer t : Table) (p b : List ℕ) (s : Stands t p b) (few : (length newer.entries ≤ 64) × (length newer.keys ≤ 16)) (room : Within 320 144 (Some t))
     (r : ByCause (Unit {0})) (p₁ : List ℕ) (c : ChangedAt long_keys_at (entries_over m newer.entries) p b r p₁ b) (k : length p₁ ≡ length p) where
@@ -92,13 +92,13 @@ lent-part : (a n e : ℕ) (l : List ℕ) → e ≡ a + n → take (e - a) (drop 
 unfolding part
 lent-part a n e l h = rw (h, width a n)
 
-pub lent-short : (a n e : ℕ) (l : List ℕ) → e ≡ a + n → length (take (e - a) (drop a l)) ≤ n
-lent-short a n e l h = rw (lent-part a n e l h) (part-short a n l)
+pub lent_short : (a n e : ℕ) (l : List ℕ) → e ≡ a + n → length (take (e - a) (drop a l)) ≤ n
+lent_short a n e l h = rw (lent-part a n e l h) (part-short a n l)
 
 -- the numbers of entries and keys in a group's header
-pub header-few : (q d : List ℕ) → stretch.Wf q d → (get_or q 3 0 ≤ 64) × (get_or q 8 0 ≤ 16)
+pub header_few : (q d : List ℕ) → stretch.Wf q d → (get_or q 3 0 ≤ 64) × (get_or q 8 0 ≤ 16)
 unfolding head_part key_count entry_rows key_rows
-header-few q d w =
+header_few q d w =
     let l = w.numbers.numbers-are in
     let e : length (entry_rows q) ≡ 512 = length_part 10 512 q (omega arith) in
     let k : length (key_rows q) ≡ 64 = length_part 522 64 q (omega arith) in
@@ -112,7 +112,7 @@ module _ (p b q d : List ℕ) (l : length p ≡ long_numbers) (m : length b ≡ 
 
   few : ((head_part q).len ≤ 64) × (key_count q ≤ 16)
   unfolding head_part key_count
-  few = header-few q d w
+  few = header_few q d w
 
   abbrev numbers : List ℕ
   numbers = put (put p 0 (part 0 (10 + (head_part q).len * 8) q)) long_keys_at (part 522 (key_count q * 4) q)

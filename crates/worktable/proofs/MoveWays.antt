@@ -22,7 +22,7 @@ use Rattle.groups.specs.Area.{stretch_at, bytes_at, cell_at}
 use Rattle.worktable.specs.Work.{long_keys_at, long_numbers, long_bytes, work_in}
 use Rattle.worktable.specs.Moves.{work_at, work_bytes_at, area_numbers, area_bytes, long_in, long_bytes_in, Loaded, Fitting, Unloaded}
 use Rattle.worktable.specs.WorkLaws.{few_of, stands-own}
-use Rattle.worktable.proofs.LayWays.{header-few}
+use Rattle.worktable.proofs.LayWays.{header_few}
 
 -- s is laid in at place i of the n numbers from place c on
 module _ (c n i : ℕ) (l s : List ℕ) (h : i + length s ≤ n) (m : c + n ≤ length l) where
@@ -114,10 +114,10 @@ keys_in_lem k xs = get_or-part (k * 586) 586 xs 8 0 (omega arith)
 
 few-held : (q d : List ℕ) → stretch.Wf q d → ((head_part q).len ≤ 64) × (key_count q ≤ 16)
 unfolding head_part key_count
-few-held q d w = header-few q d w
+few-held q d w = header_few q d w
 
-pub load-few : (k : ℕ) (xs bs : List ℕ) → stretch.Wf (stretch_at k xs) (bytes_at k bs) → (get_or xs (k * 586 + 3) 0 ≤ 64) × (get_or xs (k * 586 + 8) 0 ≤ 16)
-load-few k xs bs w =
+pub load_few : (k : ℕ) (xs bs : List ℕ) → stretch.Wf (stretch_at k xs) (bytes_at k bs) → (get_or xs (k * 586 + 3) 0 ≤ 64) × (get_or xs (k * 586 + 8) 0 ≤ 16)
+load_few k xs bs w =
     let f = few-held (stretch_at k xs) (bytes_at k bs) w in
     let a = entries-in k xs in
     let b = keys_in_lem k xs in
@@ -255,8 +255,8 @@ work-few xs bs t =
     let s = stands-own (long_in xs) (long_bytes_in bs) t.wf t.used in
     few-work (long_in xs) (long_bytes_in bs) (ap table_fits s.table ∙ t.fits)
 
-pub unload-few : (xs bs : List ℕ) → Fitting xs bs → (get_or xs (work_at + 3) 0 ≤ 64) × (get_or xs (work_at + 8) 0 ≤ 16)
-unload-few xs bs t =
+pub unload_few : (xs bs : List ℕ) → Fitting xs bs → (get_or xs (work_at + 3) 0 ≤ 64) × (get_or xs (work_at + 8) 0 ≤ 16)
+unload_few xs bs t =
     let f = work-few xs bs t in
     let a = long-entries xs in
     let b = long-keys xs in

@@ -30,6 +30,7 @@ pub fn provide(p: &mut [u64])
 }
 
 // Carries out a change on the table, which is made if it is absent.
+#[tactic(auto, unfolding(crate::specs::Calls::ReadyTo))]
 fn change_table(p: &mut [u64], b: &mut [u8], change: Change, rows: &[u64], key: &[u8], value: &[u8])
     requires wf { Wf p.old b.old }
     requires taken { Taken (Deed.Change change) rows.now key.now value.now (work_in p.old b.old) }
@@ -41,6 +42,7 @@ fn change_table(p: &mut [u64], b: &mut [u8], change: Change, rows: &[u64], key: 
 }
 
 // Carries out a deed that is not refused, and whose result there is room for.
+#[tactic(auto, using(crate::specs::WorkLaws::skipped), unfolding(crate::specs::Calls::deed_to, rules::specs::Causes::left))]
 pub fn act(p: &mut [u64], b: &mut [u8], deed: Deed, rows: &[u64], key: &[u8], value: &[u8])
     requires wf { Wf p.old b.old }
     requires taken { Taken deed rows.now key.now value.now (work_in p.old b.old) }

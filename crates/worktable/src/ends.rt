@@ -18,6 +18,7 @@ const MOST_ENTRIES: u64 = MAX_ENTRIES as u64;
 const MOST_KEYS: u64 = MAX_KEYS as u64;
 
 // Sets the span of a finished atomic group, whose table is made if it is absent; files may not go back.
+#[tactic(auto, using(crate::proofs::EndWays::span_set))]
 pub fn set_span(p: &mut [u64], start: u64, end: u64) -> Result<(), Cause>
     requires { length p.old ≡ 3722 }
     ensures { (b : List ℕ) → Wf p.old b → Ends (and_then (spanned (record { start = start; end = end }) (made (work_in p.old b))) (λ t. Ok (Some t))) result p.new b }
@@ -27,6 +28,7 @@ pub fn set_span(p: &mut [u64], start: u64, end: u64) -> Result<(), Cause>
 }
 
 // Whether the table is there.
+#[tactic(auto, unfolding(stretch::specs::Stretch::is_used))]
 pub fn is_there(p: &[u64]) -> bool
     requires { 10 ≤ length p.now }
     ensures { result ≡ is_used p.now }
@@ -35,6 +37,7 @@ pub fn is_there(p: &[u64]) -> bool
 }
 
 // Whether the table that is there is within the limits of a group.
+#[tactic(auto, using(crate::proofs::EndWays::too_large, crate::proofs::EndWays::fits_by))]
 pub fn fits(p: &[u64]) -> bool
     requires { 10 ≤ length p.now }
     ensures { (b : List ℕ) → is_used p.now ≡ true → result ≡ table_fits (made (work_in p.now b)) }

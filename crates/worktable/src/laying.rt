@@ -16,6 +16,7 @@ use pipe_log::{Cause, ENTRY_WIDTH, Span};
 use stretch::{COUNTED, ENTRIES_AT, ENTRY_COUNT, KEY_COUNT};
 
 // The rows of entries in use of a group's stretch.
+#[tactic(auto, using(crate::proofs::LayWays::width), unfolding(cells::specs::Part::part))]
 fn rows_of(q: &[u64], count: usize) -> &[u64]
     requires { (length q.now ≡ 586) × (count ≤ 64) }
     ensures { result.now ≡ part 10 (count * 8) q.now }
@@ -46,6 +47,7 @@ fn lay_entries(p: &mut [u64], q: &[u64], mode: Mode) -> Result<(), Cause>
 
 // Lays a newer table's span over that of the table: a merge of Append tables replaces it, one of Rewrite tables sets it, and the join
 // leaves it.
+#[tactic(auto, using(stretch::specs::Laws::unchanged, crate::proofs::LayWays::span_none), unfolding(crate::specs::Calls::span_laid, rules_by_group::specs::Group::span_over, rules_by_group::specs::Group::spanned_by))]
 fn lay_span(p: &mut [u64], span: Option<Span>, mode: Mode) -> Result<(), Cause>
     requires { 10 ≤ length p.old }
     ensures { (b : List ℕ) → WfAt 3082 p.old b → ChangedAt 3082 (span_laid mode span) p.old b result p.new b }
@@ -64,6 +66,7 @@ fn lay_span(p: &mut [u64], span: Option<Span>, mode: Mode) -> Result<(), Cause>
 }
 
 // Lays a newer group's stretch over the table that is there.
+#[tactic(auto, using(crate::specs::LayLaws::head_for, crate::proofs::LayWays::newer_few, crate::proofs::LayWays::lay_done), unfolding(memtable::specs::Views::table_of, stretch::specs::Stretch::table_at, stretch::specs::Stretch::table_in))]
 fn lay_table(p: &mut [u64], b: &mut [u8], q: &[u64], d: &[u8], mode: Mode) -> Result<(), Cause>
     requires stands { Stands (table_at long_keys_at p.old b.old) p.old b.old }
     requires wf { held.Wf q.now d.now }
@@ -79,6 +82,7 @@ fn lay_table(p: &mut [u64], b: &mut [u8], q: &[u64], d: &[u8], mode: Mode) -> Re
 }
 
 // Makes the table a newer group's, which the live counts leave out.
+#[tactic(auto, using(crate::proofs::LayWays::header_few, crate::proofs::LayWays::lent_short))]
 fn adopt(p: &mut [u64], b: &mut [u8], q: &[u64], d: &[u8])
     requires p_len { (length p.old ≡ 3722) × (length b.old ≡ 10240) }
     requires wf { held.Wf q.now d.now × (is_used q.now ≡ true) }

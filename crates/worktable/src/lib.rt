@@ -14,7 +14,7 @@ pub use moves::{load, unload};
 use pipe_log::ENTRY_WIDTH;
 use stretch::ENTRIES_AT;
 
-// The rows of entries and of keys that the long stretch has.
+// The rows of entries and of keys that the long stretch has. There is no heap and C lends the area, so its header counts those in use.
 const ENTRY_ROWS: usize = 384;
 
 const KEY_ROWS: usize = 160;
@@ -31,7 +31,8 @@ pub const WORK_AT: usize = 13509;
 
 pub const WORK_BYTES_AT: usize = 28672;
 
-// How a newer table is laid over: by the merge of two Append or of two Rewrite contexts, or by the join.
+// How a newer table is laid over: by the merge of two Append or of two Rewrite contexts, or by the join. Contracts say by it which rule
+// the answer follows, so it is data and not a step to run.
 #[derive(Clone, Copy)]
 pub enum Mode {
     Append,

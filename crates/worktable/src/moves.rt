@@ -13,6 +13,7 @@ use pipe_log::ENTRY_WIDTH;
 use stretch::{BYTES, ENTRIES_AT, ENTRY_COUNT, KEY_COUNT, STRETCH};
 
 // Copies stretch k, which is used, to the long stretch.
+#[tactic(auto, using(crate::proofs::MoveWays::load_few))]
 pub fn load(xs: &mut [u64], bs: &mut [u8], k: usize)
     requires k_bound { (k < 8) × (17231 ≤ length xs.old) × (38912 ≤ length bs.old) }
     requires wf { held.Wf (stretch_at k xs.old) (bytes_at k bs.old) × (is_used (stretch_at k xs.old) ≡ true) }
@@ -32,6 +33,7 @@ pub fn load(xs: &mut [u64], bs: &mut [u8], k: usize)
 }
 
 // Copies the work table, which fits, to spare stretch k, as that of a group.
+#[tactic(auto, using(crate::proofs::MoveWays::unload_few))]
 pub fn unload(xs: &mut [u64], bs: &mut [u8], k: usize, group: u64)
     requires k_bound { (k < 8) × (17231 ≤ length xs.old) × (38912 ≤ length bs.old) }
     requires fitting { Fitting xs.old bs.old }

@@ -15,13 +15,13 @@ use Rattle.stretch.specs.Layout.{keys_at}
 use Rattle.stretch.specs.Stretch.{WfAt}
 use Rattle.stretch.specs.Changes as any
 use Rattle.stretch.specs.Laws.{wf_any}
-use Rattle.groups.specs.declared.Slot.{Slot}
-use Rattle.groups.specs.declared.Slot.TheVariants.{Free, Full}
+use Rattle.cells.specs.declared.Slot.{Slot}
+use Rattle.cells.specs.declared.Slot.TheVariants.{Free, Full}
 use Rattle.groups.specs.Area.{stretch_at, bytes_at, groups_of, Wf, Found, AtSlot}
 use Rattle.groups.specs.AreaLaws.{only-drop}
 use Rattle.groups.specs.Calls.{ChangedAt}
 use Rattle.groups.specs.Laws.{found-free, found-full, lookup-free, lookup-full}
-use Rattle.groups.proofs.Applying.{lent-numbers, lent-bytes, changed_back, at-changed}
+use Rattle.groups.proofs.Applying.{lent_numbers, lent-bytes, changed_back, at-changed}
 use Rattle.writes.specs.Finishes.{SpannedGroup}
 
 module _ (k : ℕ) (s : Span) (xs p : List ℕ) (r : ByCause (Unit {0})) (l : k < 8) (h : 9376 ≤ length xs)
@@ -33,7 +33,7 @@ module _ (k : ℕ) (s : Span) (xs p : List ℕ) (r : ByCause (Unit {0})) (l : k 
 
   module _ (g : ℕ) (bs : List ℕ) (w : Wf xs bs) (a : AtSlot g xs k) where
     lent_wf : WfAt keys_at (take (k * 586 + 586 - k * 586) (drop (k * 586) xs)) (take (k * 1024 + 1024 - k * 1024) (drop (k * 1024) bs))
-    lent_wf = rw (lent-numbers k xs, lent-bytes k bs) (wf_any (stretch_at k xs) (bytes_at k bs) (w.used k l a.used))
+    lent_wf = rw (lent_numbers k xs, lent-bytes k bs) (wf_any (stretch_at k xs) (bytes_at k bs) (w.used k l a.used))
 
     width : (n m : ℕ) → n + m - n ≡ m
     width n m = omega arith

@@ -1,16 +1,15 @@
 // An atomic group that a batch finishes: the items that waited and the batch's own are carried out, the span is set, and the part
 // that waited is taken out.
 ghost use Rattle.std.specs.Prelude.{true, List, ◌∷◌, ◌≡◌, ℕ, ◌+◌, ◌*◌, ◌≤◌, ◌<◌, length, get_or};
-ghost use Rattle.std.specs.Prelude.{None, Some};
+ghost use Rattle.std.specs.Prelude.{Some};
 ghost use Rattle.maps.specs.Lists.{every};
 ghost use Rattle.maps.specs.MapLaws.{pair};
 ghost use Rattle.rules.specs.Items.{Rewrite, placed_from, replay_rewrite};
-ghost use Rattle.rules.specs.Checks.{checks};
 ghost use Rattle.rules.specs.Context.{Part, context};
 ghost use Rattle.rules.specs.Waiting.{replay_marked};
 ghost use Rattle.rules_by_group.specs.Kept.{is_passed};
 ghost use Rattle.rules_by_group.specs.Kept.{KeptAt};
-ghost use Rattle.log_batch.specs.Lent.{items_of};
+ghost use Rattle.log_batch.specs.Batch.{items_in};
 ghost use Rattle.groups.specs.Undo.{Undoable};
 ghost use Rattle.room.specs.Rooms.{cell_of};
 ghost use Rattle.room.specs.Batches.{unmarked};
@@ -25,6 +24,7 @@ use crate::spans::set_span;
 use crate::stored::{holds_any, run_own, run_stored};
 use batches::go_back;
 use contexts::{WAITING_BYTES_FROM, WAITING_FROM};
+use log_batch::RewriteReplay;
 use log_batch::mark::Mark;
 use pipe_log::Refusal;
 use room::NEWEST_AT;
@@ -35,20 +35,14 @@ const TAG: usize = NEWEST_AT;
 const START: usize = NEWEST_AT + 2;
 
 // Whether a finished group has an item, one that waited with the tag or one of the batch's own.
-fn has_items(xs: &[u64], tag: u64, items: &[u64], entries: &[u64], bytes: &[u8]) -> bool
-    requires xs_len { (length xs.now ≡ 17231) × (waiting_count xs.now ≤ 128) }
-    requires bytes_value { checks replay_rewrite (items_of items.now entries.now bytes.now) ≡ None }
-    ensures { (at : ℕ) (bs : List ℕ) → Formed xs.now bs → HasAny result (both_items at tag (items_of items.now entries.now bytes.now) xs.now bs) }
+fn has_items(xs: &[u64], tag: u64, replay: &RewriteReplay) -> bool
+    requires { (length xs.now ≡ 17231) × (waiting_count xs.now ≤ 128) }
+    ensures { (at : ℕ) (bs : List ℕ) → Formed xs.now bs → HasAny result (both_items at tag (items_in replay.now.batch) xs.now bs) }
 {
     if holds_any(xs, tag) {
         return true;
     }
-    let counts = room::count_batch(items, entries, bytes);
-    let n = counts.items;
-    if n == 0 {
-        return false;
-    }
-    true
+    room::count_batch(replay).items != 0
 }
 
 // Carries out the items that waited with the tag, then the batch's own, and sets the span from the part's start to the batch's file.
@@ -59,20 +53,17 @@ fn run_both(
     start: u64,
     mark: Mark,
     seq: u64,
-    items: &[u64],
-    entries: &[u64],
-    bytes: &[u8],
+    replay: &RewriteReplay,
 ) -> Result<(), Refusal>
     requires formed { Formed xs.old bs.old }
     requires undoable { Undoable xs.old bs.old }
-    requires bytes_value { checks replay_rewrite (items_of items.now entries.now bytes.now) ≡ None }
     requires bs_value { every is_passed (stored_from tag 0 xs.old bs.old) ≡ true }
     requires keeping { Keeping replay_rewrite (context_of xs.old bs.old) }
-    ensures { Ended (both_run mark.at tag mark.raft_group_id (record { start = start; end = seq }) (items_of items.now entries.now bytes.now) xs.old bs.old) xs.old bs.old result xs.new bs.new }
+    ensures { Ended (both_run mark.at tag mark.raft_group_id (record { start = start; end = seq }) (items_in replay.now.batch) xs.old bs.old) xs.old bs.old result xs.new bs.new }
 {
     let at = mark.at;
     run_stored(xs, bs, tag, at)?;
-    run_own(xs, bs, items, entries, bytes)?;
+    run_own(xs, bs, replay)?;
     set_span(xs, bs, mark.raft_group_id, start, seq, at)
 }
 
@@ -84,23 +75,20 @@ fn finish_items(
     start: u64,
     mark: Mark,
     seq: u64,
-    items: &[u64],
-    entries: &[u64],
-    bytes: &[u8],
+    replay: &RewriteReplay,
 ) -> Result<(), Refusal>
     requires formed { Formed xs.old bs.old }
-    requires bytes_value { checks replay_rewrite (items_of items.now entries.now bytes.now) ≡ None }
     requires bs_value { every is_passed (stored_from tag 0 xs.old bs.old) ≡ true }
     requires keeping { Keeping replay_rewrite (context_of xs.old bs.old) }
-    ensures { AnsweredKept (finish_stored mark.at tag mark.raft_group_id (record { start = start; end = seq }) (items_of items.now entries.now bytes.now) xs.old bs.old) xs.old bs.old result xs.new bs.new }
+    ensures { AnsweredKept (finish_stored mark.at tag mark.raft_group_id (record { start = start; end = seq }) (items_in replay.now.batch) xs.old bs.old) xs.old bs.old result xs.new bs.new }
 {
-    if !has_items(xs, tag, items, entries, bytes) {
+    if !has_items(xs, tag, replay) {
         return Ok(());
     }
     let a = groups::NUMBERS;
     let counts = lists::counts_in(&xs[a..]);
     groups::begin(xs);
-    let answer = run_both(xs, bs, tag, start, mark, seq, items, entries, bytes);
+    let answer = run_both(xs, bs, tag, start, mark, seq, replay);
     if let Err(refusal) = answer {
         go_back(xs, bs, counts);
         return Err(refusal);
@@ -137,19 +125,16 @@ pub fn finish(
     k: usize,
     mark: Mark,
     seq: u64,
-    items: &[u64],
-    entries: &[u64],
-    bytes: &[u8],
+    replay: &RewriteReplay,
 ) -> Result<(), Refusal>
     requires formed { Formed xs.old bs.old }
     requires kept_at { KeptAt (context Rewrite) (context_of xs.old bs.old) }
-    requires bytes_value { checks replay_rewrite (items_of items.now entries.now bytes.now) ≡ None }
-    requires finishing { Finishing mark.raft_group_id (part_for mark.byte seq (unmarked (items_of items.now entries.now bytes.now))) k (waiting_numbers xs.old) (waiting_bytes bs.old) }
-    ensures { Answered (replay_marked (record { at = mark.at; group = mark.raft_group_id; byte = mark.byte }) seq (placed_from 0 (items_of items.now entries.now bytes.now))) xs.old bs.old result xs.new bs.new }
+    requires finishing { Finishing mark.raft_group_id (part_for mark.byte seq (unmarked (items_in replay.now.batch))) k (waiting_numbers xs.old) (waiting_bytes bs.old) }
+    ensures { Answered (replay_marked (record { at = mark.at; group = mark.raft_group_id; byte = mark.byte }) seq (placed_from 0 (items_in replay.now.batch))) xs.old bs.old result xs.new bs.new }
 {
     let tag = head_number(xs, k, TAG);
     let start = head_number(xs, k, START);
-    finish_items(xs, bs, tag, start, mark, seq, items, entries, bytes)?;
+    finish_items(xs, bs, tag, start, mark, seq, replay)?;
     take_waiting(xs, bs, k);
     Ok(())
 }

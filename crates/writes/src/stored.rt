@@ -1,12 +1,11 @@
 // The items of an atomic group that finishes: those that waited, and then the batch's own.
 ghost use Rattle.std.specs.Prelude.{true, List, ◌≡◌, ℕ, ◌≤◌, ◌<◌, length};
-ghost use Rattle.std.specs.Prelude.{None, Some};
+ghost use Rattle.std.specs.Prelude.{Some};
 ghost use Rattle.maps.specs.Lists.{every};
 ghost use Rattle.rules.specs.Items.{placed_from, replay_rewrite};
-ghost use Rattle.rules.specs.Checks.{checks};
 ghost use Rattle.rules.specs.Context.{limited, run};
 ghost use Rattle.rules_by_group.specs.Kept.{is_passed};
-ghost use Rattle.log_batch.specs.Lent.{items_of};
+ghost use Rattle.log_batch.specs.Batch.{items_in};
 ghost use Rattle.groups.specs.Undo.{Undoable};
 ghost use Rattle.room.specs.Items.{ItemCopied};
 ghost use Rattle.contexts.specs.Contexts.{waiting_numbers, waiting_bytes, context_of, Formed};
@@ -15,9 +14,9 @@ ghost use Rattle.writes.specs.Finishes.{waiting_count, stored_from, run_stored, 
 
 use batches::{carry_out, turn};
 use contexts::{WAITING_BYTES_FROM, WAITING_FROM};
-use log_batch::Call;
 use log_batch::item::LogItem;
 use log_batch::open::row_count;
+use log_batch::{Call, RewriteReplay};
 use pipe_log::{Cause, ENTRY_WIDTH, Refusal};
 use room::MAX_ENTRIES;
 use stores::row::ITEM_BYTES;
@@ -138,22 +137,15 @@ pub fn holds_any(xs: &[u64], tag: u64) -> bool
 }
 
 // Carries out the batch's own items, in order, where more may follow.
-pub fn run_own(
-    xs: &mut [u64],
-    bs: &mut [u8],
-    items: &[u64],
-    entries: &[u64],
-    bytes: &[u8],
-) -> Result<(), Refusal>
+pub fn run_own(xs: &mut [u64], bs: &mut [u8], replay: &RewriteReplay) -> Result<(), Refusal>
     requires formed { Formed xs.old bs.old }
     requires undoable { Undoable xs.old bs.old }
-    requires bytes_value { checks replay_rewrite (items_of items.now entries.now bytes.now) ≡ None }
     requires keeping { Keeping replay_rewrite (context_of xs.old bs.old) }
-    ensures { Ran (run limited replay_rewrite (placed_from 0 (items_of items.now entries.now bytes.now))) xs.old bs.old result xs.new bs.new }
+    ensures { Ran (run limited replay_rewrite (placed_from 0 (items_in replay.now.batch))) xs.old bs.old result xs.new bs.new }
 {
-    let n = row_count(items);
+    let n = row_count(&replay.batch);
     for i in 0..n {
-        if let Err(cause) = turn(xs, bs, Call::ReplayRewrite, items, entries, bytes, i, false) {
+        if let Err(cause) = turn(xs, bs, Call::ReplayRewrite, &replay.batch, i, false) {
             return Err(Refusal {
                 cause,
                 place: Some(i),

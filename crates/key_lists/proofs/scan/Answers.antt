@@ -3,8 +3,6 @@ use mathlib.Core.Path.{sym, ◌∙◌}
 use Prim.Native.Nat.{◌≤◌}
 use native.Mathlib.Omega.{arith}
 use Rattle.std.specs.Prelude.{option_copied}
-use Rattle.kvs.specs.Rows.{keys_in}
-use Rattle.kvs.specs.RowLaws.{length-keys}
 use Rattle.kvs.specs.Places.{below_bound}
 use Rattle.kvs.specs.Stretches.{low-high}
 use Rattle.key_lists.proofs.Answers.{scan-bounds, scan-none, scan-stretch}
@@ -18,13 +16,15 @@ returns-then-start_above_end c = λ t k.
       | then-start_above_end-via-else-start_above_end+then-count-eq0 w ↦ scan-none _ t k _ _ _ _ _ _ (sym c.start_above_end.ensures ∙ w.if-start_above_end.false) w.if-count-eq0.true
     ]
 
-pub fill_stretch-requires-clause-low_le_high : goal.fill_stretch-requires-clause-low_le_high
-fill_stretch-requires-clause-low_le_high c =
-    let m = keys_in c.args.n c.args.rows.now c.args.bytes.now in
-    let l : below_bound 0 (option_copied c.args.start) m ≤ below_bound c.args.n (option_copied c.args.end) m =
-    rw (length-keys c.args.n c.args.rows.now c.args.bytes.now) at (low-high m c.requires.ascending (option_copied c.args.start) (option_copied c.args.end) (sym c.start_above_end.ensures ∙ c.if-start_above_end.false)) in
+pub fill_stretch-requires : goal.fill_stretch-requires
+fill_stretch-requires c =
+    let m = c.args.keys.now in
+    let start = option_copied c.args.start in
+    let end = option_copied c.args.end in
+    let l : below_bound 0 start m ≤ below_bound c.len.result end m =
+    rw c.len.ensures.value (low-high m c.len.ensures.ascending start end (sym c.start_above_end.ensures ∙ c.if-start_above_end.false)) in
     (omega (arith, c.below_bound-low.ensures.value, c.below_bound-high.ensures.value), c.below_bound-high.ensures.upper_bound)
 
 pub returns : goal.returns
 returns c =
-    λ t k. scan-stretch (keys_in c.args.n c.args.rows.now c.args.bytes.now) t k (option_copied c.args.start) (option_copied c.args.end) c.args.backwards c.args.count _ _ _ _ _ c.args.n _ _ c.requires.ascending (sym c.start_above_end.ensures ∙ c.if-start_above_end.false) c.if-count-eq0.false (length-keys c.args.n c.args.rows.now c.args.bytes.now) c.below_bound-low.ensures.value c.below_bound-high.ensures.value c.fill_stretch.ensures
+    λ t k. scan-stretch c.args.keys.now t k (option_copied c.args.start) (option_copied c.args.end) c.args.backwards c.args.count _ _ _ _ _ c.len.result _ _ c.len.ensures.ascending (sym c.start_above_end.ensures ∙ c.if-start_above_end.false) c.if-count-eq0.false (sym c.len.ensures.value) c.below_bound-low.ensures.value c.below_bound-high.ensures.value c.fill_stretch.ensures

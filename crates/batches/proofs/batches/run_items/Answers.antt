@@ -12,7 +12,7 @@ loop-i-init c = under-start _ _ _ _ _ c.args.xs.now c.args.bs.now _ _ _ c.requir
 
 pub turn-requires : goal.turn-requires
 turn-requires c =
-    record { formed = c.loop-i.invariant.formed; undoable = (c.loop-i.invariant.going c.loop-i-test.true).undoable; i_bound = rw c.row_count-n.ensures at c.loop-i-test.true; bytes_value = c.requires.bytes_value; keeping = c.loop-i.invariant.own }
+    record { formed = c.loop-i.invariant.formed; undoable = (c.loop-i.invariant.going c.loop-i-test.true).undoable; i_bound = rw c.row_count-n.ensures at c.loop-i-test.true; passed = c.requires.passed; keeping = c.loop-i.invariant.own }
 
 pub go_back-requires : goal.go_back-requires
 go_back-requires c =
@@ -23,7 +23,7 @@ returns-in-Err c =
     under-refused _ _ _ _ _ _ _ _ _ _ _ _ c.loop-i.invariant c.loop-i-test.true _ _ _ _ _ (rw c.in-Err.is at c.turn.ensures) c.go_back.ensures _ _ (begun-context c.args.xs.now c.args.bs.now _ c.requires.formed (c.begin.ensures _ c.requires.formed.groups)) c.row_count-n.ensures
 
 pub loop-i-preserved : goal.loop-i-preserved
-loop-i-preserved c = under_more _ _ _ _ _ _ _ _ _ _ _ _ c.loop-i.invariant c.loop-i-test.true c.row_count-n.ensures c.requires.bytes_value _ _ (rw c.in_default.is at c.turn.ensures)
+loop-i-preserved c = under_more _ _ _ _ _ _ _ _ _ _ _ _ c.loop-i.invariant c.loop-i-test.true c.row_count-n.ensures c.requires.passed _ _ (rw c.in_default.is at c.turn.ensures)
 
 pub returns : goal.returns
 returns c =

@@ -12,16 +12,22 @@ pub returns-in_default : goal.returns-in_default
 returns-in_default c = rw c.append_call.ensures at c.run_list.ensures
 
 pub rows_in-rows-requires : goal.rows_in-rows-requires
-rows_in-rows-requires c = rw c.list_content.ensures (list-within (append_call c.args.live) c.args.items.now c.args.entries.now c.args.bytes.now c.requires.single_list)
+rows_in-rows-requires c =
+    let batch = c.args.batch.now in
+    rw c.list_item.ensures (list-within (append_call c.args.live) batch.items.now batch.entries.now batch.bytes.now c.requires.single_list)
 
 pub bounds-rows-0 : goal.bounds-rows-0
-bounds-rows-0 c = rw (c.rows_in-rows.ensures, c.list_content.ensures) (list-rows (append_call c.args.live) c.args.items.now c.args.entries.now c.args.bytes.now c.requires.single_list)
+bounds-rows-0 c =
+    let batch = c.args.batch.now in
+    rw (c.rows_in-rows.ensures, c.list_item.ensures) (list-rows (append_call c.args.live) batch.items.now batch.entries.now batch.bytes.now c.requires.single_list)
 
 pub append_at-requires : goal.append_at-requires
 unfolding Ready
 append_at-requires c =
-    record { wf = c.requires.formed.groups; at_slot = found_at_lem _ _ _ _ c.find-slot.ensures c.in-At.is; lent = rw (c.rows_in-rows.ensures, c.list_content.ensures) (list-ready (append_call c.args.live) c.args.items.now c.args.entries.now c.args.bytes.now c.requires.single_list _ (append-change c.args.live _) c.args.xs.now c.args.bs.now c.requires.formed c.requires.keeping) }
+    let batch = c.args.batch.now in
+    record { wf = c.requires.formed.groups; at_slot = found_at_lem _ _ _ _ c.find-slot.ensures c.in-At.is; lent = rw (c.rows_in-rows.ensures, c.list_item.ensures) (list-ready (append_call c.args.live) batch.items.now batch.entries.now batch.bytes.now c.requires.single_list _ (append-change c.args.live _) c.args.xs.now c.args.bs.now c.requires.formed c.requires.keeping) }
 
 pub returns : goal.returns
 returns c =
-    rw c.told.ensures (list-answer (append_call c.args.live) c.args.items.now c.args.entries.now c.args.bytes.now c.requires.single_list _ (append-change c.args.live _) c.args.xs.now c.args.bs.now c.requires.formed _ _ _ (rw c.in-At.is at c.find-slot.ensures) (rw (c.rows_in-rows.ensures, c.list_content.ensures) at c.append_at.ensures))
+    let batch = c.args.batch.now in
+    rw c.told.ensures (list-answer (append_call c.args.live) batch.items.now batch.entries.now batch.bytes.now c.requires.single_list _ (append-change c.args.live _) c.args.xs.now c.args.bs.now c.requires.formed _ _ _ (rw c.in-At.is at c.find-slot.ensures) (rw (c.rows_in-rows.ensures, c.list_item.ensures) at c.append_at.ensures))

@@ -2,27 +2,24 @@
 use Rattle.rules.specs.Causes.{Ok}
 use Rattle.rules.specs.TableQueries.{fetch_rewritten_entry_indexes}
 use Rattle.queries.specs.PlaceLaws.{asked-absent}
-use Rattle.queries.proofs.Ways.{numbers-there, entries_wf, by_entries_lem}
+use Rattle.queries.proofs.Ways.{entries_wf, by_entries_lem}
 use Rattle.columns.proofs.SliceWays.{range-there, fetched-refused}
 use Rattle.columns.proofs.fetch.fetch_rewritten_entry_indexes.Goals as goal
 
 pub returns-in_err-k : goal.returns-in_err-k
-returns-in_err-k c = fetched-refused (asked-absent _ _ _ _ _ _ (c.place_of.ensures _ c.requires) c.in_err-k.was) c.from_residual.result c.from_residual.ensures.1
-
-pub head_at-head-requires : goal.head_at-head-requires
-head_at-head-requires c = numbers-there ((c.place_of.ensures _ c.requires).at _ c.in_ok-k.was) c.requires
+returns-in_err-k c = rw (← c.area.view_is) (fetched-refused (asked-absent _ _ _ _ _ _ (c.place_of.ensures.stands _ c.area.invariant) c.in_err-k.was) c.from_residual.result c.from_residual.ensures.1)
 
 pub returns-in_err-range : goal.returns-in_err-range
 returns-in_err-range c =
-    let s = (c.place_of.ensures _ c.requires).at _ c.in_ok-k.was in
-    fetched-refused (by_entries_lem s c.head_at-head.ensures (λ t. Ok (fetch_rewritten_entry_indexes t)) c.entry_rows-rows.ensures _ (rw c.in_err-range.was at (c.range_rewritten.ensures _ (entries_wf s c.head_at-head.ensures c.entry_rows-rows.ensures))).rule) c.from_residual-in_err-range.result c.from_residual-in_err-range.ensures.1
+    let s = (c.place_of.ensures.stands _ c.area.invariant).at _ c.in_ok-k.was in
+    rw (← c.area.view_is) (fetched-refused (by_entries_lem s c.head_at-head.ensures (λ t. Ok (fetch_rewritten_entry_indexes t)) c.entry_rows-rows.ensures _ (rw c.in_err-range.was at (c.range_rewritten.ensures _ (entries_wf s c.head_at-head.ensures c.entry_rows-rows.ensures))).rule) c.from_residual-in_err-range.result c.from_residual-in_err-range.ensures.1)
 
 pub answer_rows-requires : goal.answer_rows-requires
 answer_rows-requires c =
-    let s = (c.place_of.ensures _ c.requires).at _ c.in_ok-k.was in
+    let s = (c.place_of.ensures.stands _ c.area.invariant).at _ c.in_ok-k.was in
     record { wf = entries_wf s c.head_at-head.ensures c.entry_rows-rows.ensures; range_bound = (rw c.in_ok-range.was at (c.range_rewritten.ensures _ (entries_wf s c.head_at-head.ensures c.entry_rows-rows.ensures))).within }
 
 pub returns : goal.returns
 returns c =
-    let s = (c.place_of.ensures _ c.requires).at _ c.in_ok-k.was in
-    range-there s c.head_at-head.ensures (λ t. Ok (fetch_rewritten_entry_indexes t)) c.entry_rows-rows.ensures _ (rw c.in_ok-range.was at (c.range_rewritten.ensures _ (entries_wf s c.head_at-head.ensures c.entry_rows-rows.ensures))) c.answer_rows.ensures
+    let s = (c.place_of.ensures.stands _ c.area.invariant).at _ c.in_ok-k.was in
+    rw (← c.area.view_is) (range-there s c.head_at-head.ensures (λ t. Ok (fetch_rewritten_entry_indexes t)) c.entry_rows-rows.ensures _ (rw c.in_ok-range.was at (c.range_rewritten.ensures _ (entries_wf s c.head_at-head.ensures c.entry_rows-rows.ensures))) c.answer_rows.ensures)

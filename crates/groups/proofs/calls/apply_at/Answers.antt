@@ -1,12 +1,12 @@
 -- `groups::calls::apply_at` meets its contract. Assumes nothing.
 use Rattle.stretch.specs.Changes.{rule_of}
 use Rattle.stretch.specs.Laws.{wf_any, table-short}
-use Rattle.groups.proofs.Applying.{lent-numbers, lent-bytes, changed_back, leaves_back}
+use Rattle.groups.proofs.Applying.{lent_numbers, lent-bytes, changed_back, leaves_back}
 use Rattle.groups.proofs.calls.apply_at.Goals as goal
 
 pub apply-requires : goal.apply-requires
 apply-requires c =
-    rw (lent-numbers c.args.k c.args.xs.now, lent-bytes c.args.k c.args.bs.now) (let w = c.requires.wf.used c.args.k c.requires.k_bound.0 c.requires.k_bound.1 in
+    rw (lent_numbers c.args.k c.args.xs.now, lent-bytes c.args.k c.args.bs.now) (let w = c.requires.wf.used c.args.k c.requires.k_bound.0 c.requires.k_bound.1 in
     record { wf_at = wf_any _ _ w; ready = rw (table-short _ _ w.numbers.numbers-are) c.requires.ready })
 
 pub returns : goal.returns

@@ -1,15 +1,8 @@
 -- `groups::undoing::save_header` meets its contract. Assumes nothing.
-use native.Mathlib.Omega.{arith}
 use Rattle.groups.specs.Undo.{mark_at}
-use Rattle.groups.proofs.Savings.{entries-in, kept-none, header-saved}
+use Rattle.groups.proofs.Savings.{kept-none, header-saved}
 use Rattle.groups.proofs.Securings.{marked_already}
 use Rattle.groups.proofs.undoing.save_header.Goals as goal
-
-pub overflow_mul-xs : goal.overflow_mul-xs
-overflow_mul-xs c = omega (arith, entries-in c.args.k c.args.xs.now (omega arith), c.requires)
-
-pub overflow_add-xs : goal.overflow_add-xs
-overflow_add-xs c = omega (arith, entries-in c.args.k c.args.xs.now (omega arith), c.requires)
 
 pub returns-then-xs-to-eq0 : goal.returns-then-xs-to-eq0
 unfolding mark_at

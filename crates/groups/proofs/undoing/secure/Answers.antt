@@ -1,8 +1,6 @@
 -- `groups::undoing::secure` meets its contract. Assumes nothing.
-use Rattle.groups.specs.declared.Slot.TheVariants.{Full}
-use Rattle.groups.specs.Undo.{ReadyFor}
 use Rattle.groups.specs.Laws.{found_at_lem, found-free}
-use Rattle.groups.proofs.Securings.{restorable, secured-change, secured-made, nothing-secured, full-ready}
+use Rattle.groups.proofs.Securings.{restorable, secured-change, secured-made}
 use Rattle.groups.proofs.undoing.secure.Goals as goal
 
 pub secure_used-requires : goal.secure_used-requires
@@ -18,6 +16,3 @@ returns-in-At c =
 pub returns-in-Free : goal.returns-in-Free
 returns-in-Free c =
     let a = found-free _ _ _ _ c.requires.found c.in-Free.is in rw c.in-Free.is (secured-made _ c.args.xs.now c.args.bs.now _ _ a.inside c.requires.wf c.requires.undoable c.args.change c.secure_free.ensures)
-
-pub returns-in-Full : goal.returns-in-Full
-returns-in-Full c = rw c.in-Full.is (nothing-secured (ReadyFor c.args.change Full) c.args.xs.now c.args.bs.now c.requires.wf c.requires.undoable (full-ready c.args.change c.args.xs.now))

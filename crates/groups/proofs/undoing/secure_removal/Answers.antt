@@ -1,9 +1,7 @@
 -- `groups::undoing::secure_removal` meets its contract. Assumes nothing.
-use Rattle.groups.specs.declared.Slot.TheVariants.{Free, Full}
-use Rattle.groups.specs.Undo.{ReadyToGo}
 use Rattle.groups.specs.Laws.{found_at_lem}
 use Rattle.groups.proofs.Savings.{entries-few}
-use Rattle.groups.proofs.Securings.{restorable, secured_removal, nothing-secured, free-ready, none-ready}
+use Rattle.groups.proofs.Securings.{restorable, secured_removal}
 use Rattle.groups.proofs.undoing.secure_removal.Goals as goal
 
 pub save_header-requires : goal.save_header-requires
@@ -12,9 +10,3 @@ save_header-requires c = let a = found_at_lem _ _ _ _ c.requires.found c.in-At.i
 pub returns-in-At : goal.returns-in-At
 returns-in-At c =
     let a = found_at_lem _ _ _ _ c.requires.found c.in-At.is in rw c.in-At.is (secured_removal _ c.args.xs.now c.args.bs.now _ _ a.inside c.requires.wf c.requires.undoable (c.save_header.ensures c.args.bs.now (restorable _ c.args.xs.now c.args.bs.now a.inside c.requires.wf c.requires.undoable) a.used))
-
-pub returns-in-Free : goal.returns-in-Free
-returns-in-Free c = rw c.in-Free.is (nothing-secured (ReadyToGo (Free _)) c.args.xs.now c.args.bs.now c.requires.wf c.requires.undoable (free-ready _ c.args.xs.now))
-
-pub returns-in-Full : goal.returns-in-Full
-returns-in-Full c = rw c.in-Full.is (nothing-secured (ReadyToGo Full) c.args.xs.now c.args.bs.now c.requires.wf c.requires.undoable (none-ready c.args.xs.now))

@@ -1,7 +1,7 @@
 -- `groups::undoing::undo_at` meets its contract. Assumes nothing.
 use native.Mathlib.Omega.{arith}
 use Rattle.groups.specs.Undo.{mark_at}
-use Rattle.groups.proofs.Restorings.{undone-stays, undone-gone, front-ready, undone-front, undone_all}
+use Rattle.groups.proofs.Restorings.{undone-stays, undone-gone, undone-front, undone_all}
 use Rattle.groups.proofs.undoing.undo_at.Goals as goal
 
 pub returns-then-mark-eq0 : goal.returns-then-mark-eq0
@@ -11,16 +11,6 @@ returns-then-mark-eq0 c = undone-stays c.args.k c.args.xs.now c.args.bs.now c.re
 pub returns-then-mark-eq1 : goal.returns-then-mark-eq1
 unfolding mark_at
 returns-then-mark-eq1 c = rw c.free_at.ensures (undone-gone c.args.k c.args.xs.now c.args.bs.now c.requires c.if-mark-eq1.true)
-
-pub restore_front-requires : goal.restore_front-requires
-unfolding mark_at
-restore_front-requires c =
-    let saved = c.requires.saved (omega (arith, c.if-mark-eq0.false, c.if-mark-eq1.false)) in record { k_bound = (c.requires.inside, c.requires.numbers_fit, omega (arith, c.if-mark-eq0.false, c.if-mark-eq1.false)); xs_bound = (saved.rows, saved.room) }
-
-pub restore_keys-requires : goal.restore_keys-requires
-unfolding mark_at
-restore_keys-requires c =
-    let ready = front-ready c.args.k c.args.xs.now c.args.bs.now c.requires _ (omega (arith, c.if-mark-eq0.false, c.if-mark-eq1.false)) c.restore_front.ensures in record { k_bound = (c.requires.inside, ready.0, c.requires.bytes_fit); xs_bound = ready.1 }
 
 pub returns-then-mark-eq1-2 : goal.returns-then-mark-eq1-2
 unfolding mark_at

@@ -1,9 +1,12 @@
 -- `key_lists::copies::chosen` meets its contract. Assumes nothing.
-use Rattle.key_lists.proofs.Answers.{meets_gate, meets-rewrite}
+use Rattle.kvs.proofs.Queues.{same_queue_is}
+use Rattle.key_lists.specs.Lists.{meets}
 use Rattle.key_lists.proofs.copies.chosen.Goals as goal
 
-pub returns-in-UpTo : goal.returns-in-UpTo
-returns-in-UpTo c = meets_gate _ _ _ _ _ _ c.in-UpTo.is c.up_to.ensures
+pub returns-else-eq : goal.returns-else-eq
+unfolding meets
+returns-else-eq c = rw (c.in-UpTo.is, ← c.file-file.ensures, ← same_queue_is, ← c.eq.ensures, c.if-eq.false)
 
 pub returns-in-OfRewrite : goal.returns-in-OfRewrite
-returns-in-OfRewrite c = meets-rewrite _ _ _ _ _ c.in-OfRewrite.is c.is_of.ensures
+unfolding meets
+returns-in-OfRewrite c = rw (c.in-OfRewrite.is, ← c.file-file.ensures, ← same_queue_is) c.eq-in-OfRewrite.ensures

@@ -5,4 +5,4 @@ use Rattle.key_lists.proofs.Answers.{Copying}
 use Rattle.key_lists.proofs.copies.copy_chosen.Given as goal
 
 abbrev pub invariant-loop-s : goal.invariant-loop-s
-invariant-loop-s l = (length l.lens ≡ length l.initial.lens) × (length l.out ≡ length l.initial.out) × Copying l.which l.n l.rows l.bytes l.backwards l.limit l.initial.lens l.initial.out l.s l.j l.lens l.out
+invariant-loop-s l = (length l.lens ≡ length l.initial.lens) × (length l.out ≡ length l.initial.out) × Copying l.which l.keys l.backwards l.limit l.initial.lens l.initial.out l.s l.j l.lens l.out

@@ -1,23 +1,18 @@
 -- `key_lists::copies::copy_stretch` meets its contract: after each turn the first j rows of the stretch are laid in. Assumes nothing.
 use mathlib.Core.Path.{refl, ap, ◌∙◌}
 use Prim.Native.Nat.{◌+◌}
-use Rattle.kvs.specs.RowIn.{row_in}
 use Rattle.key_lists.specs.Lists.{row_lens, row_bytes}
 use Rattle.key_lists.proofs.Stretched.{stretch-none, stretch-more}
 use borrow.Author.Rules.{rules}
-use native.Mathlib.Omega.{arith}
 use Rattle.key_lists.proofs.copies.copy_stretch.Goals as goal
 
 pub loop-j-init : goal.loop-j-init
 loop-j-init c = (refl, refl, refl, stretch-none row_lens _, stretch-none row_bytes _)
 
-pub copy_row-requires-clause-row_in : goal.copy_row-requires-clause-row_in
-copy_row-requires-clause-row_in c = row_in c.args.n _ _ _ c.requires.wf (omega arith)
-
 pub loop-j-preserved : goal.loop-j-preserved
 loop-j-preserved c =
-    let more = stretch-more c.args.n c.args.rows.now c.args.bytes.now c.args.low c.args.high c.args.backwards (search rules) (search rules) in
-    let i = ap (λ k. c.args.low + k) c.row_of.ensures.value in (
+    let more = stretch-more c.args.keys.now c.args.low c.args.high c.args.backwards (search rules) (search rules) in
+    let i = ap (λ k. c.args.low + k) c.place_of.ensures.value in (
       search rules,
       c.copy_row.auto.lens ∙ c.loop-j.invariant.1,
       c.copy_row.auto.out ∙ c.loop-j.invariant.2,

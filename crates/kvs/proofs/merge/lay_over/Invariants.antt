@@ -2,8 +2,7 @@
 use Rattle.kvs.proofs.Merges.{Laying}
 use mathlib.Core.Path.{◌≡◌}
 use lib.ListN.{length}
-use Rattle.kvs.specs.Rows.{keys_in}
 use Rattle.kvs.proofs.merge.lay_over.Given as goal
 
 abbrev pub invariant-loop-j : goal.invariant-loop-j
-invariant-loop-j l = (length l.rows ≡ length l.initial.rows) × (length l.bytes ≡ length l.initial.bytes) × Laying l.n l.initial.rows l.initial.bytes (keys_in l.m l.newrows l.newbytes) l.j l.count l.rows l.bytes
+invariant-loop-j l = (length l.rows ≡ length l.initial.rows) × (length l.bytes ≡ length l.initial.bytes) × Laying l.n l.initial.rows l.initial.bytes l.newer l.j l.count l.rows l.bytes

@@ -5,4 +5,4 @@ use Rattle.log_batch.proofs.CheckLaws.{Scanned}
 use Rattle.log_batch.proofs.checks.check.Given as goal
 
 abbrev pub invariant-loop-i : goal.invariant-loop-i
-invariant-loop-i l = Scanned (call_of l.call) (mark_as l.mark) l.items l.entries l.bytes (row_count_of l.items) l.best l.i
+invariant-loop-i l = Scanned (call_of l.call) (mark_as l.mark) l.batch.items.now l.batch.entries.now l.batch.bytes.now (row_count_of l.batch.items.now) l.best l.i

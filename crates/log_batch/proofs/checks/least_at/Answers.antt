@@ -14,10 +14,10 @@ returns-then-i-eq-MAX_ITEMS c = rw (least_by _ _ _ _, eq-eqb _ _ c.if-i-eq-MAX_I
 pub returns-in_default : goal.returns-in_default
 returns-in_default c =
     let args = c.args in
-    rw (item-is args.entries.now args.bytes.now (drop (args.i * 9) args.items.now) _ (sym c.open_item.ensures.value ∙ c.in_default.is)) (sym (least-refused _ _ _ _ _ _ c.if-i-eq-MAX_ITEMS.false))
+    rw (item-is args.batch.now.entries.now args.batch.now.bytes.now (drop (args.i * 9) args.batch.now.items.now) _ (sym c.open_item.ensures.value ∙ c.in_default.is)) (sym (least-refused _ _ _ _ _ _ c.if-i-eq-MAX_ITEMS.false))
 
 pub returns : goal.returns
 unfolding opened_of
 returns c =
     let args = c.args in
-    rw (item-is args.entries.now args.bytes.now (drop (args.i * 9) args.items.now) _ (sym c.open_item.ensures.value ∙ c.in-Ok.is)) c.least_of.ensures
+    rw (item-is args.batch.now.entries.now args.batch.now.bytes.now (drop (args.i * 9) args.batch.now.items.now) _ (sym c.open_item.ensures.value ∙ c.in-Ok.is)) c.least_of.ensures

@@ -7,4 +7,4 @@ use Rattle.log_batch.specs.Lent.{row_count_of, items_from, items_of}
 use Rattle.log_batch.proofs.mark.first_mark.Given as goal
 
 abbrev pub invariant-loop-i : goal.invariant-loop-i
-invariant-loop-i l = first_mark 0 (items_of l.items l.entries l.bytes) ≡ first_mark l.i (items_from l.entries l.bytes (row_count_of l.items - l.i) (drop (l.i * 9) l.items))
+invariant-loop-i l = first_mark 0 (items_of l.batch.items.now l.batch.entries.now l.batch.bytes.now) ≡ first_mark l.i (items_from l.batch.entries.now l.batch.bytes.now (row_count_of l.batch.items.now - l.i) (drop (l.i * 9) l.batch.items.now))

@@ -13,16 +13,16 @@ pub returns-in_default : goal.returns-in_default
 unfolding mark_as mark_here opened_of mark_byte map_option
 returns-in_default c =
     let args = c.args in
-    rw (item-is args.entries.now args.bytes.now (drop (args.i * 9) args.items.now) _ (sym c.open_item.ensures.value ∙ c.in_default.is))
+    rw (item-is args.batch.now.entries.now args.batch.now.bytes.now (drop (args.i * 9) args.batch.now.items.now) _ (sym c.open_item.ensures.value ∙ c.in_default.is))
 
 pub returns-in_err-byte : goal.returns-in_err-byte
 unfolding mark_as mark_here opened_of item_of map_option
 returns-in_err-byte c =
     let args = c.args in
-    rw (item-is args.entries.now args.bytes.now (drop (args.i * 9) args.items.now) _ (sym c.open_item.ensures.value ∙ c.in-Ok.is), ← c.in_err-byte.ensures args.entries.now, c.from_residual.ensures)
+    rw (item-is args.batch.now.entries.now args.batch.now.bytes.now (drop (args.i * 9) args.batch.now.items.now) _ (sym c.open_item.ensures.value ∙ c.in-Ok.is), ← c.in_err-byte.ensures args.batch.now.entries.now, c.from_residual.ensures)
 
 pub returns : goal.returns
 unfolding mark_as mark_of mark_here opened_of item_of map_option
 returns c =
     let args = c.args in
-    rw (item-is args.entries.now args.bytes.now (drop (args.i * 9) args.items.now) _ (sym c.open_item.ensures.value ∙ c.in-Ok.is), ← c.in_ok-byte.ensures args.entries.now)
+    rw (item-is args.batch.now.entries.now args.batch.now.bytes.now (drop (args.i * 9) args.batch.now.items.now) _ (sym c.open_item.ensures.value ∙ c.in-Ok.is), ← c.in_ok-byte.ensures args.batch.now.entries.now)

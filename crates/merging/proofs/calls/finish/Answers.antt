@@ -25,9 +25,6 @@ returns-then-flags-2 c =
       | then-flags-2-via-else-flags-2+then-not-lists_fit w ↦ finish-over _ _ _ _ _ _ c.requires.plain.given.wf answer c.if-flags.false (rest-fits _ _ _ _ _ c.requires.plain ∙ sym w.lists_fit.ensures ∙ w.if-not-lists_fit.true)
     ])
 
-pub take_staged-requires : goal.take_staged-requires
-take_staged-requires c = record { plain = c.requires.plain; ready = c.requires.ready; ys_value = sym c.lists_fit.ensures ∙ c.if-not-lists_fit.false }
-
 pub returns : goal.returns
 returns c =
     finish-taken _ _ _ _ _ _ c.requires.plain.given.wf (worked-answer _ _ _ _ _ _ c.requires.plain c.requires.worked) c.if-flags.false c.if-flags-2.false (rest-fits _ _ _ _ _ c.requires.plain ∙ sym c.lists_fit.ensures ∙ c.if-not-lists_fit.false) _ _ c.take_staged.ensures

@@ -20,10 +20,6 @@ returns-then-flags-2 c =
       | then-flags-2-via-else-flags-2+then-not-rest_fits w ↦ finish-over _ _ _ _ _ _ c.requires.given.wf answer c.if-flags.false (sym (w.rest_fits.ensures c.args.vs.now c.requires.room_wf) ∙ w.if-not-rest_fits.true)
     ])
 
-pub take_waiting-requires : goal.take_waiting-requires
-take_waiting-requires c =
-    record { wf = (c.requires.given.wf, c.requires.given.newer-wf); ready = c.requires.ready; room_wf = c.requires.room_wf; bs_value = sym (c.rest_fits.ensures c.args.vs.now c.requires.room_wf) ∙ c.if-not-rest_fits.false }
-
 pub returns : goal.returns
 returns c =
     finish-taken _ _ _ _ _ _ c.requires.given.wf (waits-answer _ _ _ _ _ c.requires.given c.requires.worked _ c.requires.bs_value) c.if-flags.false c.if-flags-2.false (sym (c.rest_fits.ensures c.args.vs.now c.requires.room_wf) ∙ c.if-not-rest_fits.false) _ _ c.take_waiting.ensures

@@ -7,8 +7,4 @@ use Rattle.merging.proofs.waits.finish_waiting.Goals as goal
 pub returns-in_err-accept_waiting : goal.returns-in_err-accept_waiting
 returns-in_err-accept_waiting c =
     let p = err_from_is_err_and c.from_residual.result c.from_residual.ensures.1 in
-    rw (p.1, p.2) (refused_with _ _ _ _ c.requires.given.wf (waits_back _ _ _ _ _ c.requires.given c.requires.worked _ (rw c.in_err-accept_waiting.was at c.accept_waiting.ensures)))
-
-pub end_waiting-requires : goal.end_waiting-requires
-end_waiting-requires c =
-    let all = rw c.in_ok-accept_waiting.was at c.accept_waiting.ensures in record { given = c.requires.given; ready = c.requires.ready; worked = c.requires.worked; bs_value = all.0; room_wf = all.1 }
+    rw (p.1, p.2) (refused_with _ _ _ _ c.requires.given.wf (waits_back _ _ _ _ _ c.requires.given c.requires.worked _ (rw c.in_err-accept_waiting.was at c.accept_waiting.ensures).0))

@@ -3,7 +3,7 @@ use mathlib.Core.Path.{sym, ◌∙◌}
 use native.Mathlib.Omega.{arith}
 use Rattle.contexts.specs.AreaLaws.{formed_of, area-length}
 use Rattle.merging.proofs.EndWays.{few-counts}
-use Rattle.merging.proofs.WaitWays.{listed, over-lists, over-finished, room-tells}
+use Rattle.merging.proofs.WaitWays.{listed, room-tells}
 use Rattle.merging.proofs.waits.rest_fits.Goals as goal
 
 pub lists_fit-requires : goal.lists_fit-requires
@@ -11,15 +11,6 @@ lists_fit-requires c =
     let older = c.requires.wf in
     let newer = c.requires.wf_2 in
     record { few = (few-counts _ _ older, few-counts _ _ newer); xs_len = (area-length _ _ (formed_of _ _ older), area-length _ _ (formed_of _ _ newer)) }
-
-pub returns-then-not-lists_fit : goal.returns-then-not-lists_fit
-returns-then-not-lists_fit c = λ vs q. over-lists c.args.xs.now c.args.bs.now c.args.ys.now c.args.cs.now c.requires.wf c.requires.wf_2 _ (sym c.lists_fit.ensures ∙ c.if-not-lists_fit.true)
-
-pub bounds-xs-at : goal.bounds-xs-at
-bounds-xs-at c = omega (arith, area-length _ _ (formed_of _ _ c.requires.wf))
-
-pub bounds-ys-at : goal.bounds-ys-at
-bounds-ys-at c = omega (arith, area-length _ _ (formed_of _ _ c.requires.wf_2))
 
 pub overflow_add-listed : goal.overflow_add-listed
 overflow_add-listed c =
@@ -32,9 +23,6 @@ overflow_add-listed-2 c =
     let older = few-counts _ _ c.requires.wf in
     let newer = few-counts _ _ c.requires.wf_2 in
     omega (arith, listed c.args.xs.now c.args.ys.now, older.tombstones, newer.tombstones, c.count_finished.ensures.upper_bound)
-
-pub returns-then-listed-count_finished-gt-MAX_TOMBSTONES : goal.returns-then-listed-count_finished-gt-MAX_TOMBSTONES
-returns-then-listed-count_finished-gt-MAX_TOMBSTONES c = λ vs q. over-finished c.args.xs.now c.args.bs.now c.args.ys.now c.args.cs.now c.requires.wf c.requires.wf_2 _ (rw c.count_finished.ensures.value at c.if-listed-count_finished-gt-MAX_TOMBSTONES.true)
 
 pub returns : goal.returns
 returns c =

@@ -2,10 +2,9 @@
 use mathlib.Core.Path.{◌≡◌}
 use Prim.Native.Nat.{◌+◌, ◌≤◌}
 use lib.ListN.{length, drop}
-use Rattle.stores.specs.Stores.{area}
-use Rattle.stores.specs.Tags.{store_tagged, items_with}
+use Rattle.stores.specs.Tags.{tagged_in, items_with}
 use Rattle.parts.specs.Finals.{tombs_of}
 use Rattle.parts.proofs.finals.count_tag.Given as goal
 
 abbrev pub invariant-loop-j : goal.invariant-loop-j
-invariant-loop-j l = (l.count ≤ l.j) × (l.count + length (tombs_of (items_with l.tag (drop l.j (store_tagged l.store (area l.items l.entries l.bytes) l.tags)))) ≡ length (tombs_of (items_with l.tag (store_tagged l.store (area l.items l.entries l.bytes) l.tags))))
+invariant-loop-j l = (l.count ≤ l.j) × (l.count + length (tombs_of (items_with l.tag (drop l.j (tagged_in l.items)))) ≡ length (tombs_of (items_with l.tag (tagged_in l.items))))

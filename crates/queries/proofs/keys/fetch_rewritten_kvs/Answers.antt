@@ -2,21 +2,15 @@
 use Rattle.rules.specs.Causes.{Ok}
 use Rattle.rules.specs.TableQueries.{fetch_rewritten_kvs}
 use Rattle.queries.proofs.RowLists.{rewritten-short}
-use Rattle.queries.proofs.Ways.{numbers-there, bytes-there, keys_wf, keys-there, keys-absent}
+use Rattle.queries.proofs.Ways.{keys_wf, keys-there, keys-absent}
 use Rattle.queries.proofs.keys.fetch_rewritten_kvs.Goals as goal
 
 pub returns-in_err-k : goal.returns-in_err-k
-returns-in_err-k c = keys-absent _ (c.place_of.ensures _ c.requires) c.in_err-k.was c.from_residual.result c.from_residual.ensures.1
+returns-in_err-k c = rw (← c.area.view_is) (keys-absent _ (c.place_of.ensures.stands _ c.area.invariant) c.in_err-k.was c.from_residual.result c.from_residual.ensures.1)
 
-pub key_count_at-n-requires : goal.key_count_at-n-requires
-key_count_at-n-requires c = numbers-there ((c.place_of.ensures _ c.requires).at _ c.in_ok-k.was) c.requires
-
-pub key_bytes-bytes-requires : goal.key_bytes-bytes-requires
-key_bytes-bytes-requires c = bytes-there ((c.place_of.ensures _ c.requires).at _ c.in_ok-k.was) c.requires
-
-pub fetch_rewritten_kvs-requires : goal.fetch_rewritten_kvs-requires
-fetch_rewritten_kvs-requires c = keys_wf ((c.place_of.ensures _ c.requires).at _ c.in_ok-k.was) c.key_count_at-n.ensures c.key_rows-rows.ensures c.key_bytes-bytes.ensures
+pub new-keys-requires : goal.new-keys-requires
+new-keys-requires c = keys_wf ((c.place_of.ensures.stands _ c.area.invariant).at _ c.in_ok-k.was) c.key_count_at-n.ensures c.key_rows-rows.ensures c.key_bytes-bytes.ensures
 
 pub returns : goal.returns
 returns c =
-    keys-there ((c.place_of.ensures _ c.requires).at _ c.in_ok-k.was) c.key_count_at-n.ensures c.key_rows-rows.ensures c.key_bytes-bytes.ensures (λ t. Ok (fetch_rewritten_kvs t)) _ _ _ _ _ c.fetch_rewritten_kvs.ensures (λ t e. rewritten-short _ _ _ t e)
+    rw (← c.area.view_is) (keys-there ((c.place_of.ensures.stands _ c.area.invariant).at _ c.in_ok-k.was) c.key_count_at-n.ensures c.key_rows-rows.ensures c.key_bytes-bytes.ensures (λ t. Ok (fetch_rewritten_kvs t)) _ _ _ _ _ (rw c.new-keys.ensures at c.fetch_rewritten_kvs.ensures) (λ t e. rewritten-short _ _ _ t e))

@@ -7,10 +7,10 @@ use Rattle.queries.proofs.keys.get.Goals as goal
 
 pub returns-in_err-place_of : goal.returns-in_err-place_of
 returns-in_err-place_of c =
-    let q = err_from_is_err_and c.from_residual.result c.from_residual.ensures.1 in rw (q.1, q.2) (asked-absent _ _ _ _ _ _ (c.place_of.ensures _ c.requires) c.in_err-place_of.was)
+    let q = err_from_is_err_and c.from_residual.result c.from_residual.ensures.1 in rw (q.1, q.2, ← c.area.view_is) (asked-absent _ _ _ _ _ _ (c.place_of.ensures.stands _ c.area.invariant) c.in_err-place_of.was)
 
-pub get_at-requires : goal.get_at-requires
-get_at-requires c = let s = ((c.place_of.ensures _ c.requires).at _ c.in_ok-place_of.was) in record { k_bound = (s.inside, c.requires.groups.numbers_fit, c.requires.groups.bytes_fit); wf = s.wf }
+pub get_at-requires-clause-wf : goal.get_at-requires-clause-wf
+get_at-requires-clause-wf c = ((c.place_of.ensures.stands _ c.area.invariant).at _ c.in_ok-place_of.was).wf
 
 pub returns : goal.returns
-returns c = ap Ok c.get_at.ensures ∙ sym (asked_at _ _ _ _ _ ((c.place_of.ensures _ c.requires).at _ c.in_ok-place_of.was))
+returns c = rw (← c.area.view_is) (ap Ok c.get_at.ensures ∙ sym (asked_at _ _ _ _ _ ((c.place_of.ensures.stands _ c.area.invariant).at _ c.in_ok-place_of.was)))

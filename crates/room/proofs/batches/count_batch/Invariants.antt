@@ -3,4 +3,4 @@ use Rattle.room.proofs.Pushing.{Counting}
 use Rattle.room.proofs.batches.count_batch.Given as goal
 
 abbrev pub invariant-loop-i : goal.invariant-loop-i
-invariant-loop-i l = Counting l.items l.entries l.bytes l.i l.count
+invariant-loop-i l = Counting l.replay.batch.items.now l.replay.batch.entries.now l.replay.batch.bytes.now l.i l.count

@@ -4,11 +4,16 @@ use mathlib.Core.Path.{sym, ◌∙◌}
 use Rattle.room.proofs.batches.unmarked_at.Goals as goal
 
 pub unreachable-requires : goal.unreachable-requires
-unreachable-requires c = never-refused c.args.items.now c.args.entries.now c.args.bytes.now c.requires.bytes_value c.args.i c.requires.i_bound _ (sym c.open_item.ensures.value ∙ c.in_default.is)
+unreachable-requires c =
+    let batch = c.args.replay.now.batch in
+    never-refused batch.items.now batch.entries.now batch.bytes.now c.args.replay.now.passed c.args.i c.requires _ (sym c.open_item.ensures.value ∙ c.in_default.is)
 
 pub returns-in-Some : goal.returns-in-Some
 returns-in-Some c =
-    is-mark c.args.items.now c.args.entries.now c.args.bytes.now c.requires.bytes_value c.args.i c.requires.i_bound _ (sym c.open_item.ensures.value ∙ c.in-Ok.is) _ c.in-Some.ensures
+    let batch = c.args.replay.now.batch in
+    is-mark batch.items.now batch.entries.now batch.bytes.now c.args.replay.now.passed c.args.i c.requires _ (sym c.open_item.ensures.value ∙ c.in-Ok.is) _ c.in-Some.ensures
 
 pub returns-in-None : goal.returns-in-None
-returns-in-None c = is_plain c.args.items.now c.args.entries.now c.args.bytes.now c.requires.bytes_value c.args.i c.requires.i_bound _ (sym c.open_item.ensures.value ∙ c.in-Ok.is) c.in-None.ensures
+returns-in-None c =
+    let batch = c.args.replay.now.batch in
+    is_plain batch.items.now batch.entries.now batch.bytes.now c.args.replay.now.passed c.args.i c.requires _ (sym c.open_item.ensures.value ∙ c.in-Ok.is) c.in-None.ensures

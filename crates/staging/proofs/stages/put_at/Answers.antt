@@ -1,16 +1,7 @@
 -- `staging::stages::put_at` meets its contract. Assumes nothing.
 use mathlib.Core.Path.{sym, ◌∙◌}
-use Rattle.staging.proofs.StageWays.{long-inside, lent-head, lent_fits, unload-given, put-large, put-fits}
+use Rattle.staging.proofs.StageWays.{lent_fits, unload-given, put-large, put-fits}
 use Rattle.staging.proofs.stages.put_at.Goals as goal
-
-pub slice_bounds-fits-count : goal.slice_bounds-fits-count
-slice_bounds-fits-count c = long-inside c.args.xs.now c.requires.xs_len.0
-
-pub slice_bounds-fits-start : goal.slice_bounds-fits-start
-slice_bounds-fits-start c = long-inside c.args.xs.now c.requires.xs_len.0
-
-pub fits-requires : goal.fits-requires
-fits-requires c = lent-head c.args.xs.now c.requires.xs_len.0
 
 pub returns-then-not-fits : goal.returns-then-not-fits
 returns-then-not-fits c =

@@ -1,19 +1,10 @@
 -- `staging::stages::settle` meets its contract. Assumes nothing.
 use mathlib.Core.Path.{sym, ◌∙◌}
-use Rattle.staging.proofs.StageWays.{long-inside, lent-head, lent-used, settle-clashed, settle-none, settle-done, settle-full}
+use Rattle.staging.proofs.StageWays.{lent-used, settle-clashed, settle-none, settle-done, settle-full}
 use Rattle.staging.proofs.stages.settle.Goals as goal
 
 pub returns-then-is_err : goal.returns-then-is_err
 returns-then-is_err c = λ at d. settle-clashed at _ _ _ _ c.requires.ready _ c.requires.found c.requires.not_staged _ (sym c.is_err.ensures.value ∙ c.if-is_err.true) d
-
-pub slice_bounds-is_there-count : goal.slice_bounds-is_there-count
-slice_bounds-is_there-count c = long-inside c.args.xs.now c.requires.xs_len.0
-
-pub slice_bounds-is_there-start : goal.slice_bounds-is_there-start
-slice_bounds-is_there-start c = long-inside c.args.xs.now c.requires.xs_len.0
-
-pub is_there-requires : goal.is_there-requires
-is_there-requires c = lent-head c.args.xs.now c.requires.xs_len.0
 
 pub returns-then-not-is_there : goal.returns-then-not-is_there
 returns-then-not-is_there c = λ at d. settle-none at _ _ _ _ c.requires.ready _ c.requires.found c.requires.not_staged _ (sym c.is_err.ensures.value ∙ c.if-is_err.false) d (sym (lent-used c.args.xs.now _ c.is_there.ensures) ∙ c.if-not-is_there.true)

@@ -9,9 +9,6 @@ use Rattle.staging.proofs.stages.stage_one.Goals as goal
 pub find_staged-requires : goal.find_staged-requires
 find_staged-requires c = let n = area-length _ _ (formed_of _ _ c.requires.given.wf) in omega (arith, n)
 
-pub work-outcome-requires : goal.work-outcome-requires
-work-outcome-requires c = c.requires.given
-
 pub settle-requires : goal.settle-requires
 settle-requires c =
     let all = settle-given _ _ _ _ _ _ c.requires.given.wf c.requires.ready c.work-outcome.ensures.working c.find_staged.ensures in

@@ -11,8 +11,5 @@ number_at-requires c =
 pub returns-in-None : goal.returns-in-None
 returns-in-None c = turn-none _ _ _ _ _ _ c.number_at.ensures c.in-None.is c.requires.ready
 
-pub stage_one-requires : goal.stage_one-requires
-stage_one-requires c = record { given = c.requires.given; ready = c.requires.ready }
-
 pub returns-in-Some : goal.returns-in-Some
 returns-in-Some c = turn_one _ _ _ _ _ _ c.number_at.ensures _ _ _ _ c.in-Some.is c.stage_one.ensures

@@ -15,7 +15,7 @@ bounds-ys c = let n = area-length _ _ (formed_of _ _ c.requires.wf_2) in omega (
 
 pub bury-requires : goal.bury-requires
 bury-requires c =
-    let all = lent-only c.args.ys.now c.args.cs.now c.requires.wf_2 in record { wf = c.requires.wf; within = c.requires.within; stored = all.0; bytes_value = all.1 }
+    let all = lent-only c.args.ys.now c.args.cs.now c.requires.wf_2 in record { wf = c.requires.wf; within = c.requires.within; stored = all.0; tombstones = all.1 }
 
 pub returns : goal.returns
 returns c = lent-tombed c.args.ys.now c.args.cs.now c.args.group c.args.p.now c.args.b.now c.bury.new.p c.bury.new.b c.bury.ensures

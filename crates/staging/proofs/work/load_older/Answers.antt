@@ -9,9 +9,6 @@ pub load-requires : goal.load-requires
 load-requires c =
     let w = c.requires in let a = found_at_lem _ _ _ _ c.find.ensures c.in-At.is in let n = area-length _ _ (formed_of _ _ w) in let m = area-bytes _ _ (formed_of _ _ w) in record { k_bound = (a.inside, omega (arith, n), omega (arith, m)); wf = (w.groups.used _ a.inside a.used, a.used) }
 
-pub clear_long-requires : goal.clear_long-requires
-clear_long-requires c = area-length _ _ (formed_of _ _ c.requires)
-
 pub returns-in-At : goal.returns-in-At
 returns-in-At c =
     loaded_at _ _ _ c.requires _ c.find.ensures _ _ _ c.in-At.is (load-loaded _ _ _ _ _ (area-length _ _ (formed_of _ _ c.requires)) (area-bytes _ _ (formed_of _ _ c.requires)) c.load.auto.xs c.load.auto.bs c.load.ensures)

@@ -5,9 +5,6 @@ use borrow.Author.Rules.{part_to_end}
 use Rattle.staging.proofs.GroupWays.{parts-given, numbers_stay, bytes_stay, part-refused, part_room, part_for_lem, group_lent}
 use Rattle.staging.proofs.work.work.Goals as goal
 
-pub load_older-requires : goal.load_older-requires
-load_older-requires c = c.requires.wf
-
 pub finish_part-requires : goal.finish_part-requires
 finish_part-requires c = parts-given _ _ _ _ _ _ c.requires _ _ c.load_older.ensures
 

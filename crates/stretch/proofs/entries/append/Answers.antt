@@ -9,10 +9,6 @@ use Rattle.stretch.proofs.EntryWays.{laying}
 use Rattle.stretch.proofs.Reaches.{append-keeps, laying-leaves}
 use Rattle.stretch.proofs.entries.append.Goals as goal
 
-pub append-answer-requires : goal.append-answer-requires
-unfolding entry_rows_at part
-append-answer-requires c = rw c.head_in-head.ensures (record { wf = c.requires.numbers_at.entries; lent = c.requires.lent })
-
 pub returns : goal.returns
 unfolding entry_rows_at part
 returns c =

@@ -5,10 +5,6 @@ use Rattle.stretch.proofs.EntryWays.{compacting}
 use Rattle.stretch.proofs.Reaches.{compacting-leaves}
 use Rattle.stretch.proofs.entries.compact.Goals as goal
 
-pub compact_to-answer-requires : goal.compact_to-answer-requires
-unfolding entry_rows_at part
-compact_to-answer-requires c = rw c.head_in-head.ensures c.requires.entries
-
 pub returns : goal.returns
 unfolding entry_rows_at part
 returns c =

@@ -4,10 +4,6 @@ use Rattle.stretch.specs.Stretch.{entry_rows_at}
 use Rattle.stretch.proofs.EntryWays.{laying}
 use Rattle.stretch.proofs.entries.join.Goals as goal
 
-pub merge_append_table-answer-requires : goal.merge_append_table-answer-requires
-unfolding entry_rows_at part
-merge_append_table-answer-requires c = rw c.head_in-head.ensures (record { wf = c.requires.numbers_at.entries; lent = c.requires.lent })
-
 pub returns : goal.returns
 unfolding entry_rows_at part
 returns c =

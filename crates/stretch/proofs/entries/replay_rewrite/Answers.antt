@@ -5,10 +5,6 @@ use Rattle.stretch.proofs.EntryWays.{laying}
 use Rattle.stretch.proofs.Reaches.{replay-keeps, laying-leaves}
 use Rattle.stretch.proofs.entries.replay_rewrite.Goals as goal
 
-pub replay_rewrite-answer-requires : goal.replay_rewrite-answer-requires
-unfolding entry_rows_at part
-replay_rewrite-answer-requires c = rw c.head_in-head.ensures (record { wf = c.requires.numbers_at.entries; lent = c.requires.lent; len_bound = c.requires.p_bound })
-
 pub returns : goal.returns
 unfolding entry_rows_at part
 returns c =

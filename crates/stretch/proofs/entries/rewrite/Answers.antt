@@ -5,10 +5,6 @@ use Rattle.stretch.proofs.EntryWays.{moving}
 use Rattle.stretch.proofs.Reaches.{moving-leaves}
 use Rattle.stretch.proofs.entries.rewrite.Goals as goal
 
-pub rewrite-answer-requires : goal.rewrite-answer-requires
-unfolding entry_rows_at part
-rewrite-answer-requires c = rw c.head_in-head.ensures (record { wf = c.requires.numbers_at.entries; lent = c.requires.lent })
-
 pub returns : goal.returns
 unfolding entry_rows_at part
 returns c =

@@ -5,10 +5,6 @@ use Rattle.stretch.proofs.KeyWays.{deleting}
 use Rattle.stretch.proofs.Reaches.{counted-keys-leave}
 use Rattle.stretch.proofs.keys.delete.Goals as goal
 
-pub delete-left-requires : goal.delete-left-requires
-unfolding key_count key_rows_at part
-delete-left-requires c = c.requires.keys
-
 pub returns : goal.returns
 unfolding key_count key_rows_at part
 returns c =

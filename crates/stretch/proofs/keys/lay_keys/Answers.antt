@@ -6,16 +6,12 @@ use Rattle.std.proofs.lemmas.Result.{err_from_is_err_and}
 use Rattle.stretch.proofs.KeyWays.{merge-done, merge-full}
 use Rattle.stretch.proofs.keys.lay_keys.Goals as goal
 
-pub merge_keys-requires : goal.merge_keys-requires
-unfolding key_count key_rows_at key_rows part
-merge_keys-requires c = record { wf = c.requires.wf_at.keys; wf_2 = c.requires.wf.keys }
-
 pub returns-in_err-all : goal.returns-in_err-all
 unfolding key_count key_rows_at key_rows part table_in table_of
 returns-in_err-all c =
     let q = err_from_is_err_and c.from_residual.result c.from_residual.ensures.1 in
-    rw (q.1, q.2) (merge-full _ c.args.p.now c.args.b.now _ _ c.requires.wf_at c.merge_keys.auto.rows _ _ (rw c.in_err-all.was at c.merge_keys.ensures))
+    rw (q.1, q.2) (merge-full _ c.args.p.now c.args.b.now _ _ c.requires.wf_at c.merge_keys.auto.rows _ _ (rw (c.in_err-all.was, c.new-keys.ensures) at c.merge_keys.ensures))
 
 pub returns : goal.returns
 unfolding key_count key_rows_at key_rows part table_in table_of
-returns c = merge-done _ c.args.p.now c.args.b.now _ _ c.requires.wf_at c.merge_keys.auto.rows _ _ c.merge_keys.auto.bytes (rw c.in_ok-all.was at c.merge_keys.ensures)
+returns c = merge-done _ c.args.p.now c.args.b.now _ _ c.requires.wf_at c.merge_keys.auto.rows _ _ c.merge_keys.auto.bytes (rw (c.in_ok-all.was, c.new-keys.ensures) at c.merge_keys.ensures)

@@ -6,10 +6,6 @@ use Rattle.stretch.proofs.KeyWays.{put-done, put_full}
 use Rattle.stretch.proofs.Reaches.{lent-keys-leave, counted-keys-leave}
 use Rattle.stretch.proofs.keys.put.Goals as goal
 
-pub put-requires : goal.put-requires
-unfolding key_count key_rows_at part
-put-requires c = record { wf = c.requires.wf_at.keys; key_len_bound = c.requires.key_len_bound }
-
 pub returns-in_err-m : goal.returns-in_err-m
 unfolding key_count key_rows_at part
 returns-in_err-m c =

@@ -5,10 +5,6 @@ use Rattle.stretch.proofs.KeyWays.{rewriting}
 use Rattle.stretch.proofs.Reaches.{lent-keys-leave}
 use Rattle.stretch.proofs.keys.rewrite_key.Goals as goal
 
-pub rewrite_key-requires : goal.rewrite_key-requires
-unfolding key_count key_rows_at part
-rewrite_key-requires c = c.requires.keys
-
 pub returns : goal.returns
 unfolding key_count key_rows_at part
 returns c =

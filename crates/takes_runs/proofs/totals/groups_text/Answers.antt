@@ -15,7 +15,7 @@ slice_bounds-group_text-end c = printing-room _ _ c.requires.wf _ _ c.requires.n
 
 pub group_text-at-requires : goal.group_text-at-requires
 group_text-at-requires c =
-    record { wf = c.requires.wf; in_bounds = omega (arith, lent_length c.loop-group.at 86 c.loop-group.out (printing-room _ _ c.requires.wf _ _ c.requires.numbers_value c.requires.in_bounds _ _ _ c.loop-group.invariant c.loop-group-test.true)) }
+    omega (arith, lent_length c.loop-group.at 86 c.loop-group.out (printing-room _ _ c.requires.wf _ _ c.requires.numbers_value c.requires.in_bounds _ _ _ c.loop-group.invariant c.loop-group-test.true))
 
 pub loop-group-preserved : goal.loop-group-preserved
 loop-group-preserved c = printing-more _ _ c.requires.wf _ _ c.requires.numbers_value c.requires.in_bounds _ _ _ c.loop-group.invariant c.loop-group-test.true _ _ (omega arith) c.group_text-at.ensures

@@ -21,7 +21,7 @@ groups_text-at-requires c =
 pub live_text-requires : goal.live_text-requires
 live_text-requires c =
     let room : c.groups_text-at.result + 44 ≤ length c.groups_text-at.new.out = omega (arith, c.groups_text-at.ensures.upper_bound) in
-    record { wf = c.requires.wf; in_bounds = omega (arith, lent_length c.groups_text-at.result 44 c.groups_text-at.new.out room) }
+    omega (arith, lent_length c.groups_text-at.result 44 c.groups_text-at.new.out room)
 
 pub overflow_add-result : goal.overflow_add-result
 overflow_add-result c =

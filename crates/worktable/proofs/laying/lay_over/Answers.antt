@@ -11,12 +11,6 @@ returns-then-p-eq1 c =
     let u = work-some c.args.p.now c.args.b.now (eq-eqb _ _ c.if-p-eq1.true) in
     rw u (ends_there _ _ _ _ _ _ (rw u at c.lay_made.ensures))
 
-pub lay_made-requires-in-Append : goal.lay_made-requires-in-Append
-lay_made-requires-in-Append c = record { wf = c.requires.wf; wf_2 = c.requires.wf_2.0; layable = rw c.in-Append.is at c.requires.layable }
-
-pub lay_made-requires-in-Rewrite : goal.lay_made-requires-in-Rewrite
-lay_made-requires-in-Rewrite c = record { wf = c.requires.wf; wf_2 = c.requires.wf_2.0; layable = rw c.in-Rewrite.is at c.requires.layable }
-
 pub returns-in-Append : goal.returns-in-Append
 returns-in-Append c = rw c.in-Append.is (ends-append _ _ _ _ _ c.lay_made-in-Append.ensures)
 

@@ -1,35 +1,7 @@
 -- `worktable::moves::load` meets its contract. Assumes nothing.
 use mathlib.Core.Path.{refl}
-use native.Mathlib.Omega.{arith}
-use Rattle.worktable.proofs.MoveWays.{load-few, loaded}
+use Rattle.worktable.proofs.MoveWays.{loaded}
 use Rattle.worktable.proofs.moves.load.Goals as goal
-
-pub overflow_mul-entries : goal.overflow_mul-entries
-overflow_mul-entries c = omega (arith, load-few c.args.k c.args.xs.now c.args.bs.now c.requires.wf.0)
-
-pub overflow_add-entries-2 : goal.overflow_add-entries-2
-overflow_add-entries-2 c = omega (arith, load-few c.args.k c.args.xs.now c.args.bs.now c.requires.wf.0)
-
-pub shift-requires : goal.shift-requires
-shift-requires c =
-    let few = load-few c.args.k c.args.xs.now c.args.bs.now c.requires.wf.0 in
-    let pre = c.requires.k_bound in omega (arith, few, pre)
-
-pub overflow_mul-keys : goal.overflow_mul-keys
-overflow_mul-keys c = omega (arith, load-few c.args.k c.args.xs.now c.args.bs.now c.requires.wf.0)
-
-pub shift-requires-2 : goal.shift-requires-2
-shift-requires-2 c =
-    let few = load-few c.args.k c.args.xs.now c.args.bs.now c.requires.wf.0 in
-    let pre = c.requires.k_bound in omega (arith, few, pre)
-
-pub overflow_mul-keys-2 : goal.overflow_mul-keys-2
-overflow_mul-keys-2 c = omega (arith, load-few c.args.k c.args.xs.now c.args.bs.now c.requires.wf.0)
-
-pub shift-requires-3 : goal.shift-requires-3
-shift-requires-3 c =
-    let few = load-few c.args.k c.args.xs.now c.args.bs.now c.requires.wf.0 in
-    let pre = c.requires.k_bound in omega (arith, few, pre)
 
 pub returns : goal.returns
 returns c =

@@ -5,7 +5,6 @@ use borrow.Author.Rules.{part_to_end}
 use Rattle.rules.specs.Checks.{is_rewrite_replay}
 use Rattle.log_batch.specs.Judged.{call_of}
 use Rattle.contexts.specs.AreaLaws.{formed_of}
-use Rattle.batches.specs.Singles.{append_call}
 use Rattle.batches.specs.OwnLaws.{keeping-other}
 use Rattle.writes.proofs.CallLaws.{zero_below, append_wrong, append_right}
 use Rattle.writes.proofs.WriteWays.{plain-written}
@@ -17,11 +16,11 @@ kind_in-kind-requires c = rw (part_to_end c.args.xs.now 9376) (zero_below (drop 
 pub returns-then-not-takes : goal.returns-then-not-takes
 returns-then-not-takes c = rw c.from.ensures (append_wrong c.args.xs.now c.args.bs.now _ c.kind_in-kind.ensures c.args.file _ _ _ c.requires (sym c.takes.ensures ∙ c.if-not-takes.true))
 
-pub write_live_append-requires : goal.write_live_append-requires
-unfolding is_rewrite_replay call_of append_call
-write_live_append-requires c = record { formed = formed_of _ _ c.requires; keeping = keeping-other _ _ refl }
+pub write-requires : goal.write-requires
+unfolding is_rewrite_replay call_of
+write-requires c = record { formed = formed_of _ _ c.requires; keeping = keeping-other _ _ refl }
 
 pub returns : goal.returns
-unfolding call_of is_rewrite_replay append_call
+unfolding call_of is_rewrite_replay
 returns c =
-    append_right c.args.xs.now c.args.bs.now _ c.kind_in-kind.ensures c.args.file _ _ _ _ _ _ c.requires (sym c.takes.ensures ∙ c.if-not-takes.false) (plain-written c.args.file _ _ _ _ _ _ _ _ _ c.args.file.seq refl c.write_live_append.ensures)
+    append_right c.args.xs.now c.args.bs.now _ c.kind_in-kind.ensures c.args.file _ _ _ _ _ _ c.requires (sym c.takes.ensures ∙ c.if-not-takes.false) (plain-written c.args.file _ _ _ _ _ _ _ _ _ c.args.file.seq refl c.write.ensures)

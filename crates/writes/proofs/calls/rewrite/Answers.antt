@@ -16,11 +16,11 @@ kind_in-kind-requires c = rw (part_to_end c.args.xs.now 9376) (zero_below (drop 
 pub returns-then-not-takes : goal.returns-then-not-takes
 returns-then-not-takes c = rw c.from.ensures (rewrite_wrong c.args.xs.now c.args.bs.now _ c.kind_in-kind.ensures c.args.file _ _ _ _ c.requires (sym c.takes.ensures ∙ c.if-not-takes.true))
 
-pub write_rewrite-requires : goal.write_rewrite-requires
+pub write-requires : goal.write-requires
 unfolding is_rewrite_replay call_of
-write_rewrite-requires c = record { formed = formed_of _ _ c.requires; keeping = keeping-other _ _ refl }
+write-requires c = record { formed = formed_of _ _ c.requires; keeping = keeping-other _ _ refl }
 
 pub returns : goal.returns
 unfolding call_of is_rewrite_replay
 returns c =
-    rewrite-right c.args.xs.now c.args.bs.now _ c.kind_in-kind.ensures c.args.file _ _ _ _ _ _ _ c.requires (sym c.takes.ensures ∙ c.if-not-takes.false) (plain-written c.args.file _ _ _ _ _ _ _ _ _ c.args.file.seq refl c.write_rewrite.ensures)
+    rewrite-right c.args.xs.now c.args.bs.now _ c.kind_in-kind.ensures c.args.file _ _ _ _ _ _ _ c.requires (sym c.takes.ensures ∙ c.if-not-takes.false) (plain-written c.args.file _ _ _ _ _ _ _ _ _ c.args.file.seq refl c.write.ensures)

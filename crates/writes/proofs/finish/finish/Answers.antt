@@ -14,7 +14,7 @@ head_number-start-requires c = (area-length _ _ c.requires.formed, c.requires.fi
 
 pub finish_items-requires : goal.finish_items-requires
 finish_items-requires c =
-    record { formed = c.requires.formed; bytes_value = c.requires.bytes_value; bs_value = finish-passed (record { at = c.args.mark.at; group = c.args.mark.raft_group_id; byte = c.args.mark.byte }) c.args.seq _ c.args.xs.now c.args.bs.now c.requires.formed c.args.k c.requires.finishing _ _ (c.head_number-tag.ensures _) (c.head_number-start.ensures _) c.requires.kept_at.kept; keeping = keeping-rewrite _ _ c.requires.kept_at }
+    record { formed = c.requires.formed; bs_value = finish-passed (record { at = c.args.mark.at; group = c.args.mark.raft_group_id; byte = c.args.mark.byte }) c.args.seq _ c.args.xs.now c.args.bs.now c.requires.formed c.args.k c.requires.finishing _ _ (c.head_number-tag.ensures _) (c.head_number-start.ensures _) c.requires.kept_at.kept; keeping = keeping-rewrite _ _ c.requires.kept_at }
 
 pub returns-in_err-finish_items : goal.returns-in_err-finish_items
 returns-in_err-finish_items c =

@@ -8,7 +8,7 @@ use Rattle.writes.proofs.FinishWays.{room_most, finish-going}
 use Rattle.writes.proofs.finish.finish_items.Goals as goal
 
 pub has_items-requires : goal.has_items-requires
-has_items-requires c = record { xs_len = (area-length _ _ c.requires.formed, room_most c.args.xs.now c.args.bs.now c.requires.formed); bytes_value = c.requires.bytes_value }
+has_items-requires c = (area-length _ _ c.requires.formed, room_most c.args.xs.now c.args.bs.now c.requires.formed)
 
 pub returns-then-not-has_items : goal.returns-then-not-has_items
 returns-then-not-has_items c = ends-none _ _ _ _ _ c.args.xs.now c.args.bs.now c.requires.formed (rw c.if-not-has_items.true at (c.has_items.ensures c.args.mark.at c.args.bs.now c.requires.formed))
@@ -18,7 +18,7 @@ counts_in-counts-requires c = rw (part_to_end c.args.xs.now 9376) c.requires.for
 
 pub run_both-answer-requires : goal.run_both-answer-requires
 run_both-answer-requires c =
-    record { formed = begun-formed c.args.xs.now c.args.bs.now _ c.requires.formed (c.begin.ensures _ c.requires.formed.groups); undoable = (c.begin.ensures _ c.requires.formed.groups).undoable; bytes_value = c.requires.bytes_value; bs_value = rw (stored_same _ 0 c.args.xs.now c.args.bs.now _ _ (begun-room c.args.xs.now c.args.bs.now _ c.requires.formed (c.begin.ensures _ c.requires.formed.groups))) c.requires.bs_value; keeping = rw (begun-context c.args.xs.now c.args.bs.now _ c.requires.formed (c.begin.ensures _ c.requires.formed.groups)) c.requires.keeping }
+    record { formed = begun-formed c.args.xs.now c.args.bs.now _ c.requires.formed (c.begin.ensures _ c.requires.formed.groups); undoable = (c.begin.ensures _ c.requires.formed.groups).undoable; bs_value = rw (stored_same _ 0 c.args.xs.now c.args.bs.now _ _ (begun-room c.args.xs.now c.args.bs.now _ c.requires.formed (c.begin.ensures _ c.requires.formed.groups))) c.requires.bs_value; keeping = rw (begun-context c.args.xs.now c.args.bs.now _ c.requires.formed (c.begin.ensures _ c.requires.formed.groups)) c.requires.keeping }
 
 pub go_back-requires : goal.go_back-requires
 go_back-requires c =

@@ -13,7 +13,7 @@ returns-in_err-run_stored c =
     rw (x.1, x.2) (both_stored _ _ _ _ _ _ _ _ _ _ _ (rw c.in_err-run_stored.was at c.run_stored.ensures))
 
 pub run_own-requires : goal.run_own-requires
-run_own-requires c = let r = (rw c.in_ok-run_stored.was at c.run_stored.ensures) in record { formed = r.formed; undoable = r.back.undo.undoable; bytes_value = c.requires.bytes_value; keeping = r.own refl }
+run_own-requires c = let r = (rw c.in_ok-run_stored.was at c.run_stored.ensures) in record { formed = r.formed; undoable = r.back.undo.undoable; keeping = r.own refl }
 
 pub returns-in_err-run_own : goal.returns-in_err-run_own
 returns-in_err-run_own c =

@@ -6,11 +6,11 @@ use Rattle.writes.specs.AcceptLaws.{marked-waits, marked-refused, moved-formed, 
 use Rattle.writes.proofs.marked.replay_marked.Goals as goal
 
 pub accept-requires : goal.accept-requires
-accept-requires c = record { xs_len = (area-length _ _ c.requires.formed, area-bytes _ _ c.requires.formed); formed = c.requires.formed; bytes_value = c.requires.bytes_value }
+accept-requires c = record { xs_len = (area-length _ _ c.requires.formed, area-bytes _ _ c.requires.formed); formed = c.requires.formed }
 
 pub finish-requires : goal.finish-requires
 finish-requires c =
-    let a = (rw (c.in-Ok-Some.is ∙ ap Ok c.in-Ok-Some.field-0-is) at c.accept.ensures) in record { formed = moved-formed a.1 c.requires.formed; kept_at = moved-kept a.1 c.requires.kept_at; bytes_value = c.requires.bytes_value; finishing = moved-finish a.1 a.0 }
+    let a = (rw (c.in-Ok-Some.is ∙ ap Ok c.in-Ok-Some.field-0-is) at c.accept.ensures) in record { formed = moved-formed a.1 c.requires.formed; kept_at = moved-kept a.1 c.requires.kept_at; finishing = moved-finish a.1 a.0 }
 
 pub returns-in-Ok-None : goal.returns-in-Ok-None
 returns-in-Ok-None c = marked-waits (record { at = c.args.mark.at; group = c.args.mark.raft_group_id; byte = c.args.mark.byte }) c.args.seq _ c.args.xs.now c.args.bs.now c.requires.formed _ _ (rw (c.in-Ok-None.is ∙ ap Ok c.in-Ok-None.field-0-is) at c.accept.ensures)

@@ -1,5 +1,5 @@
 -- `writes::stored::holds_any` meets its contract. Assumes nothing.
-use Prim.Native.Nat.{ℕ, ◌-◌}
+use Prim.Native.Nat.{ℕ}
 use mathlib.Core.List.{List}
 use mathlib.Core.Path.{◌≡◌}
 use Rattle.contexts.specs.Contexts.{Formed}

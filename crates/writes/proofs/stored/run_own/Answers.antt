@@ -9,7 +9,7 @@ loop-i-init c = own-start _ _ _ _ c.row_count-n.ensures _ _ c.requires.formed c.
 pub turn-requires : goal.turn-requires
 unfolding call_of
 turn-requires c =
-    let i = c.loop-i.invariant in record { formed = i.formed; undoable = i.back.undo.undoable; i_bound = rw c.row_count-n.ensures at c.loop-i-test.true; bytes_value = c.requires.bytes_value; keeping = i.own }
+    let i = c.loop-i.invariant in record { formed = i.formed; undoable = i.back.undo.undoable; i_bound = rw c.row_count-n.ensures at c.loop-i-test.true; passed = c.args.replay.now.passed; keeping = i.own }
 
 pub returns-in-Err : goal.returns-in-Err
 unfolding call_of
@@ -17,7 +17,7 @@ returns-in-Err c = own-refused _ _ _ _ c.row_count-n.ensures _ _ _ _ _ c.loop-i.
 
 pub loop-i-preserved : goal.loop-i-preserved
 unfolding call_of
-loop-i-preserved c = own-more _ _ _ _ c.row_count-n.ensures _ _ _ _ _ c.loop-i.invariant c.loop-i-test.true c.requires.bytes_value _ _ (rw c.in_default.is at c.turn.ensures)
+loop-i-preserved c = own-more _ _ _ _ c.row_count-n.ensures _ _ _ _ _ c.loop-i.invariant c.loop-i-test.true c.args.replay.now.passed _ _ (rw c.in_default.is at c.turn.ensures)
 
 pub returns : goal.returns
 returns c = own_all _ _ _ _ c.row_count-n.ensures _ _ _ _ _ c.loop-i.invariant c.loop-i-test.false

@@ -1,5 +1,4 @@
 -- `writes::stored::run_stored_in` meets its contract. Assumes nothing.
-use Prim.Native.Nat.{◌-◌}
 use mathlib.Core.Path.{◌≡◌}
 use lib.ListN.{length}
 use Rattle.writes.specs.StoredLaws.{StoredUnder}

@@ -1,27 +1,13 @@
 -- `writes::writes::write` meets its contract. Assumes nothing.
 use mathlib.Core.Path.{sym}
-use Rattle.log_batch.specs.Lent.{items_of}
-use Rattle.log_batch.specs.Judged.{call_of, checked_as}
-use Rattle.std.proofs.lemmas.Result.{err_from_is_err_and}
-use Rattle.writes.proofs.WriteWays.{written-refused, written_run}
+use Rattle.writes.proofs.WriteWays.{list_written}
 use Rattle.writes.proofs.writes.write.Goals as goal
 
-pub run_put-requires : goal.run_put-requires
-run_put-requires c = record { formed = c.requires.formed; single = c.is_single_put.ensures c.args.entries.now c.if-is_single_put.true; keeping = c.requires.keeping }
+pub write_list-requires : goal.write_list-requires
+write_list-requires c = record { formed = c.requires.formed; single_list = c.is_single_list.ensures c.args.call c.args.batch.now.bytes.now (sym c.writes.ensures) c.if-is_single_list.true; keeping = c.requires.keeping }
 
-pub returns-then-is_single_put : goal.returns-then-is_single_put
-returns-then-is_single_put c =
-    let s = c.is_single_put.ensures c.args.entries.now c.if-is_single_put.true in written_run (call_of c.args.call) c.args.seq (items_of c.args.items.now c.args.entries.now c.args.bytes.now) c.args.xs.now c.args.bs.now _ _ _ s.passes (sym s.unmarked) c.run_put.ensures
-
-pub run_checked-requires : goal.run_checked-requires
-unfolding checked_as
-run_checked-requires c = record { formed = c.requires.formed; bytes_value = sym (rw c.in_ok-check.was at c.check.ensures); keeping = c.requires.keeping }
-
-pub returns-in_err-check : goal.returns-in_err-check
-unfolding checked_as
-returns-in_err-check c =
-    let x = err_from_is_err_and c.from_residual.result c.from_residual.ensures.1 in
-    rw (x.1, x.2) (written-refused (call_of c.args.call) c.args.seq (items_of c.args.items.now c.args.entries.now c.args.bytes.now) c.args.xs.now c.args.bs.now _ c.requires.formed (rw c.in_err-check.was at c.check.ensures))
-
-pub returns : goal.returns
-returns c = c.run_checked.ensures
+pub returns-then-is_single_list : goal.returns-then-is_single_list
+returns-then-is_single_list c =
+    let b = c.args.batch.now in
+    let single = c.is_single_list.ensures c.args.call b.bytes.now (sym c.writes.ensures) c.if-is_single_list.true in
+    list_written c.args.call c.args.seq b.items.now b.entries.now b.bytes.now c.args.xs.now c.args.bs.now _ _ _ single c.write_list.ensures

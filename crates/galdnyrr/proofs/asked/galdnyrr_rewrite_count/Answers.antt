@@ -1,6 +1,0 @@
--- `galdnyrr::asked::galdnyrr_rewrite_count` meets its contract. Assumes nothing.
-use Rattle.galdnyrr.proofs.AskedLaws.{value_same}
-use Rattle.galdnyrr.proofs.asked.galdnyrr_rewrite_count.Goals as goal
-
-pub returns : goal.returns
-returns c = value_same c.rewrite_count-counted.ensures c.tell_count.ensures

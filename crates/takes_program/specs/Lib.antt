@@ -1,2 +1,0 @@
--- What the program holds.
-pub mod Held
