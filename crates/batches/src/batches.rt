@@ -63,7 +63,7 @@ pub fn run_items(xs: &mut [u64], bs: &mut [u8], call: Call, batch: &LogBatch) ->
     let a = groups::NUMBERS;
     let counts = lists::counts_in(&xs[a..]);
     groups::begin(xs);
-    let n = row_count(batch);
+    let n = row_count(batch.items);
     for i in 0..n {
         if let Err(cause) = turn(xs, bs, call, batch, i, i + 1 == n) {
             go_back(xs, bs, counts);

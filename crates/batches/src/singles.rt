@@ -26,11 +26,9 @@ use log_batch::{Call, LogBatch};
 use pipe_log::{Cause, ENTRY_WIDTH, FileId, LogQueue, Refusal};
 
 // Whether a batch is one list of entries of a queue that meets none of the checks.
-pub fn is_single_list(batch: &LogBatch, queue: LogQueue) -> bool
-    ensures { (call : _) (bytes : List ℕ) → writes (call_of call) ≡ queue → result ≡ true → SingleList call batch.now.items.now batch.now.entries.now bytes }
+pub fn is_single_list(items: &[u64], entries: &[u64], queue: LogQueue) -> bool
+    ensures { (call : _) (bytes : List ℕ) → writes (call_of call) ≡ queue → result ≡ true → SingleList call items.now entries.now bytes }
 {
-    let items = batch.items;
-    let entries = batch.entries;
     if items.len() != ITEM_WIDTH {
         return false;
     }
@@ -89,17 +87,16 @@ fn is_plain_put(call: Call, row: &[u64], bytes: &[u8]) -> bool
 }
 
 // Whether a batch is one such Put.
-pub fn is_single_put(call: Call, batch: &LogBatch) -> bool
-    ensures { (entries : List ℕ) → result ≡ true → Single call (put_item call batch.now.items.now) batch.now.items.now entries batch.now.bytes.now }
+pub fn is_single_put(call: Call, items: &[u64], bytes: &[u8]) -> bool
+    ensures { (entries : List ℕ) → result ≡ true → Single call (put_item call items.now) items.now entries bytes.now }
 {
-    let items = batch.items;
     if items.len() != ITEM_WIDTH {
         return false;
     }
     if items[1] != PUT {
         return false;
     }
-    is_plain_put(call, items, batch.bytes)
+    is_plain_put(call, items, bytes)
 }
 
 // The item of such a list.

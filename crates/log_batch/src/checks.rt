@@ -15,7 +15,7 @@ use crate::open::{open_item, row_count};
 use pipe_log::{Cause, Refusal};
 
 // The highest status of a mark.
-pub const MAX_STATUS: u8 = END as u8;
+pub const MAX_STATUS: u8 = END;
 
 // Whether an item breaks the rule of a marked batch: a second mark, a status above 2, another group.
 fn breaks_mark(mark: Mark, i: usize, item: LogItem, bytes: &[u8]) -> bool
@@ -135,7 +135,7 @@ pub fn check(call: Call, batch: &LogBatch) -> Result<(), Refusal>
 {
     let mark = mark_for(call, batch);
     let mut best = None;
-    for i in 0..row_count(batch) {
+    for i in 0..row_count(batch.items) {
         best = lesser(best, least_at(call, mark, i, batch), i);
         if let Some(refusal) = best
             && refusal.cause == Cause::TooLong

@@ -17,12 +17,17 @@ use crate::open::{open_item, row_count};
 // The length of the reserved key.
 pub const RESERVED_LEN: usize = 3;
 
-// The numbers of the statuses.
-pub const BEGIN: u64 = 0;
+// The bytes of the statuses.
+pub const BEGIN: u8 = 0;
 
-pub const MIDDLE: u64 = 1;
+pub const MIDDLE: u8 = 1;
 
-pub const END: u64 = 2;
+pub const END: u8 = 2;
+
+// The numbers of the first two, as the head of a part has them.
+const BEGIN_NUMBER: u64 = BEGIN as u64;
+
+const MIDDLE_NUMBER: u64 = MIDDLE as u64;
 
 // The status of a mark.
 #[derive(Clone, Copy)]
@@ -45,11 +50,12 @@ impl From<AtomicGroupStatus> for u64 {
 
     #[tactic(auto, unfolding(crate::specs::Judged::status_as, crate::specs::Judged::status_number))]
     fn from(status: AtomicGroupStatus) -> u64 {
-        match status {
+        let byte = match status {
             AtomicGroupStatus::Begin => BEGIN,
             AtomicGroupStatus::Middle => MIDDLE,
             AtomicGroupStatus::End => END,
-        }
+        };
+        u64::from(byte)
     }
 }
 
@@ -60,8 +66,8 @@ impl From<u64> for AtomicGroupStatus {
     #[tactic(auto, using(crate::proofs::ItemLaws::status_end), unfolding(crate::specs::Judged::status_as, rules::specs::Items::status_of))]
     fn from(number: u64) -> AtomicGroupStatus {
         match number {
-            BEGIN => AtomicGroupStatus::Begin,
-            MIDDLE => AtomicGroupStatus::Middle,
+            BEGIN_NUMBER => AtomicGroupStatus::Begin,
+            MIDDLE_NUMBER => AtomicGroupStatus::Middle,
             _ => AtomicGroupStatus::End,
         }
     }
@@ -156,7 +162,7 @@ fn mark_at(batch: &LogBatch, i: usize) -> Option<Mark>
 pub fn first_mark(batch: &LogBatch) -> Option<Mark>
     ensures { mark_as result ≡ first_mark 0 (items_in batch.now) }
 {
-    for i in 0..row_count(batch) {
+    for i in 0..row_count(batch.items) {
         if let Some(mark) = mark_at(batch, i) {
             return Some(mark);
         }

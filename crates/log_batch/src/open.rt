@@ -3,7 +3,7 @@
 
 ghost use Rattle.std.specs.Prelude.{◌≡◌, ◌+◌, ◌*◌, ◌/◌, ◌≤◌, ◌<◌, leb, length, drop};
 ghost use Rattle.log_batch.specs.Batch.{count_in};
-ghost use Rattle.log_batch.specs.Lent.{value_fits, value_at, file_at, opened_entries, opened_put, opened_del, opened_row, OpenedWithin};
+ghost use Rattle.log_batch.specs.Lent.{row_count_of, value_fits, value_at, file_at, opened_entries, opened_put, opened_del, opened_row, OpenedWithin};
 
 use crate::batch::LogBatch;
 use crate::item::{Bytes, Command, EntryIndexes, KeyValue, LogItem, LogItemContent, OpType};
@@ -42,10 +42,10 @@ pub struct Unopened {
 }
 
 // The number of items: a last row that is cut short counts.
-pub fn row_count(batch: &LogBatch) -> usize
-    ensures { result ≡ count_in batch.now }
+pub fn row_count(items: &[u64]) -> usize
+    ensures { result ≡ row_count_of items.now }
 {
-    (batch.items.len() + ITEM_REST) / ITEM_WIDTH
+    (items.len() + ITEM_REST) / ITEM_WIDTH
 }
 
 // Whether `len` places from `at` are within the first `end`.

@@ -54,7 +54,7 @@ pub fn count_batch(replay: &RewriteReplay) -> Store
         items: 0,
         entries: 0,
     };
-    for i in 0..row_count(&replay.batch) {
+    for i in 0..row_count(replay.batch.items) {
         count = count_item(count, replay, i);
     }
     count
@@ -98,7 +98,7 @@ pub fn push_batch(
     ensures { PushedAll store (room_of cells ws.old vs.old) tag (unmarked (items_in replay.now.batch)) result (room_of cells ws.new vs.new) }
 {
     let mut all = store;
-    for i in 0..row_count(&replay.batch) {
+    for i in 0..row_count(replay.batch.items) {
         all = push_item(ws, vs, cells, all, tag, replay, i);
     }
     all

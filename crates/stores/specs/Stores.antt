@@ -1,4 +1,4 @@
--- A store: items in the layout of a lent batch, read as `log_batch` reads one. Ok j has its bytes from place 64 j, and its rows of
+-- A store: items in the layout of a lent batch, read as `log_batch` reads one. Item j has its bytes from place 64 j, and its rows of
 -- entries behind those of the items before it.
 use Rattle.rules.specs.Causes.{Ok}
 use Rattle.std.specs.Prelude.{Option, Some, None, Bool, false, cond, ◌&&◌, List, [], ◌∷◌, ◌++◌, ◌≡◌, ℕ, zero, suc, ◌+◌, ◌*◌, ◌/◌, ◌≤◌, ◌<◌, eqb, leb, ltb, length, get_or, take, drop}

@@ -12,7 +12,6 @@ use Rattle.std.specs.Option.{MatchOption}
 use Rattle.std.specs.Prelude.{Option, Some, None}
 use Rattle.cells.specs.Part.{part}
 use Rattle.rules.specs.Items.{Status, status_of}
-use Rattle.log_batch.specs.Judged.{status_as}
 use Rattle.room.specs.Rooms.{head_at, count_in, group_in}
 use Rattle.room.specs.HeadLaws.{head_number}
 use Rattle.waiting.specs.declared.PartHead.{PartHead}
@@ -39,9 +38,9 @@ module _ (n : ℕ) (ws : List ℕ) (k : ℕ) (l : k < n) where
   unfolding is_of
   is_of_free g e = rw (count-is, e)
 
-  pub step_is : (new : PartHead) (old : Status) → old ≡ status_of (get_or ws (2 + k * 10 + 3) 0) → step_by (status_as new.status) new.start old (get_or ws (2 + k * 10 + 5) 0) ≡ step_of new (head_at k (part 2 (n * 10) ws))
+  pub step_is : (new : PartHead) (st old : Status) → st ≡ status_of new.status → old ≡ status_of (get_or ws (2 + k * 10 + 3) 0) → step_by st new.start old (get_or ws (2 + k * 10 + 5) 0) ≡ step_of new (head_at k (part 2 (n * 10) ws))
   unfolding step_of
-  step_is new old e = rw (e, head_number n ws k 3 l (omega arith), head_number n ws k 5 l (omega arith))
+  step_is new st old f e = rw (f, e, head_number n ws k 3 l (omega arith), head_number n ws k 5 l (omega arith))
 
 -- what `find` over the cells tells
 pub first-of : (p : List ℕ → Bool) (n : ℕ) (hs : List ℕ) (r : Option ℕ) → MatchOption r ((k : ℕ) → 0 ≤ k → k < n → p (head_at k hs) ≡ false) (λ i. (0 ≤ i) × (i < n) × (p (head_at i hs) ≡ true) × ((k : ℕ) → 0 ≤ k → k < i → p (head_at k hs) ≡ false)) → FirstOf p n hs r

@@ -1,14 +1,15 @@
 -- A part is put into a cell of a room in two slices. Assumes nothing.
 use mathlib.Core.List.{List, [], ◌∷◌}
 use Rattle.std.specs.Prelude.{Some}
-use mathlib.Core.Path.{◌≡◌, sym, ◌∙◌}
-use Prim.Native.Nat.{ℕ, ◌+◌, ◌*◌, ◌≤◌, ◌<◌}
+use mathlib.Core.Path.{◌≡◌, refl, sym, ◌∙◌}
+use Prim.Native.Nat.{ℕ, zero, suc, ◌+◌, ◌*◌, ◌≤◌, ◌<◌}
 use native.Mathlib.Nat.{add-zero}
 use native.Mathlib.Omega.{arith}
 use lib.ListN.{get_or}
+use borrow.Author.Tests.{ne_eqb}
 use Rattle.cells.specs.Part.{part}
 use Rattle.rules.specs.Items as rules
-use Rattle.rules.specs.Items.{Status, status_of}
+use Rattle.rules.specs.Items.{begin, middle, end, status_of}
 use Rattle.rules.specs.Context.{Part}
 use Rattle.stores.specs.declared.Store.{Store}
 use Rattle.room.specs.Rooms.{Room, items_in, head_at, newest_tag, waiting_in, waiting_items, waiting_entries, cell_count, other_tag}
@@ -19,10 +20,9 @@ use Rattle.room.specs.Batches.{counts_for}
 use Rattle.room.specs.Changes.{Became}
 use Rattle.room.specs.Parts.{front_head, renewed_head, WroteIn}
 use Rattle.room.specs.PartLaws.{one-part, two-parts}
-use Rattle.log_batch.specs.Judged.{status_as, status_number}
 use Rattle.waiting.specs.declared.PartHead.{PartHead}
 use Rattle.waiting.specs.declared.Form as form
-use Rattle.waiting.specs.Steps.{joined_status, form_parts}
+use Rattle.waiting.specs.Steps.{form_parts}
 use Rattle.waiting.specs.Accepts.{parts_at}
 use Rattle.waiting.specs.Forms.{FormAt, with_part, form_tag, Tagging, joined_number, form_head, part_with, Freed}
 use Rattle.waiting.specs.FormLaws.{by_parts, form-waits}
@@ -51,8 +51,25 @@ module _ (n : ℕ) (ws : List ℕ) (k : ℕ) (l : k < n) where
       let zero_is : get_or head 0 0 ≡ get_or ws (2 + k * 10) 0 = head_number n ws k 0 l (omega arith) ∙ rw (add-zero (2 + k * 10)) in
       rw (zero_is, number 1 (omega arith), number 2 (omega arith), number 6 (omega arith), number 7 (omega arith), number 8 (omega arith), number 9 (omega arith))
 
-  pub joined-is : (new : PartHead) (old joined : Status) → old ≡ status_of (get_or ws (2 + k * 10 + 3) 0) → joined ≡ joined_status old (status_as new.status) → status_number joined ≡ joined_number new head
-  joined-is new old joined e s = rw (s, e, number 3 (omega arith))
+-- ---- the number of a joined part's status
+
+pub joined_begin : (old st : ℕ) → begin ≡ status_of st → st ≡ joined_number old st
+unfolding status_of joined_number
+joined_begin old zero e = refl
+joined_begin old (suc zero) e = cc
+joined_begin old (suc (suc m)) e = cc
+
+pub joined_middle : (old st : ℕ) → middle ≡ status_of st → old ≡ joined_number old st
+unfolding status_of joined_number
+joined_middle old zero e = cc
+joined_middle old (suc zero) e = refl
+joined_middle old (suc (suc m)) e = cc
+
+pub joined_end : (old st : ℕ) → end ≡ status_of st → st ≡ joined_number old st
+unfolding status_of joined_number
+joined_end old zero e = cc
+joined_end old (suc zero) e = cc
+joined_end old (suc (suc m)) e = rw (ne_eqb (suc (suc m)) 1 (λ z. omega arith))
 
 -- ---- the form in a room
 

@@ -11,7 +11,7 @@ use Rattle.maps.specs.MapLaws.{pair}
 use Rattle.maps.specs.Cells.{holds}
 use Rattle.maps.proofs.CellLaws.{lookup_absent}
 use Rattle.rules.specs.Items as rules
-use Rattle.rules.specs.Items.{Status, begin, middle, end, status_of}
+use Rattle.rules.specs.Items.{status_of}
 use Rattle.rules.specs.Context.{Part}
 use Rattle.rules.specs.Waiting.{wait, accept}
 use Rattle.stores.specs.declared.Store.{Store}
@@ -23,69 +23,60 @@ use Rattle.room.specs.ChangeLaws.{waiting_at_lem, waiting-map_of}
 use Rattle.room.specs.Parts.{first_head, renewed_head, WroteIn}
 use Rattle.room.specs.PartLaws.{two-parts, first-waits, front-waits, Retagged, renewed-one, renewed_two}
 use Rattle.room.specs.RetagLaws.{retagged-other, retagged-more}
-use Rattle.log_batch.specs.Judged.{status_as, status_number}
 use Rattle.waiting.specs.declared.PartHead.{PartHead}
 use Rattle.waiting.specs.declared.Form as form
 use Rattle.waiting.specs.declared.Step as step
 use Rattle.waiting.specs.Steps.{is_of, is_free_cell, AtCell, step_by, step_of, joined_status, joined_part, form_parts, stepped}
 use Rattle.waiting.specs.StepLaws.{accept_step}
 use Rattle.waiting.specs.Accepts.{parts_at}
-use Rattle.waiting.specs.Forms.{FormAt, form_tag, number_in, joined_number, form_head, part_with, Freed}
+use Rattle.waiting.specs.Forms.{FormAt, form_tag, joined_number, form_head, part_with, Freed}
 
--- ---- the number of a status
+-- ---- what a step says of the numbers: that of the part that comes, and that of the newest one
 
-number-back : (st : Status) → status_of (status_number st) ≡ st
-unfolding status_of status_number
-number-back begin = refl
-number-back middle = refl
-number-back end = refl
-
--- ---- what a step says of the statuses: that of the part that comes, and the number of the newest one's
-
-unfoldable Tells : step.Step → Status → ℕ → Type 0
+unfoldable Tells : step.Step → ℕ → ℕ → Type 0
 Tells (step.TheVariants.Wait form.TheVariants.First) st old = ⊥
-Tells (step.TheVariants.Wait form.TheVariants.Front) st old = (st ≡ begin) × (2 ≤ old)
-Tells (step.TheVariants.Wait form.TheVariants.Replace) st old = st ≡ begin
-Tells (step.TheVariants.Wait form.TheVariants.Join) st old = (st ≡ begin → ⊥) × (old ≡ 0 → st ≡ middle)
+Tells (step.TheVariants.Wait form.TheVariants.Front) st old = (st ≡ 0) × (2 ≤ old)
+Tells (step.TheVariants.Wait form.TheVariants.Replace) st old = st ≡ 0
+Tells (step.TheVariants.Wait form.TheVariants.Join) st old = (1 ≤ st) × (old ≡ 0 → st ≡ 1)
 Tells step.TheVariants.Drop st old = Unit
 Tells step.TheVariants.Finish st old = Unit
 Tells step.TheVariants.Back st old = Unit
 
-back-tells : (b : Bool) (s : step.Step) (st : Status) (old : ℕ) → Tells s st old → Tells (cond b step.TheVariants.Back s) st old
+back-tells : (b : Bool) (s : step.Step) (st old : ℕ) → Tells s st old → Tells (cond b step.TheVariants.Back s) st old
 unfolding Tells
 back-tells true s st old t = tt
 back-tells false s st old t = t
 
-by-tells : (st : Status) (start old last : ℕ) → Tells (step_by st start (status_of old) last) st old
+by-tells : (st start old last : ℕ) → Tells (step_by (status_of st) start (status_of old) last) st old
 unfolding Tells step_by status_of
-by-tells begin start zero last = refl
-by-tells begin start (suc zero) last = refl
-by-tells begin start (suc (suc n)) last = (refl, omega arith)
-by-tells middle start zero last = back-tells (ltb start last) (step.TheVariants.Wait form.TheVariants.Join) middle 0 (λ e. cc, λ z. refl)
-by-tells middle start (suc zero) last = back-tells (ltb start last) (step.TheVariants.Wait form.TheVariants.Join) middle 1 (λ e. cc, λ z. refl)
-by-tells middle start (suc (suc n)) last = tt
-by-tells end start zero last = back-tells (ltb start last) step.TheVariants.Finish end 0 tt
-by-tells end start (suc zero) last = back-tells (ltb start last) (step.TheVariants.Wait form.TheVariants.Join) end 1 (λ e. cc, λ z. absurd (omega arith))
-by-tells end start (suc (suc n)) last = tt
+by-tells zero start zero last = refl
+by-tells zero start (suc zero) last = refl
+by-tells zero start (suc (suc n)) last = (refl, omega arith)
+by-tells (suc zero) start zero last = back-tells (ltb start last) (step.TheVariants.Wait form.TheVariants.Join) 1 0 (omega arith, λ z. refl)
+by-tells (suc zero) start (suc zero) last = back-tells (ltb start last) (step.TheVariants.Wait form.TheVariants.Join) 1 1 (omega arith, λ z. refl)
+by-tells (suc zero) start (suc (suc n)) last = tt
+by-tells (suc (suc m)) start zero last = back-tells (ltb start last) step.TheVariants.Finish (suc (suc m)) 0 tt
+by-tells (suc (suc m)) start (suc zero) last = back-tells (ltb start last) (step.TheVariants.Wait form.TheVariants.Join) (suc (suc m)) 1 (omega arith, λ z. absurd (omega arith))
+by-tells (suc (suc m)) start (suc (suc n)) last = tt
 
 module _ (new : PartHead) (h : List ℕ) where
-  step-tells : (s : step.Step) → step_of new h ≡ s → Tells s (status_as new.status) (get_or h 3 0)
+  step-tells : (s : step.Step) → step_of new h ≡ s → Tells s new.status (get_or h 3 0)
   unfolding step_of
-  step-tells s e = rw e at (by-tells (status_as new.status) new.start (get_or h 3 0) (get_or h 5 0))
+  step-tells s e = rw e at (by-tells new.status new.start (get_or h 3 0) (get_or h 5 0))
 
   never-first : step_of new h ≡ step.TheVariants.Wait form.TheVariants.First → ⊥
   unfolding Tells
   never-first e = step-tells _ e
 
-  pub front-means : step_of new h ≡ step.TheVariants.Wait form.TheVariants.Front → (status_as new.status ≡ begin) × (2 ≤ get_or h 3 0)
+  pub front-means : step_of new h ≡ step.TheVariants.Wait form.TheVariants.Front → (new.status ≡ 0) × (2 ≤ get_or h 3 0)
   unfolding Tells
   front-means e = step-tells _ e
 
-  pub replace-means : step_of new h ≡ step.TheVariants.Wait form.TheVariants.Replace → status_as new.status ≡ begin
+  pub replace-means : step_of new h ≡ step.TheVariants.Wait form.TheVariants.Replace → new.status ≡ 0
   unfolding Tells
   replace-means e = step-tells _ e
 
-  pub join-means : step_of new h ≡ step.TheVariants.Wait form.TheVariants.Join → (status_as new.status ≡ begin → ⊥) × (get_or h 3 0 ≡ 0 → status_as new.status ≡ middle)
+  pub join-means : step_of new h ≡ step.TheVariants.Wait form.TheVariants.Join → (1 ≤ new.status) × (get_or h 3 0 ≡ 0 → new.status ≡ 1)
   unfolding Tells
   join-means e = step-tells _ e
 
@@ -159,25 +150,29 @@ module _ (s : Store) (r : Room) (w : Wf s r) (g k : ℕ) (l : k < cell_count r.h
     others_two z = rw z
 
     -- the newest part is renewed
-    module _ (st : Status) (start last : ℕ) (its : List rules.LogItem) (t : Store) (q : Room) (o : Retagged k (renewed_head (status_number st) start last h) (newest_tag h) its s r t q) where
-      renewed_here : (count_in h ≡ 2 → st ≡ begin) → Became g (Some (record { status = st; items = its; start = start; end = last } ∷ others)) s r t q
-      unfolding status_number
+    module _ (st start last : ℕ) (its : List rules.LogItem) (t : Store) (q : Room) (o : Retagged k (renewed_head st start last h) (newest_tag h) its s r t q) where
+      renewed_here : (count_in h ≡ 2 → st ≡ 0) → Became g (Some (record { status = status_of st; items = its; start = start; end = last } ∷ others)) s r t q
       renewed_here b =
-          let n = status_number st in
           by_parts
-          (λ z. rw (others-one z) (rw (group_here, number-back st) at (renewed-one k n start last its s r t q w l o z)))
-          (λ z. rw (others_two z) (rw (group_here, number-back st) at (renewed_two k n start last its s r t q w l o z (ap status_number (b z)))))
+          (λ z. rw (others-one z) (rw group_here at (renewed-one k st start last its s r t q w l o z)))
+          (λ z. rw (others_two z) (rw group_here at (renewed_two k st start last its s r t q w l o z (b z))))
 
 -- ---- joined parts
 
--- the newest part of head h among ts with the part joined to it
-joined_is : (h : List ℕ) (ts : List Tagged) (new : PartHead) (its : List rules.LogItem) → joined_part (newest h ts) (part_with new its) ≡ record { status = joined_status (status_of (get_or h 3 0)) (status_as new.status); items = items_with (newest_tag h) ts ++ its; start = get_or h 4 0; end = new.end }
-unfolding joined_part newest
-joined_is h ts new its = refl
+joined-status : (old st : ℕ) → 1 ≤ st → joined_status (status_of old) (status_of st) ≡ status_of (joined_number old st)
+unfolding joined_status status_of joined_number
+joined-status old zero h = absurd (omega arith)
+joined-status old (suc zero) h = refl
+joined-status old (suc (suc m)) h = rw (ne_eqb (suc (suc m)) 1 (λ z. omega arith))
 
-joined-begins : (old : ℕ) (st : Status) → old ≡ 0 → st ≡ middle → joined_status (status_of old) st ≡ begin
-unfolding joined_status status_of
-joined-begins old st e f = rw (f, e)
+-- the newest part of head h among ts with the part joined to it
+joined_is : (h : List ℕ) (ts : List Tagged) (new : PartHead) (its : List rules.LogItem) → 1 ≤ new.status → joined_part (newest h ts) (part_with new its) ≡ record { status = status_of (joined_number (get_or h 3 0) new.status); items = items_with (newest_tag h) ts ++ its; start = get_or h 4 0; end = new.end }
+unfolding joined_part newest
+joined_is h ts new its e i = record { status = joined-status (get_or h 3 0) new.status e i; items = items_with (newest_tag h) ts ++ its; start = get_or h 4 0; end = new.end }
+
+joined-begins : (old st : ℕ) → old ≡ 0 → (old ≡ 0 → st ≡ 1) → joined_number old st ≡ 0
+unfolding joined_number
+joined-begins old st e f = rw (f e, e)
 
 -- ---- a group that does not wait
 
@@ -233,12 +228,12 @@ module _ (s : Store) (r : Room) (w : Wf s r) (g k : ℕ) (hd : PartHead) (its : 
     first_form : FormAt form.TheVariants.First g (cell_count r.heads) r.heads k hd → Freed form.TheVariants.First s r (form_tag form.TheVariants.First k head) t q → Wrote form.TheVariants.First → Became g (Some (parts form.TheVariants.First)) s r u p
     unfolding form_parts form_head form_tag is_free_cell
     first_form a e o =
-        let o' : WroteIn k (first_head k g (number_in hd) hd.start hd.end) (k * 2) its s r u p = rw (← e.0, ← e.1) o in
+        let o' : WroteIn k (first_head k g hd.status hd.start hd.end) (k * 2) its s r u p = rw (← e.0, ← e.1) o in
         rw (parts_none s r g a.absent)
-        (rw (number-back (status_as hd.status)) at (first-waits k g (number_in hd) hd.start hd.end its s r u p w a.inside (eqb-true (count_in head) 0 a.free) o' (waits-not s r g a.absent)))
+        (first-waits k g hd.status hd.start hd.end its s r u p w a.inside (eqb-true (count_in head) 0 a.free) o' (waits-not s r g a.absent))
 
     front_form : FormAt form.TheVariants.Front g (cell_count r.heads) r.heads k hd → Freed form.TheVariants.Front s r (form_tag form.TheVariants.Front k head) t q → Wrote form.TheVariants.Front → Became g (Some (parts form.TheVariants.Front)) s r u p
-    unfolding form_parts form_head form_tag status_of status_number
+    unfolding form_parts form_head form_tag
     front_form a e o =
         let m = front-means hd head a.1 in
         let z = m.0 in
@@ -256,8 +251,8 @@ module _ (s : Store) (r : Room) (w : Wf s r) (g k : ℕ) (hd : PartHead) (its : 
     replace_form a e o =
         let z = replace-means hd head a.1 in
         rw (parts_here s r w g k a.0.inside a.0.here)
-        (renewed_here s r w g k a.0.inside a.0.here (status_as hd.status) hd.start hd.end its u p
-        (retagged-other s r (newest_tag head) t q w e k (renewed_head (number_in hd) hd.start hd.end head) its u p o) (λ two. z))
+        (renewed_here s r w g k a.0.inside a.0.here hd.status hd.start hd.end its u p
+        (retagged-other s r (newest_tag head) t q w e k (renewed_head hd.status hd.start hd.end head) its u p o) (λ two. z))
 
     join_form : FormAt form.TheVariants.Join g (cell_count r.heads) r.heads k hd → Freed form.TheVariants.Join s r (form_tag form.TheVariants.Join k head) t q → Wrote form.TheVariants.Join → Became g (Some (parts form.TheVariants.Join)) s r u p
     unfolding form_parts form_head form_tag
@@ -265,12 +260,12 @@ module _ (s : Store) (r : Room) (w : Wf s r) (g k : ℕ) (hd : PartHead) (its : 
         let m = join-means hd head a.1 in
         let in_Cell = a.0.inside in
         let here = a.0.here in
-        let again = renewed_head (joined_number hd head) (get_or head 4 0) hd.end head in
+        let again = renewed_head (joined_number (get_or head 3 0) hd.status) (get_or head 4 0) hd.end head in
         let o' = rw (e.0, e.1) at o in
-        rw (parts_here s r w g k in_Cell here, joined_is head (items_in s r) hd its)
-        (renewed_here s r w g k in_Cell here (joined_status (status_of (get_or head 3 0)) (status_as hd.status)) (get_or head 4 0) hd.end (items_with (newest_tag head) (items_in s r) ++ its) u p
+        rw (parts_here s r w g k in_Cell here, joined_is head (items_in s r) hd its m.0)
+        (renewed_here s r w g k in_Cell here (joined_number (get_or head 3 0) hd.status) (get_or head 4 0) hd.end (items_with (newest_tag head) (items_in s r) ++ its) u p
         (retagged-more k again (newest_tag head) its s r u p w o')
-        (λ two. let z = (two-parts k head (items_in s r) two (w.cells k in_Cell)).begins in joined-begins (get_or head 3 0) (status_as hd.status) z (m.1 z)))
+        (λ two. joined-begins (get_or head 3 0) hd.status (two-parts k head (items_in s r) two (w.cells k in_Cell)).begins m.1))
 
     pub form-waits : (f : form.Form) → FormAt f g (cell_count r.heads) r.heads k hd → Freed f s r (form_tag f k head) t q → Wrote f → Became g (Some (parts f)) s r u p
     form-waits form.TheVariants.First = first_form

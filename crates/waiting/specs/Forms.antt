@@ -9,11 +9,10 @@ use Rattle.stores.specs.Tags.{count_tag}
 use Rattle.room.specs.Rooms.{Room, head_at, count_in, newest_tag, first_tag, other_tag}
 use Rattle.room.specs.Items.{TakenIn}
 use Rattle.room.specs.Parts.{first_head, front_head, renewed_head}
-use Rattle.log_batch.specs.Judged.{status_as, status_number}
 use Rattle.waiting.specs.declared.PartHead.{PartHead}
 use Rattle.waiting.specs.declared.Form as form
 use Rattle.waiting.specs.declared.Step as step
-use Rattle.waiting.specs.Steps.{FreeCell, AtCell, step_of, joined_status, form_parts}
+use Rattle.waiting.specs.Steps.{FreeCell, AtCell, step_of, form_parts}
 use Rattle.waiting.specs.Accepts.{parts_at}
 
 -- where the form serves: a part with this head comes to cell k
@@ -42,23 +41,19 @@ Tagging form.TheVariants.Front k h = newest_tag h ≤ k * 4 + 1
 Tagging form.TheVariants.Replace k h = Unit
 Tagging form.TheVariants.Join k h = Unit
 
--- the number of a part's status in a head
-abbrev pub number_in : PartHead → ℕ
-number_in new = status_number (status_as new.status)
-
--- the number of the status of the newest part of head h with the part joined to it
-abbrev pub joined_number : PartHead → List ℕ → ℕ
-joined_number new h = status_number (joined_status (status_of (get_or h 3 0)) (status_as new.status))
+-- the status of a joined part, as a number
+unfoldable pub joined_number : ℕ → ℕ → ℕ
+joined_number old status = cond (eqb status 1) old status
 
 unfoldable pub form_head : form.Form → ℕ → ℕ → PartHead → List ℕ → List ℕ
-form_head form.TheVariants.First k g new h = first_head k g (number_in new) new.start new.end
-form_head form.TheVariants.Front k g new h = front_head k (number_in new) new.start new.end h
-form_head form.TheVariants.Replace k g new h = renewed_head (number_in new) new.start new.end h
-form_head form.TheVariants.Join k g new h = renewed_head (joined_number new h) (get_or h 4 0) new.end h
+form_head form.TheVariants.First k g new h = first_head k g new.status new.start new.end
+form_head form.TheVariants.Front k g new h = front_head k new.status new.start new.end h
+form_head form.TheVariants.Replace k g new h = renewed_head new.status new.start new.end h
+form_head form.TheVariants.Join k g new h = renewed_head (joined_number (get_or h 3 0) new.status) (get_or h 4 0) new.end h
 
 -- the part with this head and these items
 abbrev pub part_with : PartHead → List rules.LogItem → Part
-part_with new its = record { status = status_as new.status; items = its; start = new.start; end = new.end }
+part_with new its = record { status = status_of new.status; items = its; start = new.start; end = new.end }
 
 -- ---- the items that leave for it
 

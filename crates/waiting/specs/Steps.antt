@@ -6,7 +6,6 @@ use Rattle.rules.specs.Items.{Status, begin, middle, end, status_of}
 use Rattle.rules.specs.Context.{Part}
 use Rattle.rules.specs.Waiting.{Accepted, wait, finish, back}
 use Rattle.room.specs.Rooms.{head_at, count_in, group_in}
-use Rattle.log_batch.specs.Judged.{status_as}
 use Rattle.waiting.specs.declared.PartHead.{PartHead}
 use Rattle.waiting.specs.declared.Form as form
 use Rattle.waiting.specs.declared.Step as step
@@ -61,7 +60,7 @@ step_by end start end last = step.TheVariants.Drop
 
 -- the step of a part at a cell with head h
 unfoldable pub step_of : PartHead → List ℕ → step.Step
-step_of new h = step_by (status_as new.status) new.start (status_of (get_or h 3 0)) (get_or h 5 0)
+step_of new h = step_by (status_of new.status) new.start (status_of (get_or h 3 0)) (get_or h 5 0)
 
 -- an End that joins makes an End
 unfoldable pub joined_status : Status → Status → Status

@@ -61,15 +61,15 @@ pub fn find(ws: &[u64], cells: usize, group: u64) -> Slot
     }
 }
 
-// What becomes of a part, by the status and the last file of the newest part.
-fn step_of(new: PartHead, old: AtomicGroupStatus, last: u64) -> Step
-    ensures { result ≡ step_by (status_as new.status) new.start (status_as old) last }
+// What becomes of a part with a status and a first file, by the status and the last file of the newest part.
+fn step_of(status: AtomicGroupStatus, start: u64, old: AtomicGroupStatus, last: u64) -> Step
+    ensures { result ≡ step_by (status_as status) start (status_as old) last }
 {
-    match (new.status, old) {
+    match (status, old) {
         (AtomicGroupStatus::Begin, AtomicGroupStatus::End) => Step::Wait(Form::Front),
         (AtomicGroupStatus::Begin, _) => Step::Wait(Form::Replace),
         (_, AtomicGroupStatus::End) => Step::Drop,
-        _ if new.start < last => Step::Back,
+        _ if start < last => Step::Back,
         (AtomicGroupStatus::End, AtomicGroupStatus::Begin) => Step::Finish,
         _ => Step::Wait(Form::Join),
     }
@@ -82,6 +82,7 @@ pub fn step_at(ws: &[u64], cells: usize, k: usize, new: PartHead) -> Step
     ensures { result ≡ step_of new (head_at k (part 2 (cells * 10) ws.now)) }
 {
     let at = HEADS_AT + k * HEAD_WIDTH;
+    let status = AtomicGroupStatus::from(new.status);
     let old = AtomicGroupStatus::from(ws[at + 3]);
-    step_of(new, old, ws[at + 5])
+    step_of(status, new.start, old, ws[at + 5])
 }

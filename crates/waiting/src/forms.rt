@@ -1,18 +1,17 @@
 // How a part that waits is put into a cell: the tag and the head that it gets, and the items that leave for it.
-#![tactic(auto, unfolding(crate::specs::Forms::form_tag, crate::specs::Forms::form_head, room::specs::Parts::first_head, crate::specs::Steps::joined_status, log_batch::specs::Judged::status_as))]
+#![tactic(auto, unfolding(crate::specs::Forms::form_tag, crate::specs::Forms::form_head, room::specs::Parts::first_head))]
 
 ghost use Rattle.std.specs.Prelude.{List, ◌≡◌, ℕ, ◌+◌, ◌*◌, ◌≤◌, ◌<◌, length, get_or, Some};
 ghost use Rattle.cells.specs.Part.{part};
 ghost use Rattle.log_batch.specs.Batch.{items_in};
-ghost use Rattle.log_batch.specs.Judged.{status_as};
 ghost use Rattle.room.specs.Rooms.{head_at, newest_tag, waiting_in, waiting_items, waiting_entries, other_tag};
 ghost use Rattle.room.specs.Layout.{store_of, room_of, context_cells, RoomWf};
 ghost use Rattle.room.specs.Batches.{unmarked};
 ghost use Rattle.room.specs.Changes.{Became};
 ghost use Rattle.room.specs.Parts.{front_head, renewed_head};
-ghost use Rattle.waiting.specs.Steps.{joined_status, form_parts};
+ghost use Rattle.waiting.specs.Steps.{form_parts};
 ghost use Rattle.waiting.specs.Accepts.{parts_at};
-ghost use Rattle.waiting.specs.Forms.{FormAt, with_part, form_tag, Tagging, number_in, joined_number, form_head, part_with, Freed};
+ghost use Rattle.waiting.specs.Forms.{FormAt, with_part, form_tag, Tagging, joined_number, form_head, part_with, Freed};
 
 use crate::moves::{PartItems, move_part};
 use crate::{Form, PartHead};
@@ -40,14 +39,14 @@ pub fn form_tag(ws: &[u64], cells: usize, k: usize, form: Form) -> u64
 fn front_head(ws: &[u64], cells: usize, k: usize, tag: u64, new: PartHead) -> [u64; HEAD_WIDTH]
     requires ws_len { (length ws.now ≡ 2 + cells * 218) × (k < cells) }
     requires tag_value { tag ≡ other_tag k (newest_tag (head_at k (part 2 (cells * 10) ws.now))) }
-    ensures { result ≡ front_head k (number_in new) new.start new.end (head_at k (part 2 (cells * 10) ws.now)) }
+    ensures { result ≡ front_head k new.status new.start new.end (head_at k (part 2 (cells * 10) ws.now)) }
 {
     let at = HEADS_AT + k * HEAD_WIDTH;
     [
         2,
         ws[at + 1],
         tag,
-        u64::from(new.status),
+        new.status,
         new.start,
         new.end,
         ws[at + 2],
@@ -61,14 +60,14 @@ fn front_head(ws: &[u64], cells: usize, k: usize, tag: u64, new: PartHead) -> [u
 #[tactic(auto, using(crate::proofs::Forming::renewed_is))]
 fn renewed_head(ws: &[u64], cells: usize, k: usize, new: PartHead) -> [u64; HEAD_WIDTH]
     requires { (length ws.now ≡ 2 + cells * 218) × (k < cells) }
-    ensures { result ≡ renewed_head (number_in new) new.start new.end (head_at k (part 2 (cells * 10) ws.now)) }
+    ensures { result ≡ renewed_head new.status new.start new.end (head_at k (part 2 (cells * 10) ws.now)) }
 {
     let at = HEADS_AT + k * HEAD_WIDTH;
     [
         ws[at],
         ws[at + 1],
         ws[at + 2],
-        u64::from(new.status),
+        new.status,
         new.start,
         new.end,
         ws[at + 6],
@@ -78,25 +77,25 @@ fn renewed_head(ws: &[u64], cells: usize, k: usize, new: PartHead) -> [u64; HEAD
     ]
 }
 
-// The status of a joined part: an End that joins makes an End.
-fn joined_status(old: AtomicGroupStatus, new: AtomicGroupStatus) -> AtomicGroupStatus
-    ensures { status_as result ≡ joined_status (status_as old) (status_as new) }
+// The status of a joined part, as a number: an End that joins makes an End.
+#[tactic(auto, using(crate::proofs::Forming::joined_middle, crate::proofs::Forming::joined_begin, crate::proofs::Forming::joined_end), unfolding(log_batch::specs::Judged::status_as))]
+fn joined_number(old: u64, status: u64) -> u64
+    ensures { result ≡ joined_number old status }
 {
-    match new {
-        AtomicGroupStatus::Begin | AtomicGroupStatus::Middle => old,
-        AtomicGroupStatus::End => new,
+    match AtomicGroupStatus::from(status) {
+        AtomicGroupStatus::Middle => old,
+        AtomicGroupStatus::Begin | AtomicGroupStatus::End => status,
     }
 }
 
 // The head of cell `k` with a part joined to its newest one, whose start stays.
 fn joined_head(ws: &[u64], cells: usize, k: usize, new: PartHead) -> [u64; HEAD_WIDTH]
     requires { (length ws.now ≡ 2 + cells * 218) × (k < cells) }
-    ensures { result ≡ renewed_head (joined_number new (head_at k (part 2 (cells * 10) ws.now))) (get_or (head_at k (part 2 (cells * 10) ws.now)) 4 0) new.end (head_at k (part 2 (cells * 10) ws.now)) }
+    ensures { result ≡ renewed_head (joined_number (get_or (head_at k (part 2 (cells * 10) ws.now)) 3 0) new.status) (get_or (head_at k (part 2 (cells * 10) ws.now)) 4 0) new.end (head_at k (part 2 (cells * 10) ws.now)) }
 {
     let at = HEADS_AT + k * HEAD_WIDTH;
-    let old = AtomicGroupStatus::from(ws[at + 3]);
     let joined = PartHead {
-        status: joined_status(old, new.status),
+        status: joined_number(ws[at + 3], new.status),
         start: ws[at + 4],
         end: new.end,
     };
@@ -118,10 +117,7 @@ pub fn form_head(
     ensures { result ≡ form_head form k group new (head_at k (part 2 (cells * 10) ws.now)) }
 {
     match form {
-        Form::First => {
-            let status = u64::from(new.status);
-            [1, group, tag, status, new.start, new.end, 0, 0, 0, 0]
-        }
+        Form::First => [1, group, tag, new.status, new.start, new.end, 0, 0, 0, 0],
         Form::Front => front_head(ws, cells, k, tag, new),
         Form::Replace => renewed_head(ws, cells, k, new),
         Form::Join => joined_head(ws, cells, k, new),

@@ -11,14 +11,14 @@ mod moves;
 
 pub use accept::{accept_batch, take_finished};
 pub use limits::count_used;
-use log_batch::mark::AtomicGroupStatus;
 pub use merge::accept_part;
 pub use moves::PartItems;
 
 // What a part has beside its items: its status, and its first and its last file.
 #[derive(Clone, Copy)]
 pub struct PartHead {
-    pub status: AtomicGroupStatus,
+    // the number of its status, as a mark's byte has it; one above 2 stands for the last status too
+    pub status: u64,
     pub start: u64,
     pub end: u64,
 }

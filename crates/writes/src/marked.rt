@@ -13,7 +13,7 @@ ghost use Rattle.writes.specs.Accepting.{refusal_at, AcceptedIn};
 use crate::finish::finish;
 use contexts::{WAITING_BYTES_FROM, WAITING_FROM};
 use log_batch::RewriteReplay;
-use log_batch::mark::{AtomicGroupStatus, Mark};
+use log_batch::mark::Mark;
 use pipe_log::{Cause, Refusal};
 use waiting::PartHead;
 
@@ -35,7 +35,7 @@ fn accept(
     let d = c + room::BYTES;
     let group = mark.raft_group_id;
     let new = PartHead {
-        status: AtomicGroupStatus::from(mark.byte),
+        status: u64::from(mark.byte),
         start: seq,
         end: seq,
     };

@@ -143,7 +143,7 @@ pub fn run_own(xs: &mut [u64], bs: &mut [u8], replay: &RewriteReplay) -> Result<
     requires keeping { Keeping replay_rewrite (context_of xs.old bs.old) }
     ensures { Ran (run limited replay_rewrite (placed_from 0 (items_in replay.now.batch))) xs.old bs.old result xs.new bs.new }
 {
-    let n = row_count(&replay.batch);
+    let n = row_count(replay.batch.items);
     for i in 0..n {
         if let Err(cause) = turn(xs, bs, Call::ReplayRewrite, &replay.batch, i, false) {
             return Err(Refusal {

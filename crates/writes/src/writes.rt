@@ -49,7 +49,7 @@ fn check_and_run(
     requires keeping { Keeping (call_of call) (context_of xs.old bs.old) }
     ensures { Answered (written (call_of call) seq (items_in batch.now)) xs.old bs.old result xs.new bs.new }
 {
-    if is_single_put(call, batch) {
+    if is_single_put(call, batch.items, batch.bytes) {
         return run_put(xs, bs, call, batch);
     }
     check(call, batch)?;
@@ -86,7 +86,7 @@ pub fn write(
     requires keeping { Keeping (call_of call) (context_of xs.old bs.old) }
     ensures { Answered (written (call_of call) seq (items_in batch.now)) xs.old bs.old result xs.new bs.new }
 {
-    if is_single_list(batch, call.writes()) {
+    if is_single_list(batch.items, batch.entries, call.writes()) {
         return write_list(xs, bs, call, batch);
     }
     check_and_run(xs, bs, call, seq, batch)

@@ -25,5 +25,4 @@ is_plain_of-requires c = omega arith
 
 pub returns : goal.returns
 returns c =
-    let batch = c.args.batch.now in
-    λ call bytes q e. list-single call batch.items.now batch.entries.now bytes c.if-items-ne-ITEM_WIDTH.false c.if-items-ne-LIST.false c.if-count-gt-MAX_LIST_ENTRIES.false (omega arith) (rw q (sym c.is_plain_of.ensures ∙ e))
+    λ call bytes q e. list-single call c.args.items.now c.args.entries.now bytes c.if-items-ne-ITEM_WIDTH.false c.if-items-ne-LIST.false c.if-count-gt-MAX_LIST_ENTRIES.false (omega arith) (rw q (sym c.is_plain_of.ensures ∙ e))

@@ -1,5 +1,5 @@
 -- `waiting::forms::joined_head` meets its contract. Assumes nothing.
-use Rattle.waiting.proofs.Forming.{number, joined-is}
+use Rattle.waiting.proofs.Forming.{number}
 use mathlib.Core.Path.{◌∙◌}
 use native.Mathlib.Omega.{arith}
 use Rattle.waiting.proofs.forms.joined_head.Goals as goal
@@ -9,4 +9,4 @@ returns c =
     let n = c.args.cells in
     let ws = c.args.ws.now in
     c.renewed_head.ensures
-    ∙ rw (joined-is n ws c.args.k c.requires.1 c.args.new _ _ c.from-old.ensures c.joined_status.ensures, number n ws c.args.k c.requires.1 4 (omega arith))
+    ∙ rw (c.joined_number.ensures, number n ws c.args.k c.requires.1 3 (omega arith), number n ws c.args.k c.requires.1 4 (omega arith))
