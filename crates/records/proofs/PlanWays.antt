@@ -32,8 +32,7 @@ use Rattle.queries.specs.Places.{StandsAt}
 use Rattle.queries.specs.PlaceLaws.{asked_at}
 use Rattle.records.specs.declared.Plan.{Plan}
 use Rattle.records.specs.Filling.{Fillable}
-use Rattle.records.specs.declared.Listed.{Listed}
-use Rattle.records.specs.Fetches.{Fetching, Listing}
+use Rattle.records.specs.Fetches.{Fetching}
 use Rattle.records.specs.Plans.{Storing, Planned}
 
 -- ---- what is answered in a list
@@ -52,15 +51,6 @@ fetched-done {xs = xs} {lent} {p} s =
       number = rw (s.records-are, e, t, e);
       list = rw (s.records-are, e, t, e, zero-add p.count);
     }
-
--- a refused fetch leaves the list that its caller keeps
-left_lem : (lent : List EntryIndex) (a : Result (List EntryIndex)) {cause : Cause} → refuse cause ≡ and_then a (λ es. Ok (length es)) → lent ≡ lent_after lent a
-unfolding and_then lent_after
-left_lem lent (Ok es) e = absurd (cc)
-left_lem lent (Err r) e = refl
-
-pub listing-refused : {answer : Result (List EntryIndex)} {lent exits : List EntryIndex} {cause : Cause} → Fetching answer lent (Err cause) exits → (r : ByCause Listed) → IsErrAnd r (λ y. y ≡ cause) → Listing answer lent r
-listing-refused {lent = lent} f r p = let q = err_from_is_err_and r p in rw (q.1, q.2) (record { number = f.number; list = left_lem lent _ f.number })
 
 -- ---- a plan that is refused
 

@@ -1,11 +1,10 @@
 -- What a fetch asks of a group's table, and what it answers in a lent list of records.
 use Rattle.std.specs.Prelude.{List, ◌≡◌, ℕ, length}
-use Rattle.rules.specs.Causes.{by_cause, ByCause, Result, Ok, Err, and_then}
+use Rattle.rules.specs.Causes.{by_cause, ByCause, Result, Ok, and_then}
 use Rattle.rules.specs.Items.{EntryIndex}
 use Rattle.rules.specs.Table.{Table}
 use Rattle.rules.specs.TableQueries.{fetch_entries_to, fetch_entry_indexes_before, fetch_rewritten_entry_indexes}
 use Rattle.rules.specs.Queries.{answered, lent_after}
-use Rattle.records.specs.declared.Listed.{Listed}
 use Rattle.records.specs.declared.Fetch.{Fetch, TheVariants.EntriesTo, TheVariants.EntryIndexesBefore, TheVariants.RewrittenEntryIndexes}
 
 abbrev pub query_of : Fetch → Table → Result (List EntryIndex)
@@ -17,8 +16,3 @@ query_of RewrittenEntryIndexes t = Ok (fetch_rewritten_entry_indexes t)
 pub record Fetching (answer : Result (List EntryIndex)) (lent : List EntryIndex) (r : ByCause ℕ) (exits : List EntryIndex) : Type 0 where
   pub number : by_cause r ≡ and_then (answered lent answer) (λ es. Ok (length es))
   pub list : exits ≡ lent_after lent (answered lent answer)
-
--- the same of a list by value: it is given back with the answer, and kept by the caller of a refused fetch
-abbrev pub Listing : Result (List EntryIndex) → List EntryIndex → ByCause Listed → Type 0
-Listing answer lent (Ok listed) = Fetching answer lent (Ok listed.count) listed.list
-Listing answer lent (Err e) = Fetching answer lent (Err e) lent

@@ -9,7 +9,7 @@ mod rows;
 
 pub use fetching::fetch_records;
 pub use listing::fetch_listed;
-use pipe_log::EntryIndex;
+use pipe_log::{Cause, EntryIndex};
 pub use rows::{fetch_rewritten_rows, fetch_rows_before, fetch_rows_to};
 use stretch::MAX_ENTRIES;
 
@@ -38,9 +38,9 @@ pub struct Plan {
 // How many records a list by value has: as many as a group can have entries.
 pub const LISTED: usize = MAX_ENTRIES;
 
-// What a fetch into a list by value gives: the list, and the number of records from its first place on.
+// What a fetch into a list by value gives: the answer, and the list, which a refusal leaves as it was.
 #[derive(Clone, Copy)]
 pub struct Listed {
-    pub count: usize,
+    pub answer: Result<usize, Cause>,
     pub list: [EntryIndex; LISTED],
 }

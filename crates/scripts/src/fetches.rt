@@ -158,16 +158,16 @@ fn in_records(row: Row, area: &Area, want: &[u64]) -> bool
         entry_len: 0,
     };
     let list = [empty; MAX_ENTRIES];
-    let answer = records::fetch_listed(area, row.group, fetch_of(row), list);
-    if !is_told(told_count(answer.map(|listed| listed.count)), want, 0) {
+    let listed = records::fetch_listed(area, row.group, fetch_of(row), list);
+    if !is_told(told_count(listed.answer), want, 0) {
         return false;
     }
-    let Ok(listed) = answer else {
+    let Ok(count) = listed.answer else {
         return true;
     };
     listed
         .list
-        .get(..listed.count)
+        .get(..count)
         .is_some_and(|records| records_are(records, want))
 }
 
