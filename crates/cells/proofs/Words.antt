@@ -1,11 +1,11 @@
 -- The order of two runs of bytes by the numbers that their next n bytes are. Assumes nothing.
-use Prim.Native.Nat.{ℕ, zero, suc, ◌+◌, ◌*◌, ◌/◌, ◌^◌, ◌≤◌, ◌<◌}
+use Prim.Native.Nat.{ℕ, zero, suc, ◌+◌, ◌*◌, ◌/◌, ◌^◌, ◌≤◌, ◌<◌, min}
 use native.Mathlib.Nat.{add-zero, add_assoc, zero-mul, pow-suc, suc-mul, mul-le-mul_right}
 use native.Mathlib.Numerals.{add-one}
 use native.Mathlib.Omega.{arith}
 use mathlib.Core.Path.{◌≡◌, refl, sym, ◌∙◌}
 use mathlib.Core.List.{List, [], ◌∷◌}
-use lib.ListN.{length, get_or, take, drop}
+use lib.ListN.{length, get_or, take, drop, length-drop}
 use lib.Seq.{drop-cons, drop-drop}
 use Rattle.std.proofs.Common.{get_or-take, get_or-drop, lit<}
 use Rattle.std.specs.Simd.{first_chunks}
@@ -95,3 +95,24 @@ module _ (a b : List ℕ) (p : Bytes a) (q : Bytes b) where
       let vw : v ≡ word_at 8 (m * 8) a = k ∙ word_of a x (m * 8) (i ∙ (rw e (chunk_at 8 (length a / 8) a m x g))) in
       let ww : w ≡ word_at 8 (m * 8) b = l ∙ word_of b y (m * 8) (j ∙ (rw f (chunk_at 8 (length b / 8) b m y h))) in
       rw (o, vw, ww, n) (by_word 8 (m * 8) (omega arith) (omega arith))
+
+  -- a turn over the bytes from place k on: r is how the m-th ones compare
+  pub by_rest : (k m x y : ℕ) (xs ys : List ℕ) (r : Ordering)
+      → xs ≡ drop k a → ys ≡ drop k b → m < length xs → m < length ys
+      → x ≡ get_or xs m 0 → y ≡ get_or ys m 0 → r ≡ nat_cmp x y
+      → slice_cmp nat_cmp (drop (k + m) a) (drop (k + m) b) ≡ ordering_then r (slice_cmp nat_cmp (drop (k + (m + 1)) a) (drop (k + (m + 1)) b))
+  by_rest k m x y xs ys r e f g h i j l =
+      let n : k + (m + 1) ≡ k + m + 1 = omega arith in
+      let u : x ≡ get_or a (k + m) 0 = i ∙ (rw e (get_or-drop k a m 0)) in
+      let v : y ≡ get_or b (k + m) 0 = j ∙ (rw f (get_or-drop k b m 0)) in
+      rw (l, u, v, n) (by_byte (k + m) (omega (arith, rw e at g, length-drop k a)) (omega (arith, rw f at h, length-drop k b)))
+
+-- with nothing of one left, the lengths decide
+pub by_lengths : (xs ys : List ℕ) (n : ℕ) → n ≡ min (length xs) (length ys) → slice_cmp nat_cmp (drop n xs) (drop n ys) ≡ nat_cmp (length xs) (length ys)
+by_lengths [] [] zero e = refl
+by_lengths [] (y ∷ ys) zero e = nat_cmp_is _ _ Less (let m : 0 < suc (length ys) = omega arith in m)
+by_lengths (x ∷ xs) [] zero e = nat_cmp_is _ _ Greater (let m : 0 < suc (length xs) = omega arith in m)
+by_lengths (x ∷ xs) (y ∷ ys) zero e = absurd (omega (arith, e))
+by_lengths [] ys (suc n) e = absurd (omega (arith, e))
+by_lengths (x ∷ xs) [] (suc n) e = absurd (omega (arith, e))
+by_lengths (x ∷ xs) (y ∷ ys) (suc n) e = by_lengths xs ys n (omega (arith, e)) ∙ (let s : nat_cmp (length xs) (length ys) ≡ nat_cmp (suc (length xs)) (suc (length ys)) = grind (arith, nat_tests) in s)

@@ -7,7 +7,8 @@ use std::cmp::Ordering;
 // The bytes that are compared as one number. On short keys std's order of slices takes up to twice as long.
 const WORD: usize = 8;
 
-// Compares by the first byte that differs; a prefix comes first. It goes by 8 bytes as long as both have them.
+// Compares by the first byte that differs; a prefix comes first. It goes by 8 bytes as long as both have them, and
+// then by one.
 pub fn compare_u8(a: &[u8], b: &[u8]) -> Ordering
     ensures { result ≡ byte_order a.now b.now }
 {
@@ -20,5 +21,11 @@ pub fn compare_u8(a: &[u8], b: &[u8]) -> Ordering
         }
     }
     let compared = xs.len().min(ys.len()) * WORD;
-    a[compared..].cmp(&b[compared..])
+    for (v, w) in a[compared..].iter().zip(&b[compared..]) {
+        match v.cmp(w) {
+            Ordering::Equal => {}
+            other => return other,
+        }
+    }
+    a.len().cmp(&b.len())
 }

@@ -33,12 +33,16 @@ pub fn copy_rows(
         return Err(Cause::ListTooShort);
     }
     let first = head.first_index + from as u64;
+    // Four slices at a time: eight that begin at the same place of a page would push each other out of the nearest cache.
     for i in 0..count {
         let row = (from + i) * ENTRY_WIDTH;
         index[i] = first + i as u64;
         queue[i] = part[row + 1];
         seq[i] = part[row + 2];
         offset[i] = part[row + 3];
+    }
+    for i in 0..count {
+        let row = (from + i) * ENTRY_WIDTH;
         len[i] = part[row + 4];
         compression[i] = part[row + 5];
         entry_offset[i] = part[row + 6];
