@@ -49,39 +49,70 @@ pub enum Field {
     Extra,
 }
 
-// The field behind `field` in a line of this letter.
-#[tactic(auto, unfolding(crate::specs::Reading::after))]
-pub fn after(letter: Option<Letter>, field: Field) -> Field
-    ensures { result ≡ after (letter_number letter) field }
+// The field behind `field` in a line with this letter, 0 before it is read.
+#[tactic(auto, using(std::proofs::lemmas::Bool::Decides::nat_tests), unfolding(crate::specs::Reading::after))]
+pub fn after(letter: u8, field: Field) -> Field
+    ensures { result ≡ after letter field }
 {
     match (field, letter) {
-        (Field::Letter, None | Some(Letter::Merge)) => Field::Extra,
-        (Field::Letter, Some(_)) => Field::Group,
-        (Field::Group, Some(Letter::Entries)) => Field::First,
-        (Field::Group, Some(Letter::Put)) => Field::File,
-        (Field::Group, Some(Letter::Del)) => Field::Key,
-        (Field::Group, Some(Letter::Compact)) => Field::Index,
+        (Field::Letter, 0 | b'M') => Field::Extra,
+        (Field::Letter, _) => Field::Group,
+        (Field::Group, b'E') => Field::First,
+        (Field::Group, b'P') => Field::File,
+        (Field::Group, b'D') => Field::Key,
+        (Field::Group, b'C') => Field::Index,
         (Field::First, _) => Field::File,
-        (Field::File, Some(Letter::Entries)) => Field::Length,
+        (Field::File, b'E') => Field::Length,
         (Field::File, _) => Field::Key,
         (Field::Length, _) => Field::Length,
-        (Field::Key, Some(Letter::Put)) => Field::Value,
+        (Field::Key, b'P') => Field::Value,
         _ => Field::Extra,
     }
 }
 
-// Whether a line of this letter may end with `field`.
-#[tactic(auto, unfolding(crate::specs::Reading::is_last))]
-pub fn is_last(letter: Option<Letter>, field: Field) -> bool
-    ensures { result ≡ is_last field (letter_number letter) }
+// Whether a line with this letter may end with `field`.
+#[tactic(auto, using(std::proofs::lemmas::Bool::Decides::nat_tests), unfolding(crate::specs::Reading::is_last))]
+pub fn is_last(letter: u8, field: Field) -> bool
+    ensures { result ≡ is_last field letter }
 {
     matches!(
         (field, letter),
-        (Field::Letter, Some(Letter::Merge))
-            | (Field::Group, Some(Letter::Clean))
-            | (Field::Index, Some(Letter::Compact))
-            | (Field::Length, Some(Letter::Entries))
-            | (Field::Key, Some(Letter::Del))
-            | (Field::Value, Some(Letter::Put))
+        (Field::Letter, b'M')
+            | (Field::Group, b'X')
+            | (Field::Index, b'C')
+            | (Field::Length, b'E')
+            | (Field::Key, b'D')
+            | (Field::Value, b'P')
     )
+}
+
+// The byte of a letter, 0 where there is none.
+fn byte_of(letter: Option<Letter>) -> u8
+    ensures { result ≡ letter_number letter }
+{
+    match letter {
+        None => 0,
+        Some(Letter::Entries) => b'E',
+        Some(Letter::Put) => b'P',
+        Some(Letter::Del) => b'D',
+        Some(Letter::Compact) => b'C',
+        Some(Letter::Clean) => b'X',
+        Some(Letter::Merge) => b'M',
+    }
+}
+
+impl Field {
+    // The field behind this one in a line of this letter.
+    pub fn after(self, letter: Option<Letter>) -> Field
+        ensures { result ≡ after (letter_number letter) self }
+    {
+        after(byte_of(letter), self)
+    }
+
+    // Whether a line of this letter may end with this field.
+    pub fn is_last(self, letter: Option<Letter>) -> bool
+        ensures { result ≡ is_last self (letter_number letter) }
+    {
+        is_last(byte_of(letter), self)
+    }
 }

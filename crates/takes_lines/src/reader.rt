@@ -6,7 +6,7 @@ ghost use Rattle.takes_lines.specs.Views.{Started, GoesOn, Feeds, Finishes, answ
 
 use crate::add::add_to;
 use crate::close::close;
-use crate::fields::{Field, after, is_last};
+use crate::fields::Field;
 use crate::items::item_row;
 use crate::line::{Lent, Line, LineReader, Malformed, OpenLine};
 use log_batch::causes::MAX_BYTES;
@@ -51,46 +51,53 @@ pub fn start() -> LineReader
 fn next_field(mut line: OpenLine) -> OpenLine
     ensures { GoesOn line result }
 {
-    line.field = after(line.letter, line.field);
+    line.field = line.field.after(line.letter);
     line
 }
 
-// One more byte of the line.
+// One more byte of the line: what is kept of it goes into the lent rows and bytes.
 #[tactic(auto, unfolding(crate::specs::Reading::read_bytes, crate::specs::Reading::read_byte, crate::specs::Reading::add_byte, crate::specs::Reading::next_field, crate::specs::Views::read_of, crate::specs::Views::reading_of, takes_rules::specs::Fields::bind))]
-pub fn feed(reader: LineReader, b: u8, lent: &mut Lent) -> LineReader
-    ensures { Feeds reader lent.old.rows lent.old.bytes result lent.new.rows lent.new.bytes (b ∷ []) }
+pub fn feed(reader: LineReader, b: u8, rows: &mut [u64], bytes: &mut [u8]) -> LineReader
+    requires { (length rows.old ≡ 264) × (length bytes.old ≡ 66) }
+    ensures { Feeds reader rows.old bytes.old result rows.new bytes.new (b ∷ []) }
 {
     let line = reader?;
     if b == b',' {
-        return Ok(next_field(close(line, &mut lent.rows)?));
+        return Ok(next_field(close(line, rows)?));
     }
-    add_to(line, b, &mut lent.bytes)
+    add_to(line, b, bytes)
 }
 
 // More bytes of the line.
-pub fn feed_all(mut reader: LineReader, text: &[u8], lent: &mut Lent) -> LineReader
-    ensures { Feeds reader lent.old.rows lent.old.bytes result lent.new.rows lent.new.bytes text.now }
+pub fn feed_all(
+    mut reader: LineReader,
+    text: &[u8],
+    rows: &mut [u64],
+    bytes: &mut [u8],
+) -> LineReader
+    requires { (length rows.old ≡ 264) × (length bytes.old ≡ 66) }
+    ensures { Feeds reader rows.old bytes.old result rows.new bytes.new text.now }
 {
     for b in text {
-        reader = feed(reader, *b, lent);
+        reader = feed(reader, *b, rows, bytes);
     }
     reader
 }
 
-// The end of the line.
+// The end of the line, whose item goes into the lent items.
 #[tactic(auto, unfolding(crate::specs::Reading::end_line, crate::specs::Reading::whole_line, crate::specs::Reading::whole, crate::specs::Views::answer_line, crate::specs::Views::read_of, crate::specs::Views::reading_of, takes_rules::specs::Fields::bind))]
-pub fn finish(reader: LineReader, lent: &mut Lent) -> Result<Line, Malformed>
-    ensures finishes { Finishes reader lent.old.rows result lent.new.items lent.new.rows }
-    ensures same_bytes { lent.new.bytes ≡ lent.old.bytes }
+pub fn finish(reader: LineReader, items: &mut [u64], rows: &mut [u64]) -> Result<Line, Malformed>
+    requires { (length items.old ≡ 9) × (length rows.old ≡ 264) }
+    ensures { Finishes reader rows.old result items.new rows.new }
 {
-    let line = close(reader?, &mut lent.rows)?;
-    if !is_last(line.letter, line.field) {
+    let line = close(reader?, rows)?;
+    if !line.field.is_last(line.letter) {
         return Err(Malformed);
     }
     if line.field == Field::Letter {
         return Ok(Line::NextRun);
     }
-    lent.items = item_row(line);
+    items.copy_from_slice(&item_row(line));
     Ok(Line::Batch(FileId {
         queue: LogQueue::Append,
         seq: line.file,
@@ -98,9 +105,49 @@ pub fn finish(reader: LineReader, lent: &mut Lent) -> Result<Line, Malformed>
 }
 
 // A whole line, without its newline.
-pub fn read_line(text: &[u8], lent: &mut Lent) -> Result<Line, Malformed>
-    ensures { answer_line result lent.new.items lent.new.rows lent.new.bytes ≡ kept_line (line_of text.now) }
+pub fn read_line(
+    text: &[u8],
+    items: &mut [u64],
+    rows: &mut [u64],
+    bytes: &mut [u8],
+) -> Result<Line, Malformed>
+    requires { (length items.old ≡ 9) × (length rows.old ≡ 264) × (length bytes.old ≡ 66) }
+    ensures { answer_line result items.new rows.new bytes.new ≡ kept_line (line_of text.now) }
 {
-    let reader = feed_all(start(), text, lent);
-    finish(reader, lent)
+    let reader = feed_all(start(), text, rows, bytes);
+    finish(reader, items, rows)
+}
+
+// The same calls where one struct is lent.
+impl Lent {
+    // One more byte of the line.
+    pub fn feed(&mut self, reader: LineReader, b: u8) -> LineReader
+        ensures feeds { Feeds reader self.old.rows self.old.bytes result self.new.rows self.new.bytes (b ∷ []) }
+        ensures same_items { self.new.items ≡ self.old.items }
+    {
+        feed(reader, b, &mut self.rows, &mut self.bytes)
+    }
+
+    // More bytes of the line.
+    pub fn feed_all(&mut self, reader: LineReader, text: &[u8]) -> LineReader
+        ensures feeds { Feeds reader self.old.rows self.old.bytes result self.new.rows self.new.bytes text.now }
+        ensures same_items { self.new.items ≡ self.old.items }
+    {
+        feed_all(reader, text, &mut self.rows, &mut self.bytes)
+    }
+
+    // The end of the line.
+    pub fn finish(&mut self, reader: LineReader) -> Result<Line, Malformed>
+        ensures finishes { Finishes reader self.old.rows result self.new.items self.new.rows }
+        ensures same_bytes { self.new.bytes ≡ self.old.bytes }
+    {
+        finish(reader, &mut self.items, &mut self.rows)
+    }
+
+    // A whole line, without its newline.
+    pub fn read_line(&mut self, text: &[u8]) -> Result<Line, Malformed>
+        ensures { answer_line result self.new.items self.new.rows self.new.bytes ≡ kept_line (line_of text.now) }
+    {
+        read_line(text, &mut self.items, &mut self.rows, &mut self.bytes)
+    }
 }

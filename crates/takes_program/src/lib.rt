@@ -24,7 +24,8 @@ const PRINTED_MOST: usize = BLOCK * LINE_MOST;
 pub fn run<R: Read, W: Write>(input: &mut R, output: &mut W) -> io::Result<()>
     ensures { OnOk result (IfSome (R.remaining input.old) (λ bytes. Appends (W.contents output.old) (W.contents output.new) (takes bytes))) }
 {
-    let mut held = Held::new();
+    let mut held = Held::zeroed();
+    held.begin();
     let mut block = [0u8; BLOCK];
     let mut out = [0u8; PRINTED_MOST];
     for _read in 0..MOST_BLOCKS {

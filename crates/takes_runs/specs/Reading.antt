@@ -7,13 +7,18 @@ use Rattle.takes_lines.specs.Reading.{read_bytes, begin}
 use Rattle.takes_lines.specs.Views.{read_of}
 use Rattle.takes_rules.specs.Program.{totals}
 use Rattle.takes_lines.specs.Bytes.{Reached, last_line, at_end}
+use Rattle.takes_runs.specs.declared.bytes.Known.{Known}
 use Rattle.takes_runs.specs.declared.bytes.Held.{Held}
 use Rattle.takes_runs.specs.declared.runs.Runs.{Runs}
-use Rattle.takes_runs.specs.Steps.{AppendArea, Fit}
+use Rattle.takes_runs.specs.Steps.{AppendArea, runs_of, Fit}
 
 unfoldable pub has_byte : List ℕ → Bool
 has_byte [] = false
 has_byte (b ∷ bs) = true
+
+-- what the program holds where its areas and what is lent for a line are slices
+abbrev pub held_of : Known → List ℕ → List ℕ → List ℕ → List ℕ → List ℕ → List ℕ → List ℕ → Held
+held_of known items rows bytes xs bs ys cs = record { runs = runs_of xs bs ys cs; lent = record { items = items; rows = rows; bytes = bytes }; known = known }
 
 -- what the program holds stands for s
 pub record Holds (s : Reached) (h : Held) : Type 0 where
@@ -22,6 +27,12 @@ pub record Holds (s : Reached) (h : Held) : Type 0 where
   pub begun-is : h.known.begun ≡ has_byte s.text
   pub merged-is : context_of h.runs.xs h.runs.bs ≡ s.takes.merged
   pub run_is : context_of h.runs.ys h.runs.cs ≡ s.takes.run
+
+-- before the first byte, over any slices: nothing is known of a line
+pub record Begins (k : Known) : Type 0 where
+  pub no_line : k.lines ≡ 0
+  pub no_byte : k.begun ≡ false
+  pub reads : (rows bytes : List ℕ) → read_of k.reader rows bytes ≡ Some begin
 
 -- before the first byte, over any slices: nothing is known of a line, and both areas are fresh
 pub record Starts (h : Held) : Type 0 where

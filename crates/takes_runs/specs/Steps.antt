@@ -1,6 +1,6 @@
 -- What a line does to the two runs that the program holds, as areas, and what it prints.
 use Rattle.rules.specs.Causes.{number_of, Result, Ok, Err}
-use Rattle.std.specs.Prelude.{List, [], ◌++◌, ◌≡◌, ℕ, ◌≤◌, length, take}
+use Rattle.std.specs.Prelude.{List, [], ◌++◌, ◌≡◌, ℕ, ◌≤◌, length, replicate, take}
 use Rattle.pipe_log.specs.declared.FileId.{FileId}
 use Rattle.rules.specs.Items.{Append}
 use Rattle.rules.specs.Context.{context, Context}
@@ -10,6 +10,14 @@ use Rattle.takes_rules.specs.Lines.{Line, next_run, batch}
 use Rattle.takes_rules.specs.Output.{refusal_line}
 use Rattle.takes_rules.specs.Program.{take_line}
 use Rattle.takes_runs.specs.declared.runs.Runs.{Runs}
+
+-- two areas that are lent as slices
+abbrev pub runs_of : List ℕ → List ℕ → List ℕ → List ℕ → Runs
+runs_of xs bs ys cs = record { xs = xs; bs = bs; ys = ys; cs = cs }
+
+-- the lengths of the slices that are lent for a line
+abbrev pub Lends : List ℕ → List ℕ → List ℕ → Type 0
+Lends items rows bytes = (length items ≡ 9) × (length rows ≡ 264) × (length bytes ≡ 66)
 
 -- what is printed of an answer to line n
 unfoldable pub said_of : ℕ → Result (Unit {0}) → List ℕ
@@ -30,6 +38,10 @@ pub record AppendArea (xs bs : List ℕ) : Type 0 where
   pub wf : Wf xs bs
   pub kind : (context_of xs bs).kind ≡ context Append
 
+-- two areas of zeros
+abbrev pub Zeroed : Runs → Type 0
+Zeroed h = (h.xs ≡ replicate 17231 0) × (h.bs ≡ replicate 38912 0) × (h.ys ≡ replicate 17231 0) × (h.cs ≡ replicate 38912 0)
+
 -- two areas that are Append contexts
 pub record Fit (h : Runs) : Type 0 where
   pub merged-area : AppendArea h.xs h.bs
@@ -45,6 +57,11 @@ pub record TookLine (n : ℕ) (l : Line) (h : Runs) (r : ℕ) (out' : List ℕ) 
 abbrev pub ReplayedRun : FileId → List ℕ → List ℕ → List ℕ → ℕ → Runs → ℕ → List ℕ → Runs → Type 0
 ReplayedRun file items rows bytes n h r out' z =
     TookLine n (batch (batch_of file items rows bytes)) h r out' z × (z.xs ≡ h.xs) × (z.bs ≡ h.bs)
+
+-- the same whatever was merged so far
+abbrev pub ReplayedBeside : FileId → List ℕ → List ℕ → List ℕ → ℕ → List ℕ → List ℕ → ℕ → List ℕ → List ℕ → List ℕ → Type 0
+ReplayedBeside file items rows bytes n ys cs r out' ys' cs' =
+    (xs bs : List ℕ) → AppendArea xs bs → ReplayedRun file items rows bytes n (runs_of xs bs ys cs) r out' (runs_of xs bs ys' cs')
 
 -- the run that was read is merged
 abbrev pub MergedRun : ℕ → Runs → ℕ → List ℕ → Runs → Type 0

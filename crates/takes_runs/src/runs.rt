@@ -3,7 +3,7 @@ ghost use Rattle.std.specs.Prelude.{◌≤◌, length};
 ghost use Rattle.rules.specs.Items.{Append};
 ghost use Rattle.contexts.specs.Contexts.{FreshArea};
 ghost use Rattle.takes_lines.specs.Views.{answer_line};
-ghost use Rattle.takes_runs.specs.Steps.{said_of, Says, Fit, ReplayedRun, MergedRun, TookLine};
+ghost use Rattle.takes_runs.specs.Steps.{AppendArea, runs_of, said_of, Says, Zeroed, Fit, ReplayedBeside, MergedRun, TookLine};
 
 use crate::calls::{merge, replay};
 use index::{BYTES, LogBatch, NUMBERS};
@@ -20,6 +20,29 @@ pub struct Runs {
     pub cs: [u8; BYTES],
 }
 
+impl Runs {
+    // Room for both.
+    pub fn zeroed() -> Self
+        ensures { Zeroed result }
+    {
+        Runs {
+            xs: [0; NUMBERS],
+            bs: [0; BYTES],
+            ys: [0; NUMBERS],
+            cs: [0; BYTES],
+        }
+    }
+
+    // Before the first run: both are fresh.
+    pub fn begin(&mut self)
+        ensures merged { FreshArea Append self.new.xs self.new.bs }
+        ensures run { FreshArea Append self.new.ys self.new.cs }
+    {
+        index::fresh(&mut self.xs, &mut self.bs, LogQueue::Append);
+        index::fresh(&mut self.ys, &mut self.cs, LogQueue::Append);
+    }
+}
+
 // Prints the refusal of line n, if a call was refused; the answer is the number of bytes.
 fn say(answer: Result<(), Refusal>, n: u64, out: &mut [u8]) -> usize
     requires { 44 ≤ length out.old }
@@ -31,63 +54,62 @@ fn say(answer: Result<(), Refusal>, n: u64, out: &mut [u8]) -> usize
     }
 }
 
-impl Runs {
-    // Before the first run: both are fresh.
-    pub fn new() -> Self
-        ensures merged { FreshArea Append result.xs result.bs }
-        ensures run { FreshArea Append result.ys result.cs }
-    {
-        let mut runs = Runs {
-            xs: [0; NUMBERS],
-            bs: [0; BYTES],
-            ys: [0; NUMBERS],
-            cs: [0; BYTES],
-        };
-        index::fresh(&mut runs.xs, &mut runs.bs, LogQueue::Append);
-        index::fresh(&mut runs.ys, &mut runs.cs, LogQueue::Append);
-        runs
-    }
+// Replays the batch of line n into the run that is being read.
+fn replay_line(
+    ys: &mut [u64],
+    cs: &mut [u8],
+    file: FileId,
+    batch: &LogBatch,
+    n: u64,
+    out: &mut [u8],
+) -> usize
+    requires append_area { AppendArea ys.old cs.old }
+    requires in_bounds { 44 ≤ length out.old }
+    ensures { ReplayedBeside file batch.now.items.now batch.now.entries.now batch.now.bytes.now n ys.old cs.old result out.new ys.new cs.new }
+{
+    let answer = replay(ys, cs, file, batch);
+    say(answer, n, out)
+}
 
-    // Replays the batch of line n into the run that is being read.
-    fn replay_line(&mut self, file: FileId, batch: &LogBatch, n: u64, out: &mut [u8]) -> usize
-        requires fit { Fit self.old }
-        requires in_bounds { 44 ≤ length out.old }
-        ensures { ReplayedRun file batch.now.items.now batch.now.entries.now batch.now.bytes.now n self.old result out.new self.new }
-    {
-        let answer = replay(&mut self.ys, &mut self.cs, file, batch);
-        say(answer, n, out)
-    }
+// Merges the run that was read into those before it; the next run is fresh.
+pub fn merge_run(
+    xs: &mut [u64],
+    bs: &mut [u8],
+    ys: &mut [u64],
+    cs: &mut [u8],
+    n: u64,
+    out: &mut [u8],
+) -> usize
+    requires fit { Fit (runs_of xs.old bs.old ys.old cs.old) }
+    requires in_bounds { 44 ≤ length out.old }
+    ensures { MergedRun n (runs_of xs.old bs.old ys.old cs.old) result out.new (runs_of xs.new bs.new ys.new cs.new) }
+{
+    let answer = merge(xs, bs, ys, cs);
+    index::fresh(ys, cs, LogQueue::Append);
+    say(answer, n, out)
+}
 
-    // Merges the run that was read into those before it; the next run is fresh.
-    pub fn merge_run(&mut self, n: u64, out: &mut [u8]) -> usize
-        requires fit { Fit self.old }
-        requires in_bounds { 44 ≤ length out.old }
-        ensures { MergedRun n self.old result out.new self.new }
-    {
-        let answer = merge(&mut self.xs, &mut self.bs, &self.ys, &self.cs);
-        index::fresh(&mut self.ys, &mut self.cs, LogQueue::Append);
-        say(answer, n, out)
-    }
-
-    // Takes line n, which is a batch, the next run, or malformed.
-    #[tactic(auto, unfolding(takes_lines::specs::Views::answer_line))]
-    pub fn take_line(
-        &mut self,
-        line: Result<Line, Malformed>,
-        batch: &LogBatch,
-        n: u64,
-        out: &mut [u8],
-    ) -> usize
-        requires fit { Fit self.old }
-        requires in_bounds { 44 ≤ length out.old }
-        ensures { TookLine n (answer_line line batch.now.items.now batch.now.entries.now batch.now.bytes.now) self.old result out.new self.new }
-    {
-        let Ok(said) = line else {
-            return malformed_line(out, n);
-        };
-        match said {
-            Line::NextRun => self.merge_run(n, out),
-            Line::Batch(file) => self.replay_line(file, batch, n, out),
-        }
+// Takes line n, which is a batch, the next run, or malformed.
+#[tactic(auto, unfolding(takes_lines::specs::Views::answer_line))]
+pub fn take_line(
+    xs: &mut [u64],
+    bs: &mut [u8],
+    ys: &mut [u64],
+    cs: &mut [u8],
+    line: Result<Line, Malformed>,
+    batch: &LogBatch,
+    n: u64,
+    out: &mut [u8],
+) -> usize
+    requires fit { Fit (runs_of xs.old bs.old ys.old cs.old) }
+    requires in_bounds { 44 ≤ length out.old }
+    ensures { TookLine n (answer_line line batch.now.items.now batch.now.entries.now batch.now.bytes.now) (runs_of xs.old bs.old ys.old cs.old) result out.new (runs_of xs.new bs.new ys.new cs.new) }
+{
+    let Ok(said) = line else {
+        return malformed_line(out, n);
+    };
+    match said {
+        Line::NextRun => merge_run(xs, bs, ys, cs, n, out),
+        Line::Batch(file) => replay_line(ys, cs, file, batch, n, out),
     }
 }

@@ -9,7 +9,7 @@ use Rattle.takes_runs.specs.Reading.{Starts, Stepped, PrintedAll}
 abbrev pub Took : List ℕ → Held → ℕ → List ℕ → Held → Type 0
 Took b h n out z = Stepped (take_bytes b) h n out z
 
--- an input that was read and what was printed of it, by the contracts of `Held::new` and `take_block`, each on what the last call left
+-- an input that was read and what was printed of it, by the contracts of `Held::begin` and `take_block`, each on what the last call left
 pub data ReadSoFar : List ℕ → List ℕ → Held → Type 0 where
   started : (h : Held) → Starts h → ReadSoFar [] [] h
   block : {input printed : List ℕ} {h : Held} (b : List ℕ) (n : ℕ) (out : List ℕ) (z : Held) → ReadSoFar input printed h → Took b h n out z → ReadSoFar (input ++ b) (printed ++ take n out) z

@@ -6,7 +6,7 @@ use Rattle.takes_program.proofs.RunLaws.{fits, running_none, running_more, all_p
 use Rattle.takes_program.proofs.run.Goals as goal
 
 pub loop-read-init : goal.loop-read-init
-loop-read-init g c = running_none _ _ _ c.new-held.ensures
+loop-read-init g c = running_none _ _ _ c.begin.ensures
 
 pub end-printed-requires-clause-fit : goal.end-printed-requires-clause-fit
 end-printed-requires-clause-fit g c = fits c.loop-read.invariant.so_far

@@ -4,4 +4,4 @@ use Rattle.takes_lines.specs.Views.{Feeds}
 use Rattle.takes_lines.proofs.reader.feed_all.Given as goal
 
 abbrev pub invariant-loop-b : goal.invariant-loop-b
-invariant-loop-b l = Feeds l.initial.reader l.initial.lent.rows l.initial.lent.bytes l.reader l.lent.rows l.lent.bytes (take l.b-index l.text)
+invariant-loop-b l = Feeds l.initial.reader l.initial.rows l.initial.bytes l.reader l.rows l.bytes (take l.b-index l.text)

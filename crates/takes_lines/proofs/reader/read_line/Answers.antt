@@ -5,4 +5,4 @@ use Rattle.takes_lines.proofs.reader.read_line.Goals as goal
 
 pub returns : goal.returns
 returns c =
-    rw c.finish.ensures.same_bytes (line-says c.start.result c.feed_all-reader.result c.args.text.now c.args.lent.now.rows c.args.lent.now.bytes _ _ _ _ _ c.start.ensures c.feed_all-reader.ensures (omega arith) c.finish.ensures.finishes)
+    line-says c.start.result c.feed_all-reader.result c.args.text.now c.args.rows.now c.args.bytes.now _ _ _ _ _ c.start.ensures c.feed_all-reader.ensures (omega arith) c.finish.ensures
