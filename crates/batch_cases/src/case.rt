@@ -5,42 +5,52 @@ use log_batch::open::ITEM_WIDTH;
 use log_batch::{Call, LogBatch};
 use pipe_log::{ENTRY_WIDTH, Refusal};
 use std::alloc::Global;
-use text::{ReadError, line_numbers};
+use text::{ReadError, number_at};
+
+// The numbers of a case's own line, the bytes in a row of bytes, and the longest slice of a case.
+const HEAD: usize = 6;
 
 const BYTES_IN_ROW: usize = 32;
 
-// The first line of a text, which is left with what is behind the line's end.
-fn next_line<'a>(text: &mut &'a str) -> Option<&'a str>
-    ensures { OnSome result (length text.new.now < length text.old.now) }
-{
-    let (line, rest) = text.split_once('\n')?;
-    *text = rest;
-    Some(line)
-}
+const SLICE_MOST: usize = 512;
 
-// The numbers of the first line of a text.
-fn next_numbers(alloc: Global, text: &mut &str) -> Result<Vec<u64>, ReadError>
+// Passes over the first line of a text.
+fn pass_line(text: &mut &[u8]) -> Result<(), ReadError>
     ensures { OnOk result (length text.new.now < length text.old.now) }
 {
-    line_numbers(alloc, next_line(text).ok_or(ReadError::Malformed)?)
+    let end = text
+        .iter()
+        .position(|&b| b == b'\n')
+        .ok_or(ReadError::Malformed)?;
+    *text = &text[end + 1..];
+    Ok(())
 }
 
-// The first `count` numbers of a text, in rows of `width`. A row is as long as it is found to be, so no range counts the rows.
+// The byte that ends number i of `count` numbers in rows of `width`: a line end after a row, and a space within it.
+fn end_of(i: usize, count: usize, width: usize) -> u8
+    requires { (i < count) × (0 < width) }
+{
+    if i == count - 1 || i % width == width - 1 {
+        return b'\n';
+    }
+    b' '
+}
+
+// The first `count` numbers of a text, in rows of `width`.
 fn next_rows(
     alloc: Global,
-    text: &mut &str,
+    text: &mut &[u8],
     count: usize,
     width: usize,
 ) -> Result<Vec<u64>, ReadError>
+    requires { 0 < width }
     ensures { OnOk result (length text.new.now ≤ length text.old.now) }
 {
     let mut numbers = Vec::new(alloc);
-    while numbers.len() < count {
-        let row = next_numbers(alloc, text)?;
-        if row.len() != width.min(count - numbers.len()) {
-            return Err(ReadError::Malformed);
-        }
-        numbers.extend_from_slice(row.as_slice())?;
+    for i in 0..count {
+        let (number, rest) = number_at(text, end_of(i, count, width)).ok_or(ReadError::Malformed)?;
+        numbers.push(number)?;
+        *text = rest;
     }
     Ok(numbers)
 }
@@ -65,14 +75,17 @@ fn is_expected(answer: Result<(), Refusal>, expected: u64, at: u64) -> bool {
 }
 
 // Whether the first case of a text has the answer that is expected. The text is left with the cases behind it.
-pub fn run(alloc: Global, text: &mut &str) -> Result<bool, ReadError>
+pub fn run(alloc: Global, text: &mut &[u8]) -> Result<bool, ReadError>
     ensures { OnOk result (length text.new.now < length text.old.now) }
 {
-    let _name = next_line(text).ok_or(ReadError::Malformed)?;
-    let head = next_numbers(alloc, text)?;
+    pass_line(text)?;
+    let head = next_rows(alloc, text, HEAD, HEAD)?;
     let [call, expected, at, items, entries, bytes] = head.as_slice() else {
         return Err(ReadError::Malformed);
     };
+    if SLICE_MOST < (*items).max(*entries).max(*bytes) as usize {
+        return Err(ReadError::Malformed);
+    }
     let items = next_rows(alloc, text, *items as usize, ITEM_WIDTH)?;
     let entries = next_rows(alloc, text, *entries as usize, ENTRY_WIDTH)?;
     let bytes = next_rows(alloc, text, *bytes as usize, BYTES_IN_ROW)?;

@@ -5,10 +5,13 @@ mod case;
 
 use std::fs::File;
 use std::io;
-use text::ReadError;
+use text::{ReadError, read_below};
+
+// A file of so many bytes has too many cases.
+const BYTES_MOST: usize = 65536;
 
 // Compares the cases one after another. A case takes as many lines as its head says, so no iterator gives them.
-fn compare_all(rt: &(impl AllocGlobal + Print), mut text: &str) -> io::Result<()> {
+fn compare_all(rt: &(impl AllocGlobal + Print), mut text: &[u8]) -> io::Result<()> {
     let mut cases: u64 = 0;
     let mut differ: u64 = 0;
     while !text.is_empty() {
@@ -29,9 +32,11 @@ fn compare_all(rt: &(impl AllocGlobal + Print), mut text: &str) -> io::Result<()
 }
 
 fn main(rt: HostRuntime) -> io::Result<()> {
-    let Ok(file) = File::open(&rt, "cases.txt") else {
+    let Ok(mut file) = File::open(&rt, "cases.txt") else {
         return rt.println("checks: no file of cases");
     };
-    let text = io::read_to_string(rt.alloc(), file)?;
-    compare_all(&rt, text.as_str())
+    let Some(text) = read_below(rt.alloc(), &mut file, BYTES_MOST)? else {
+        return rt.println("checks: too many cases");
+    };
+    compare_all(&rt, text.as_slice())
 }

@@ -6,10 +6,14 @@ ghost use Rattle.contexts.specs.Contexts.{area_numbers, area_bytes};
 
 use script_areas::{ALL_BYTES, ALL_NUMBERS};
 use scripts::HEAD;
+use std::alloc::Global;
 use std::fs::File;
 use std::io;
 use std::rt::Files;
-use text::ReadError;
+use text::{ReadError, add_numbers, read_all, read_below};
+
+// A file of so many bytes is too long.
+const BYTES_MOST: usize = 262144;
 
 const FILES: [&str; 9] = [
     "bench_1.txt",
@@ -22,6 +26,32 @@ const FILES: [&str; 9] = [
     "index_3.txt",
     "index_4.txt",
 ];
+
+// The numbers of a text as `text::read_all` reads them, and of one that it refuses where a # in place of a number ends a line early, or a
+// space the last line. Bytes that are no UTF-8 stand in no number.
+fn read_numbers(alloc: Global, text: &[u8]) -> Result<Vec<u64>, ReadError> {
+    match read_all(alloc, text) {
+        Err(ReadError::Malformed) => {
+            read_marked(alloc, String::from_utf8_lossy(alloc, text)?.as_str())
+        }
+        answer => answer,
+    }
+}
+
+// The numbers of a text whose lines a # ends early, or a space the last one.
+fn read_marked(alloc: Global, text: &str) -> Result<Vec<u64>, ReadError> {
+    let mut numbers = Vec::new(alloc);
+    for line in text.split_inclusive('\n') {
+        let told = match line.strip_suffix('\n') {
+            Some(ended) => ended.split_once(" #").map_or(ended, |(front, _)| front),
+            None => line.strip_suffix(' ').ok_or(ReadError::Malformed)?,
+        };
+        if !told.starts_with('#') || !line.ends_with('\n') {
+            add_numbers(told, &mut numbers)?;
+        }
+    }
+    Ok(numbers)
+}
 
 // The first call of some numbers, whose first number says how many it has, and the numbers behind it; `None` where it is malformed.
 fn split_call(numbers: &[u64]) -> Option<(&[u64], &[u64])>
@@ -63,30 +93,43 @@ fn compare_all(
 }
 
 // Compares the calls of a file.
-fn compare_file(rt: &(impl AllocGlobal + Files + Print), name: &str) -> io::Result<()> {
-    let Ok(file) = File::open(rt, name) else {
+fn compare_file(
+    rt: &(impl AllocGlobal + Files + Print),
+    name: &str,
+    xs: &mut [u64],
+    bs: &mut [u8],
+) -> io::Result<()>
+    requires { (length xs.old ≡ 8 * area_numbers) × (length bs.old ≡ 8 * area_bytes) }
+{
+    let Ok(mut file) = File::open(rt, name) else {
         return println!(rt; "{name}: no such file");
     };
-    let text = io::read_to_string(rt.alloc(), file)?;
-    let numbers = match text::read_all(rt.alloc(), text.as_str()) {
-        Ok(numbers) => numbers,
-        Err(ReadError::Malformed) => return println!(rt; "{name}: malformed"),
-        Err(ReadError::Memory(error)) => return Err(error.into()),
+    let Some(text) = read_below(rt.alloc(), &mut file, BYTES_MOST)? else {
+        return println!(rt; "{name}: too long");
     };
-    let mut xs = vec![in rt.alloc(); 0; ALL_NUMBERS]?;
-    let mut bs = vec![in rt.alloc(); 0; ALL_BYTES]?;
-    compare_all(
-        rt,
-        name,
-        numbers.as_slice(),
-        xs.as_mut_slice(),
-        bs.as_mut_slice(),
-    )
+    match read_numbers(rt.alloc(), text.as_slice()) {
+        Ok(numbers) => compare_all(rt, name, numbers.as_slice(), xs, bs),
+        Err(ReadError::Malformed) => println!(rt; "{name}: malformed"),
+        Err(ReadError::Memory(error)) => Err(error.into()),
+    }
+}
+
+// Compares the calls of the files, one after another on the same areas.
+fn compare_files(
+    rt: &(impl AllocGlobal + Files + Print),
+    xs: &mut [u64],
+    bs: &mut [u8],
+) -> io::Result<()>
+    requires { (length xs.old ≡ 8 * area_numbers) × (length bs.old ≡ 8 * area_bytes) }
+{
+    for name in FILES {
+        compare_file(rt, name, xs, bs)?;
+    }
+    Ok(())
 }
 
 fn main(rt: HostRuntime) -> io::Result<()> {
-    for name in FILES {
-        compare_file(&rt, name)?;
-    }
-    Ok(())
+    let mut xs = vec![in rt.alloc(); 0; ALL_NUMBERS]?;
+    let mut bs = vec![in rt.alloc(); 0; ALL_BYTES]?;
+    compare_files(&rt, xs.as_mut_slice(), bs.as_mut_slice())
 }

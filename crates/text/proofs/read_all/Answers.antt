@@ -20,13 +20,13 @@ ended (b ∷ bs) lines e = ap (slice_split (λ c. eqb c 10)) (sym (without-end b
 pub returns : goal.returns
 returns c =
     let pieces = YieldsList-at c.into_iter-line-iterator.ensures.into_iter_gives (YieldsList-from_str_split 10 c.in_ok-lines.lines.now (lit< tt) c.split-line-items.ensures.text c.split-line-items.ensures.has_more c.split-line-items.ensures.pattern) in
-    let suffix = strip_suffix_char 10 c.args.text.now c.strip_suffix.result c.strip_suffix.ensures.cases (lit< tt) in
-    let all = (YieldsList-end pieces c.loop-line.yielded _ c.loop-line.yielded_by _ _ c.in-None.is c.next.ensures.steps).0 ∙ ended c.args.text.now c.in_ok-lines.lines.now (rw c.in_ok-lines.ensures.ok_part at suffix) in
+    let suffix = strip_suffix_char 10 c.in-Ok.told.now c.strip_suffix.result c.strip_suffix.ensures.cases (lit< tt) in
+    let all = (YieldsList-end pieces c.loop-line.yielded _ c.loop-line.yielded_by _ _ c.in-None.is c.next.ensures.steps).0 ∙ ended c.in-Ok.told.now c.in_ok-lines.lines.now (rw c.in_ok-lines.ensures.ok_part at suffix) ∙ ap lines_of c.in-Ok.ensures.cases.0 in
     record { lines = subst (All IsWellFormed) all c.loop-line.invariant.lines; numbers = c.loop-line.invariant.numbers ∙ ap (flat_map numbers_told) all }
 
-pub loop-line-preserved-then-not-starts_with : goal.loop-line-preserved-then-not-starts_with
-loop-line-preserved-then-not-starts_with c = record {
-  lines = rw map_push (All-push IsWellFormed _ _ c.loop-line.invariant.lines (λ _. c.in_ok-line_numbers.ensures.words));
+pub loop-line-preserved-in-Continue-branch-2 : goal.loop-line-preserved-in-Continue-branch-2
+loop-line-preserved-in-Continue-branch-2 c = record {
+  lines = rw map_push (All-push IsWellFormed _ _ c.loop-line.invariant.lines (λ _. c.in_ok-add_numbers.ensures.words));
   numbers = grind (arith, common_steps);
 }
 

@@ -1,16 +1,28 @@
--- The line's end and its space part it.
-use Rattle.std.proofs.Common.{Some, ◌∙◌, lit<, append_assoc}
-use Rattle.std.proofs.lemmas.Str.Pattern.{split_parts, strip_suffix_char}
+-- The line is the two numbers with the bytes that end them.
+use Rattle.std.proofs.Common.{◌≡◌, ◌<◌, ◌++◌, ◌∷◌, [], List, ℕ, length, ap, ◌∙◌, refl, arith, length-append}
+use Rattle.std.proofs.lemmas.Grind.{common_steps}
 use Rattle.hash_vectors.proofs.vector.numbers.Goals as goal
+
+behind : (output rest : List ℕ) → output ++ (10 ∷ rest) ≡ (output ++ (10 ∷ [])) ++ rest
+behind [] rest = refl
+behind (b ∷ bs) rest = ap (λ l. b ∷ l) (behind bs rest)
+
+joined : (input output rest : List ℕ) → input ++ (32 ∷ (output ++ (10 ∷ rest))) ≡ (input ++ (32 ∷ (output ++ (10 ∷ [])))) ++ rest
+joined [] output rest = ap (λ l. 32 ∷ l) (behind output rest)
+joined (b ∷ bs) output rest = ap (λ l. b ∷ l) (joined bs output rest)
+
+shorter : (input output rest : List ℕ) → length rest < length (input ++ (32 ∷ (output ++ (10 ∷ rest))))
+shorter input output rest = grind (arith, common_steps)
 
 pub returns : goal.returns
 returns c =
-    let suffix = strip_suffix_char 10 c.args.line.now (Some c.in_ok-strip_suffix.field-0) c.in_ok-strip_suffix.ensures.cases (lit< tt) in
-    let parts = split_parts 32 c.in_ok-strip_suffix.field-0.now (Some (c.in_ok-input.input, c.in_ok-input.output)) c.in_ok-input.ensures.cases (lit< tt) in
+    let input = c.in_ok-input.ensures in
+    let output = c.in_ok-output.ensures in
     record {
-      input = c.in_ok-input.input.now;
-      output = c.in_ok-input.output.now;
-      line_is = suffix ∙ rw (parts.0, append_assoc);
-      input_is = c.in_ok-number.ensures;
-      output_is = c.in_ok-number-2.ensures;
+      vector = (
+        input.word ++ (32 ∷ (output.word ++ (10 ∷ []))),
+        input.parts ∙ ap (λ l. input.word ++ (32 ∷ l)) output.parts ∙ joined input.word output.word c.in_ok-output.rest.now,
+        record { input = input.word; output = output.word; line_is = refl; input_is = input.number; output_is = output.number },
+      );
+      shorter = rw (input.parts, output.parts) (shorter input.word output.word c.in_ok-output.rest.now);
     }
