@@ -21,6 +21,7 @@ fn least_of(a: usize, b: usize, c: usize, d: usize, e: usize, f: usize, g: usize
 }
 
 // Answers a range of a head's entries in the slices, each cut to the length of the shortest, if they have room.
+#[inline(always)]
 pub fn answer_rows(
     head: Head,
     rows: &[u64],

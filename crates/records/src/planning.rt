@@ -29,7 +29,9 @@ fn range_of(head: Head, rows: &[u64], fetch: Fetch) -> Result<RowRange, Cause>
 }
 
 // The plan for a fetch of a group's records into a list with room for so many, or its refusal. It takes the slices, since its contract
-// speaks of rows of the numbers, and a clause sees of an `Area` the context alone.
+// speaks of rows of the numbers, and a clause sees of an `Area` the context alone. LLVM takes this into its callers, so that no plan or
+// refusal goes through memory.
+#[inline(always)]
 pub fn plan(xs: &[u64], bs: &[u8], group: u64, fetch: Fetch, room: usize) -> Result<Plan, Cause>
     requires { Wf xs.now bs.now }
     ensures { Planned (in_group group (query_of fetch) (context_of xs.now bs.now)) xs.now room result }

@@ -44,7 +44,8 @@ fn fill_rows(xs: &[u64], plan: Plan, out: &mut [u64])
     }
 }
 
-// Fetches a group's records into a lent list of rows.
+// Fetches a group's records into a lent list of rows. LLVM takes this into each of the calls, which knows what it fetches.
+#[inline(always)]
 fn fetch_rows(area: &Area, group: u64, fetch: Fetch, out: &mut [u64]) -> Result<usize, Cause>
     ensures { RowsFetched (in_group group (query_of fetch) area.now) out.old result out.new }
 {
