@@ -113,3 +113,74 @@ pub fn take_line(
         Line::Batch(file) => replay_line(ys, cs, file, batch, n, out),
     }
 }
+
+// The same calls where one struct holds the areas.
+impl Runs {
+    // Merges the run that was read into those before it; the next run is fresh.
+    pub fn merge_run(&mut self, n: u64, out: &mut [u8]) -> usize
+        requires fit { Fit self.old }
+        requires in_bounds { 44 ≤ length out.old }
+        ensures { MergedRun n self.old result out.new self.new }
+    {
+        merge_run(
+            &mut self.xs,
+            &mut self.bs,
+            &mut self.ys,
+            &mut self.cs,
+            n,
+            out,
+        )
+    }
+
+    // Takes line n, which is a batch, the next run, or malformed.
+    pub fn take_line(
+        &mut self,
+        line: Result<Line, Malformed>,
+        batch: &LogBatch,
+        n: u64,
+        out: &mut [u8],
+    ) -> usize
+        requires fit { Fit self.old }
+        requires in_bounds { 44 ≤ length out.old }
+        ensures { TookLine n (answer_line line batch.now.items.now batch.now.entries.now batch.now.bytes.now) self.old result out.new self.new }
+    {
+        take_line(
+            &mut self.xs,
+            &mut self.bs,
+            &mut self.ys,
+            &mut self.cs,
+            line,
+            batch,
+            n,
+            out,
+        )
+    }
+}
+
+#[cfg(test)]
+mod tests {
+    use super::*;
+    use crate::totals::{TOTALS_MOST, totals};
+    use takes_lines::Lent;
+
+    // A line of document 01's example, a malformed one, and the end of the run, with what the program prints for them.
+    #[test]
+    fn lines_are_taken(rt: HostRuntime) {
+        let mut runs = Runs::zeroed();
+        runs.begin();
+        let mut lent = Lent::new();
+        let line = lent.read_line(b"E,7,1,1,10,10,10");
+        let batch = LogBatch {
+            items: &lent.items,
+            entries: &lent.rows,
+            bytes: &lent.bytes,
+        };
+        let mut out = [0u8; TOTALS_MOST];
+        assert_eq!(rt; runs.take_line(line, &batch, 1, &mut out), 0);
+        let printed = runs.take_line(Err(Malformed), &batch, 2, &mut out);
+        assert!(rt; &out[..printed] == b"B,2\n".as_slice());
+        assert_eq!(rt; runs.merge_run(2, &mut out), 0);
+        let printed = totals(&runs.xs, &runs.bs, &mut out);
+        assert!(rt; &out[..printed] == b"G,7,1,3,0\nL,3,0\n".as_slice());
+    }
+}
