@@ -166,9 +166,13 @@ joined-status old (suc zero) h = refl
 joined-status old (suc (suc m)) h = rw (ne_eqb (suc (suc m)) 1 (λ z. omega arith))
 
 -- the newest part of head h among ts with the part joined to it
-joined_is : (h : List ℕ) (ts : List Tagged) (new : PartHead) (its : List rules.LogItem) → 1 ≤ new.status → joined_part (newest h ts) (part_with new its) ≡ record { status = status_of (joined_number (get_or h 3 0) new.status); items = items_with (newest_tag h) ts ++ its; start = get_or h 4 0; end = new.end }
+joined_is : (h : List ℕ) (ts : List Tagged) (new : PartHead) (its : List rules.LogItem) → joined_part (newest h ts) (part_with new its) ≡ record { status = joined_status (status_of (get_or h 3 0)) (status_of new.status); items = items_with (newest_tag h) ts ++ its; start = get_or h 4 0; end = new.end }
 unfolding joined_part newest
-joined_is h ts new its e i = record { status = joined-status (get_or h 3 0) new.status e i; items = items_with (newest_tag h) ts ++ its; start = get_or h 4 0; end = new.end }
+joined_is h ts new its = refl
+
+-- the same by the number of its status
+joined_by_number : (h : List ℕ) (ts : List Tagged) (new : PartHead) (its : List rules.LogItem) → 1 ≤ new.status → joined_part (newest h ts) (part_with new its) ≡ record { status = status_of (joined_number (get_or h 3 0) new.status); items = items_with (newest_tag h) ts ++ its; start = get_or h 4 0; end = new.end }
+joined_by_number h ts new its e = rw (joined_is h ts new its, joined-status (get_or h 3 0) new.status e)
 
 joined-begins : (old st : ℕ) → old ≡ 0 → (old ≡ 0 → st ≡ 1) → joined_number old st ≡ 0
 unfolding joined_number
@@ -262,7 +266,7 @@ module _ (s : Store) (r : Room) (w : Wf s r) (g k : ℕ) (hd : PartHead) (its : 
         let here = a.0.here in
         let again = renewed_head (joined_number (get_or head 3 0) hd.status) (get_or head 4 0) hd.end head in
         let o' = rw (e.0, e.1) at o in
-        rw (parts_here s r w g k in_Cell here, joined_is head (items_in s r) hd its m.0)
+        rw (parts_here s r w g k in_Cell here, joined_by_number head (items_in s r) hd its m.0)
         (renewed_here s r w g k in_Cell here (joined_number (get_or head 3 0) hd.status) (get_or head 4 0) hd.end (items_with (newest_tag head) (items_in s r) ++ its) u p
         (retagged-more k again (newest_tag head) its s r u p w o')
         (λ two. joined-begins (get_or head 3 0) hd.status (two-parts k head (items_in s r) two (w.cells k in_Cell)).begins m.1))

@@ -13,7 +13,7 @@ use Rattle.cells.specs.PartLaws.{get_or-part, loan-put}
 use Rattle.maps.specs.Lists.{every}
 use Rattle.maps.specs.MapLaws.{pair}
 use Rattle.rules.specs.Causes.{Cause, ByCause, Ok, Err, Result}
-use Rattle.rules.specs.Items.{LogItem, placed_from}
+use Rattle.rules.specs.Items.{LogItem, placed_from, status_of}
 use Rattle.rules.specs.Checks.{Mark}
 use Rattle.rules.specs.Context.{Part, Context}
 use Rattle.rules.specs.Waiting.{replay_marked}
@@ -97,8 +97,8 @@ module _ (m : Mark) (seq : ℕ) (its : List LogItem) (xs bs : List ℕ) (w : For
 
 -- ---- the part of a batch that comes
 
--- its head, by the byte of the mark and the file
-pub part-from : (st byte seq : ℕ) (its : List LogItem) → st ≡ byte → part_with (record { status = st; start = seq; end = seq }) its ≡ part_for byte seq its
+-- its head, by the byte of the mark and the file; numbers of one status make one part
+pub part-from : (st byte seq : ℕ) (its : List LogItem) → status_of st ≡ status_of byte → part_with (record { status = st; start = seq; end = seq }) its ≡ part_for byte seq its
 unfolding part_for
 part-from st byte seq its e = rw e
 
